@@ -38,7 +38,8 @@ pub(crate) fn warn_of_addresses<M: Memory>(
     warnings: &mut Vec<Warning, M>,
     addresses: &[Addr],
 ) -> Result<(), AllocError>
-    ensures added { AddsAtAddresses result warnings.old warnings.new addresses.now (of_nodes addresses.now) }
+    ensures added { AddsAtAddresses result warnings.old warnings.new addresses.now
+        (of_nodes addresses.now) }
     ensures memory { OnErr result M.may_refuse }
 {
     for node in 0..addresses.len() {
@@ -52,7 +53,8 @@ fn warn_of_address<M: Memory>(
     addresses: &[Addr],
     node: usize,
 ) -> Result<(), AllocError>
-    ensures added { AddsAtAddresses result warnings.old warnings.new addresses.now (of_node (length addresses.now) node) }
+    ensures added { AddsAtAddresses result warnings.old warnings.new addresses.now
+        (of_node (length addresses.now) node) }
     ensures memory { OnErr result M.may_refuse }
 {
     let first = first_like(addresses, node);

@@ -23,8 +23,10 @@ pub fn warnings<M: Memory + Copy, A: Allocator>(
     alloc: M,
     config: &Config<A>,
 ) -> Result<Vec<Warning, M>, AllocError>
-    ensures order { IfOk result (λ given. AreThose (IsWarned config.now) (of_all config.now) given.items) }
-    ensures exact { IfOk result (λ given. (w : Warning) → Contains given.items w ↔ IsWarned config.now w) }
+    ensures order { IfOk result
+        (λ given. AreThose (IsWarned config.now) (of_all config.now) given.items) }
+    ensures exact { IfOk result (λ given. (w : Warning) → Contains given.items w
+        ↔ IsWarned config.now w) }
     ensures memory { OnErr result M.may_refuse }
 {
     let mut warnings = Vec::new(alloc);

@@ -21,7 +21,8 @@ pub(crate) fn warn_of_prefixes<M: Memory, A: Allocator>(
     config: &Config<A>,
     site: usize,
 ) -> Result<(), AllocError>
-    ensures added { AddsWarned result warnings.old warnings.new config.now (of_prefixes (length config.now.sites) site (slice_get config.now.sites site)) }
+    ensures added { AddsWarned result warnings.old warnings.new config.now
+        (of_prefixes (length config.now.sites) site (slice_get config.now.sites site)) }
     ensures memory { OnErr result M.may_refuse }
 {
     let Some(entry) = site_at(config, site) else {
@@ -39,7 +40,8 @@ fn warn_of_prefix<M: Memory, A: Allocator>(
     site: usize,
     prefix: usize,
 ) -> Result<(), AllocError>
-    ensures added { AddsWarned result warnings.old warnings.new config.now (of_prefix (length config.now.sites) site prefix) }
+    ensures added { AddsWarned result warnings.old warnings.new config.now
+        (of_prefix (length config.now.sites) site prefix) }
     ensures memory { OnErr result M.may_refuse }
 {
     let first = first_with_that(config, site, prefix);
@@ -62,7 +64,8 @@ fn warn_of_around<M: Memory, A: Allocator>(
     site: usize,
     prefix: usize,
 ) -> Result<(), AllocError>
-    ensures added { AddsWarned result warnings.old warnings.new config.now (of_around (length config.now.sites) site prefix) }
+    ensures added { AddsWarned result warnings.old warnings.new config.now
+        (of_around (length config.now.sites) site prefix) }
     ensures memory { OnErr result M.may_refuse }
 {
     warn_inside(

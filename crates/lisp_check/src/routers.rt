@@ -35,7 +35,8 @@ fn warn_of_router<M: Memory, A: Allocator>(
     config: &Config<A>,
     router: usize,
 ) -> Result<(), AllocError>
-    ensures added { AddsWarned result warnings.old warnings.new config.now (of_router config.now.routers router) }
+    ensures added { AddsWarned result warnings.old warnings.new config.now
+        (of_router config.now.routers router) }
     ensures memory { OnErr result M.may_refuse }
 {
     let first = first_like(config, router);
@@ -55,7 +56,8 @@ fn warn_of_sharing<M: Memory, A: Allocator>(
     config: &Config<A>,
     router: usize,
 ) -> Result<(), AllocError>
-    ensures added { AddsWarned result warnings.old warnings.new config.now (of_sharing (length config.now.routers) router) }
+    ensures added { AddsWarned result warnings.old warnings.new config.now
+        (of_sharing (length config.now.routers) router) }
     ensures memory { OnErr result M.may_refuse }
 {
     let first = first_sharer(config, router);
@@ -138,7 +140,8 @@ fn warn_of_records<M: Memory, A: Allocator>(
     config: &Config<A>,
     router: usize,
 ) -> Result<(), AllocError>
-    ensures added { AddsWarned result warnings.old warnings.new config.now (of_records router (slice_get config.now.routers router)) }
+    ensures added { AddsWarned result warnings.old warnings.new config.now
+        (of_records router (slice_get config.now.routers router)) }
     ensures memory { OnErr result M.may_refuse }
 {
     let Some(entry) = router_at(config, router) else {
@@ -183,7 +186,8 @@ fn warn_of_servers<M: Memory, A: Allocator>(
     config: &Config<A>,
     router: usize,
 ) -> Result<(), AllocError>
-    ensures added { AddsWarned result warnings.old warnings.new config.now (of_servers router (slice_get config.now.routers router)) }
+    ensures added { AddsWarned result warnings.old warnings.new config.now
+        (of_servers router (slice_get config.now.routers router)) }
     ensures memory { OnErr result M.may_refuse }
 {
     let Some(entry) = router_at(config, router) else {

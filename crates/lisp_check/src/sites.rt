@@ -32,7 +32,8 @@ fn warn_of_site<M: Memory, A: Allocator>(
     config: &Config<A>,
     site: usize,
 ) -> Result<(), AllocError>
-    ensures added { AddsWarned result warnings.old warnings.new config.now (of_site config.now.sites site) }
+    ensures added { AddsWarned result warnings.old warnings.new config.now
+        (of_site config.now.sites site) }
     ensures memory { OnErr result M.may_refuse }
 {
     warn_if(

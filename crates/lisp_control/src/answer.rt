@@ -32,7 +32,8 @@ pub(crate) fn router_text(
     now: u64,
 ) -> Result<String, AllocError>
     ensures told { IfOk result (λ text. AnswersRouter config.now number
-        (option_map (λ etr. etr.now) core.entry) statistics.now question.now now (string_bytes text)) }
+        (option_map (λ etr. etr.now) core.entry) statistics.now question.now now
+        (string_bytes text)) }
     ensures memory { OnErr result ⟦<Global as Memory>⟧.may_refuse }
 {
     match (question, core) {
@@ -62,7 +63,8 @@ fn router_counts(
     format: Format,
 ) -> Result<String, AllocError>
     ensures told { IfOk result (λ text. string_bytes text ≡
-        router_counts config.now number (option_map (λ etr. etr.now) core.entry) statistics.now format) }
+        router_counts config.now number
+        (option_map (λ etr. etr.now) core.entry) statistics.now format) }
     ensures memory { OnErr result ⟦<Global as Memory>⟧.may_refuse }
 {
     let save = gauge(Figure::LongestSave, statistics.longest_save());

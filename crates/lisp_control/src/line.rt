@@ -30,7 +30,8 @@ pub fn question_in(
     name: &str,
     line: &str,
 ) -> Result<Question, ScriptWhat>
-    ensures { Gives ⟦<Global as Memory>⟧.may_refuse (λ question. question) result (question_in config.now number name.now line.now) }
+    ensures { Gives ⟦<Global as Memory>⟧.may_refuse (λ question. question) result
+        (question_in config.now number name.now line.now) }
 {
     match own_question(line) {
         Some(question) => Ok(question),
@@ -122,7 +123,9 @@ fn parted(line: &str) -> (&str, &str)
 
 // The commands of a script.
 fn commands_in(alloc: Global, config: &Config, text: &str) -> Result<Vec<Command>, ScriptWhat>
-    ensures { Gives ⟦<Global as Memory>⟧.may_refuse (λ commands. map command_value commands.items) result (what_of (script_of config.now text.now)) }
+    ensures { Gives ⟦<Global as Memory>⟧.may_refuse
+        (λ commands. map command_value commands.items) result
+        (what_of (script_of config.now text.now)) }
 {
     match parse_script(alloc, config, text) {
         Ok(commands) => Ok(commands),

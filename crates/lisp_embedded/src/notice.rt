@@ -37,7 +37,8 @@ pub fn notify_kept<A: Memory + Copy>(
     now: u64,
 ) -> Result<HostedNotice<A>, NoticeFault>
     requires { now ≤ max_moment }
-    ensures announces { IfOk result (λ n. AnnouncesKept kept server.old server.new router.now now n) }
+    ensures announces { IfOk result
+        (λ n. AnnouncesKept kept server.old server.new router.now now n) }
     ensures refused { IfErr result (RefusesKeptNotice kept server.old router.now now) }
     ensures err { OnErr result (server.new ≡ server.old) }
     ensures memory { IsErrOf result NoticeFault.OutOfMemory → A.may_refuse }

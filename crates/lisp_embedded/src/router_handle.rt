@@ -58,7 +58,8 @@ impl RouterHandle {
     /// The router that was held, where there was one. Nothing is held from then on. Takes no memory.
     pub fn take(&mut self, alloc: Global) -> Option<Box<HostedRouter, Global>>
         ensures left { self.new.value ≡ None }
-        ensures value { MatchOption result (self.old.value ≡ None) (λ whole. self.old.value ≡ Some whole.value) }
+        ensures value { MatchOption result (self.old.value ≡ None)
+            (λ whole. self.old.value ≡ Some whole.value) }
     {
         std::mem::replace(self, RouterHandle::none(alloc)).into_box()
     }

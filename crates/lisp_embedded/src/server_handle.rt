@@ -59,7 +59,8 @@ impl ServerHandle {
     /// The Map-Server that was held, where there was one. Nothing is held from then on. Takes no memory.
     pub fn take(&mut self, alloc: Global) -> Option<Box<HostedServer, Global>>
         ensures left { self.new.value ≡ None }
-        ensures value { MatchOption result (self.old.value ≡ None) (λ whole. self.old.value ≡ Some whole.value) }
+        ensures value { MatchOption result (self.old.value ≡ None)
+            (λ whole. self.old.value ≡ Some whole.value) }
     {
         std::mem::replace(self, ServerHandle::none(alloc)).into_box()
     }

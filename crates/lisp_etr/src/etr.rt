@@ -149,7 +149,8 @@ impl<A: Memory + Copy> Etr<A> {
         // Loading changes no list, and the key that it has isn't asked for.
         ensures same { KeepsListsIfHonest (S.seen store.old) (S.seen store.new) }
         ensures unasked { key_id ≡ self.old.config.key_id → S.seen store.new ≡ S.seen store.old }
-        ensures store_memory { IfErr result (λ refused. IsOfFullStoreToRotate refused → S.may_refuse) }
+        ensures store_memory { IfErr result (λ refused. IsOfFullStoreToRotate refused
+            → S.may_refuse) }
         ensures refused { IfErr result (SameIfFullToRotate (S.seen store.old) (S.seen store.new)) }
         ensures loads { OnOk result (MayLoad (S.seen store.old)) }
         ensures load_fails { IfErr result (FailsToRotateAsArmed (S.seen store.old)) }

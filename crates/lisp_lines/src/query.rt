@@ -74,7 +74,8 @@ pub fn put_acks<A: Memory, E: Allocator>(
     counted: &[Option<(u8, u64)>],
 ) -> Result<(), AllocError>
     ensures text { Adds result text.old text.new (ack_text config.now router server counted.now) }
-    ensures front { AddsFront result text.old text.new (ack_text config.now router server counted.now) }
+    ensures front { AddsFront result text.old text.new
+        (ack_text config.now router server counted.now) }
     ensures memory { OnErr result A.may_refuse }
 {
     for (part, pair) in counted.iter().enumerate() {
@@ -93,8 +94,10 @@ fn put_ack<A: Memory, E: Allocator>(
     part: usize,
     counted: Option<(u8, u64)>,
 ) -> Result<(), AllocError>
-    ensures text { Adds result text.old text.new (ack_of_part config.now router server part counted) }
-    ensures front { AddsFront result text.old text.new (ack_of_part config.now router server part counted) }
+    ensures text { Adds result text.old text.new
+        (ack_of_part config.now router server part counted) }
+    ensures front { AddsFront result text.old text.new
+        (ack_of_part config.now router server part counted) }
     ensures memory { OnErr result A.may_refuse }
 {
     if part == 0 || counted.is_some() {
@@ -114,7 +117,8 @@ fn put_ack_line<A: Memory, E: Allocator>(
     counted: Option<(u8, u64)>,
 ) -> Result<(), AllocError>
     ensures text { Adds result text.old text.new (ack_line config.now router server part counted) }
-    ensures front { AddsFront result text.old text.new (ack_line config.now router server part counted) }
+    ensures front { AddsFront result text.old text.new
+        (ack_line config.now router server part counted) }
     ensures memory { OnErr result A.may_refuse }
 {
     let (router, server) = (node_name(config, router), node_name(config, server));
@@ -242,7 +246,8 @@ fn due_part_text<A: Memory>(
     part: usize,
 ) -> Result<String<A>, AllocError>
     ensures text { GivesText result
-        (codes "due " ++ pair_text router.now (server.now ++ codes " part " ++ decimal part) ++ 10 ∷ []) }
+        (codes "due " ++ pair_text router.now
+        (server.now ++ codes " part " ++ decimal part) ++ 10 ∷ []) }
     ensures memory { OnErr result A.may_refuse }
 {
     String::try_format(alloc, format_args!("due {router} {server} part {part}\n"))

@@ -33,7 +33,9 @@ pub fn router_answer<A: Memory + Copy, E: Allocator>(
     question: RouterQuestion,
     now: u64,
 ) -> Result<String<A>, AllocError>
-    ensures told { IfOk result (λ text. TellsRouter config.now number servers.now core.now question now (string_bytes text)) }
+    ensures told { IfOk result
+        (λ text. TellsRouter config.now number servers.now core.now question now
+        (string_bytes text)) }
     ensures memory { OnErr result A.may_refuse }
 {
     match question {
@@ -60,7 +62,8 @@ fn counts<A: Memory + Copy, E: Allocator>(
     servers: &[usize],
     core: &Etr<A>,
 ) -> Result<String<A>, AllocError>
-    ensures told { IfOk result (λ text. ListsCounts config.now number servers.now core.now (string_bytes text)) }
+    ensures told { IfOk result
+        (λ text. ListsCounts config.now number servers.now core.now (string_bytes text)) }
     ensures memory { OnErr result A.may_refuse }
 {
     let mut text = String::new(alloc);

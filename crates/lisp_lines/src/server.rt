@@ -31,7 +31,8 @@ pub fn server_answer<A: Memory + Copy, E: Allocator>(
     question: ServerQuestion,
     now: u64,
 ) -> Result<String<A>, AllocError>
-    ensures told { IfOk result (λ text. TellsServer A config.now number core.now question now (string_bytes text)) }
+    ensures told { IfOk result
+        (λ text. TellsServer A config.now number core.now question now (string_bytes text)) }
     ensures memory { OnErr result A.may_refuse }
 {
     match question {
@@ -49,7 +50,8 @@ fn held<A: Memory + Copy, E: Allocator>(
     core: &Server<A>,
     now: u64,
 ) -> Result<String<A>, AllocError>
-    ensures told { IfOk result (λ text. TellsHeld config.now number core.now now (string_bytes text)) }
+    ensures told { IfOk result
+        (λ text. TellsHeld config.now number core.now now (string_bytes text)) }
     ensures memory { OnErr result A.may_refuse }
 {
     let rows = core.held(now)?;
@@ -65,7 +67,8 @@ fn answer<A: Memory + Copy, E: Allocator>(
     addr: Addr,
     now: u64,
 ) -> Result<String<A>, AllocError>
-    ensures told { IfOk result (λ text. TellsAnswer A config.now number core.now addr now (string_bytes text)) }
+    ensures told { IfOk result
+        (λ text. TellsAnswer A config.now number core.now addr now (string_bytes text)) }
     ensures memory { OnErr result A.may_refuse }
 {
     let answer = core.answer(&addr, now);

@@ -83,7 +83,8 @@ impl<'a, A: Memory + Copy> Log<'a, A> {
     /// Map-Register that is refused as a replay is noted in the run of its source address; one that is
     /// accepted ends that run. A line for which no memory is had is dropped.
     pub fn tell(&mut self, line: &Printed, cause: Option<&str>, now: u64)
-        ensures { TellsLine A.may_refuse self.old self.new line.now (option_copied cause.entry) now }
+        ensures { TellsLine A.may_refuse self.old self.new line.now
+            (option_copied cause.entry) now }
     {
         acknowledge(&mut self.silences, line, now);
         note_replay(&mut self.replays, line, now);
@@ -115,7 +116,8 @@ impl<'a, A: Memory + Copy> Log<'a, A> {
 
     /// The sink takes what it can of what waits.
     pub fn pour<S: Sink>(&mut self, sink: &mut S)
-        ensures pours { Pours self.old.waiting self.new.waiting (S.taken sink.old) (S.taken sink.new) }
+        ensures pours { Pours self.old.waiting self.new.waiting (S.taken sink.old)
+            (S.taken sink.new) }
         ensures rest { self.new ≡ record self.old { waiting = self.new.waiting } }
     {
         self.waiting.pour(sink);
@@ -150,7 +152,8 @@ impl<'a, A: Memory + Copy> Log<'a, A> {
     // Tells a Map-Server that is silent; whether there was one.
     fn tell_silence(&mut self, now: u64) -> bool
         requires { now ≤ max_moment }
-        ensures told { result ≡ true → (told : ℕ × ℕ) × TellsOneSilence A.may_refuse self.old self.new now told }
+        ensures told { result ≡ true → (told : ℕ × ℕ)
+            × TellsOneSilence A.may_refuse self.old self.new now told }
         ensures none { result ≡ false → NoneSilent self.old.silences now × (self.new ≡ self.old) }
     {
         let Some(told) = self.silences.tells(now) else {
@@ -172,7 +175,8 @@ impl<'a, A: Memory + Copy> Log<'a, A> {
     // Tells a run of replays that is to be told; whether there was one.
     fn tell_replay(&mut self, now: u64) -> bool
         requires { now ≤ max_moment }
-        ensures told { result ≡ true → (told : Replay) × TellsOneReplay A.may_refuse self.old self.new now told }
+        ensures told { result ≡ true → (told : Replay)
+            × TellsOneReplay A.may_refuse self.old self.new now told }
         ensures none { result ≡ false → NoneDue self.old.replays now × (self.new ≡ self.old) }
     {
         let Some(told) = self.replays.tells(now) else {

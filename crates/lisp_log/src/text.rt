@@ -75,7 +75,8 @@ pub(crate) fn told_text<A: Memory + Copy, E: Allocator>(
     cause: Option<&str>,
     line: &Printed,
 ) -> Result<String<A>, AllocError>
-    ensures text { GivesText result (told_text config.now name.now (option_copied cause.entry) line.now) }
+    ensures text { GivesText result
+        (told_text config.now name.now (option_copied cause.entry) line.now) }
     ensures memory { OnErr result A.may_refuse }
 {
     let mut text = told_words(alloc, config, name, cause, line)?;
@@ -91,7 +92,8 @@ fn told_words<A: Memory + Copy, E: Allocator>(
     cause: Option<&str>,
     line: &Printed,
 ) -> Result<String<A>, AllocError>
-    ensures text { GivesText result (told_words config.now name.now (option_copied cause.entry) line.now) }
+    ensures text { GivesText result
+        (told_words config.now name.now (option_copied cause.entry) line.now) }
     ensures memory { OnErr result A.may_refuse }
 {
     match line {
@@ -127,7 +129,8 @@ fn heard_words<A: Memory + Copy, E: Allocator>(
     line: &Line,
     from: &Addr,
 ) -> Result<String<A>, AllocError>
-    ensures text { GivesText result (heard_words config.now (option_copied cause.entry) line.now from.now) }
+    ensures text { GivesText result
+        (heard_words config.now (option_copied cause.entry) line.now from.now) }
     ensures memory { OnErr result A.may_refuse }
 {
     let mut text = caused_words(alloc, config, cause, line)?;
@@ -159,7 +162,8 @@ fn failed_words<A: Memory>(
     cause: Option<&str>,
     call: SocketCall,
 ) -> Result<String<A>, AllocError>
-    ensures text { GivesText result (failed_words name.now call ++ cause_words (option_copied cause.entry)) }
+    ensures text { GivesText result
+        (failed_words name.now call ++ cause_words (option_copied cause.entry)) }
     ensures memory { OnErr result A.may_refuse }
 {
     let number = call.number();

@@ -82,7 +82,8 @@ impl<A: Allocator + Copy> Table<A> {
     /// The first row from a place on that is alive at a moment, in ms, and its place; `None` where all from there on are dead. From
     /// place 0 on, each time from the one after the last, this gives every live row once. Takes no memory.
     pub fn next_live(&self, place: usize, now: u64) -> Option<(usize, &Row<A>)>
-        ensures { MatchOption result (live_from self.now.rows place now ≡ []) (λ found. IsNextLive self.now.rows place now found.0 found.1.now) }
+        ensures { MatchOption result (live_from self.now.rows place now ≡ [])
+            (λ found. IsNextLive self.now.rows place now found.0 found.1.now) }
     {
         let rest = self.items.get(place..)?;
         let Some(skipped) = first_live(rest, now) else {
@@ -124,7 +125,8 @@ impl<A: Allocator + Copy> Table<A> {
     pub fn drop_first_dead(&mut self, now: u64) -> Option<(RouterId, Prefix)>
         requires { now ≤ max_moment }
         ensures dropped { IfSome result (λ key. DropsDead self.old.rows self.new.rows now key) }
-        ensures none { result ≡ None → (self.new ≡ self.old) × All (λ h. is_alive h now ≡ true) self.new.rows }
+        ensures none { result ≡ None → (self.new ≡ self.old)
+            × All (λ h. is_alive h now ≡ true) self.new.rows }
         ensures one_each { OneEach self.new.rows }
     {
         let number = self.first_dead(now)?;

@@ -44,7 +44,8 @@ pub fn hear<S: WorldStore, A: Memory + Copy>(
     bytes: &[u8],
 ) -> (Line, Option<Bytes<A>>)
     requires { node < length servers.old + length routers.old }
-    ensures hears { NodesHear A servers.old servers.new routers.old routers.new node how bytes.now result }
+    ensures hears { NodesHear A servers.old servers.new routers.old routers.new node how bytes.now
+        result }
     ensures tells { MayTell A.may_refuse S.may_refuse result.0 }
 {
     if node >= servers.len() {

@@ -91,9 +91,12 @@ impl<S: WorldStore, A: Memory + Copy> ServerNode<S, A> {
     /// was, the router and its EID-Prefix; `None` where no row is dead, and then nothing changes. Takes no memory.
     pub fn expire_one(&mut self, now: u64) -> Option<(RouterId, Prefix)>
         requires { now ≤ max_moment }
-        ensures dropped { IfSome result (λ key. DropsDead self.old.core.rows self.new.core.rows now key) }
-        ensures none { result ≡ None → All (λ h. is_alive h now ≡ true) self.old.core.rows × (self.new ≡ self.old) }
-        ensures rest { self.new ≡ record self.old { core = record self.old.core { rows = self.new.core.rows } } }
+        ensures dropped { IfSome result
+            (λ key. DropsDead self.old.core.rows self.new.core.rows now key) }
+        ensures none { result ≡ None → All (λ h. is_alive h now ≡ true) self.old.core.rows
+            × (self.new ≡ self.old) }
+        ensures rest { self.new
+            ≡ record self.old { core = record self.old.core { rows = self.new.core.rows } } }
         ensures one_each { OneEach self.new.core.rows }
     {
         self.core.expire_one(now)

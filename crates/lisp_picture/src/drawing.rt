@@ -29,7 +29,8 @@ pub fn draw<A: Memory + Copy, R: Read, W: Write>(
     reader: &mut R,
     writer: &mut W,
 ) -> Result<(), PlayFault>
-    ensures drawn { IsDrawn result A A.may_refuse form (R.remaining reader.old) W.contents writer.old writer.new }
+    ensures drawn { IsDrawn result A A.may_refuse form
+        (R.remaining reader.old) W.contents writer.old writer.new }
     ensures refuses { Refuses result A.may_refuse (R.remaining reader.old) }
     ensures silent { IsSilent result W.contents writer.old writer.new }
     ensures memory { IsErrOf result PlayFault.OutOfMemory → A.may_refuse }
@@ -46,7 +47,8 @@ fn draw_input<A: Memory + Copy, W: Write>(
     input: &[u8],
     writer: &mut W,
 ) -> Result<(), PlayFault>
-    ensures drawn { IsDrawn result A A.may_refuse form (Some input.now) W.contents writer.old writer.new }
+    ensures drawn { IsDrawn result A A.may_refuse form
+        (Some input.now) W.contents writer.old writer.new }
     ensures refuses { Refuses result A.may_refuse (Some input.now) }
     ensures silent { IsSilent result W.contents writer.old writer.new }
     ensures memory { IsErrOf result PlayFault.OutOfMemory → A.may_refuse }
@@ -64,7 +66,8 @@ fn picture<A: Memory + Copy>(
     title: &str,
     history: &History<A>,
 ) -> Result<String<A>, AllocError>
-    ensures picture { IfOk result (λ text. Pictures form history.now.outcomes.items (string_bytes text)) }
+    ensures picture { IfOk result
+        (λ text. Pictures form history.now.outcomes.items (string_bytes text)) }
     ensures memory { OnErr result A.may_refuse }
 {
     match form {

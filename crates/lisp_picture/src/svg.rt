@@ -22,7 +22,8 @@ pub fn svg_text<A: Memory + Copy>(
     title: &str,
     history: &History<A>,
 ) -> Result<String<A>, AllocError>
-    ensures picture { IfOk result (λ text. IsPicture A title.now (texts_of history.now.outcomes.items) (string_bytes text)) }
+    ensures picture { IfOk result
+        (λ text. IsPicture A title.now (texts_of history.now.outcomes.items) (string_bytes text)) }
     ensures memory { OnErr result A.may_refuse }
 {
     let sheet = lay_out(alloc, title, history)?;
@@ -39,7 +40,9 @@ fn put_picture<A: Memory, B: Allocator>(
     sheet: &Sheet<B>,
     outcomes: &[Outcome<B>],
 ) -> Result<(), AllocError>
-    ensures text { Adds result text.old text.new (picture_text sheet.now.width sheet.now.height title.now sheet.now.frame.items (shapes_at sheet.now.rows.items) (texts_of outcomes.now)) }
+    ensures text { Adds result text.old text.new
+        (picture_text sheet.now.width sheet.now.height title.now sheet.now.frame.items
+        (shapes_at sheet.now.rows.items) (texts_of outcomes.now)) }
     ensures memory { OnErr result A.may_refuse }
 {
     put_head(text, sheet.width, sheet.height)?;
@@ -88,7 +91,8 @@ fn put_elements<A: Memory, B: Allocator>(
     outcomes: &[Outcome<B>],
     rows: &[Vec<Shape<B>, B>],
 ) -> Result<(), AllocError>
-    ensures text { Adds result text.old text.new (elements_text (shapes_at rows.now) 0 (texts_of outcomes.now)) }
+    ensures text { Adds result text.old text.new
+        (elements_text (shapes_at rows.now) 0 (texts_of outcomes.now)) }
     ensures memory { OnErr result A.may_refuse }
 {
     for (place, outcome) in outcomes.iter().enumerate() {

@@ -61,7 +61,8 @@ impl<A: Allocator + Copy> Model for Queue<A> {
 impl<A: Memory + Copy> Queue<A> {
     /// An empty queue, for groups of so many places. Takes all memory but that of the datagrams' bytes.
     pub fn new(alloc: A, places: u8) -> Result<Queue<A>, AllocError>
-        ensures empty { IfOk result (λ q. q ≡ record { waiting = []; taken = []; places = places }) }
+        ensures empty { IfOk result
+            (λ q. q ≡ record { waiting = []; taken = []; places = places }) }
         ensures memory { OnErr result A.may_refuse }
     {
         let places = usize::from(places);
@@ -94,7 +95,8 @@ impl<A: Memory + Copy> Queue<A> {
     /// A datagram came from an address: a copy of its bytes waits behind the others. It is dropped where 256 wait already, where 128
     /// of its source do, or where memory is refused, as a socket drops what it has no room for.
     pub fn offer(&mut self, from: Addr, bytes: &[u8])
-        ensures { Offers A.may_refuse self.old self.new (record { from = from; bytes = bytes.now }) }
+        ensures { Offers A.may_refuse self.old self.new
+            (record { from = from; bytes = bytes.now }) }
     {
         if self.is_full() || waiting_of(&self.waiting, from) >= MOST_OF_ONE {
             return;

@@ -85,7 +85,8 @@ pub fn one_rising_order()
 /// Records are cut into parts in one way alone.
 #[tactic(auto, using(crate::proofs::Cuts::cuts_are_one))]
 pub fn cuts_are_one()
-    ensures { (ms : List MapRecordValue) (one other : List (List MapRecordValue)) → IsCut ms one → IsCut ms other → one ≡ other }
+    ensures { (ms : List MapRecordValue) (one other : List (List MapRecordValue)) → IsCut ms one
+        → IsCut ms other → one ≡ other }
 {}
 
 /// Records that each fit a message alone are cut by `cut`.
@@ -96,17 +97,21 @@ pub fn cut_is_a_cut()
 
 /// Each record of a database is in one of its parts, and in no other.
 pub fn each_record_is_in_one_part()
-    ensures { (ms : List MapRecordValue) (m : MapRecordValue) → database_of ms ≡ Ok ms → Contains ms m → IsInOnePart ms m }
+    ensures { (ms : List MapRecordValue) (m : MapRecordValue) → database_of ms ≡ Ok ms
+        → Contains ms m → IsInOnePart ms m }
 {}
 
 /// What one part of a database has for an EID-Prefix, the database has.
 pub fn part_look_up()
-    ensures { (ms : List MapRecordValue) (part : ℕ) (eid : PrefixValue) (m : MapRecordValue) → database_of ms ≡ Ok ms → record_for (part_at ms part) eid ≡ Some m → record_for ms eid ≡ Some m }
+    ensures { (ms : List MapRecordValue) (part : ℕ) (eid : PrefixValue) (m : MapRecordValue)
+        → database_of ms ≡ Ok ms → record_for (part_at ms part) eid ≡ Some m
+        → record_for ms eid ≡ Some m }
 {}
 
 /// What a database has for an EID-Prefix, one of its parts has.
 pub fn look_up_in_a_part()
-    ensures { (ms : List MapRecordValue) (eid : PrefixValue) (m : MapRecordValue) → database_of ms ≡ Ok ms → record_for ms eid ≡ Some m → IsFoundInAPart ms eid m }
+    ensures { (ms : List MapRecordValue) (eid : PrefixValue) (m : MapRecordValue)
+        → database_of ms ≡ Ok ms → record_for ms eid ≡ Some m → IsFoundInAPart ms eid m }
 {}
 
 /// `MAX_MOMENT` is 2^62 ms.

@@ -62,7 +62,8 @@ fn skip_locators(count: u8, bytes: &[u8]) -> Result<&[u8], RecordFault>
 /// The locator that begins at byte `at`, and where it ends; takes no memory. The faults come in the order `Short` (no 8
 /// bytes), `Afi`, `Short` (no whole address).
 pub fn locator_at(bytes: &[u8], at: usize) -> Result<(Locator, usize), RecordFault>
-    ensures locator { Reads (λ x. (x.0, drop x.1 bytes.now)) result (locator_at (drop at bytes.now)) }
+    ensures locator { Reads (λ x. (x.0, drop x.1 bytes.now)) result
+        (locator_at (drop at bytes.now)) }
     ensures within { IfOk result (λ x. (at ≤ x.1) × (x.1 ≤ length bytes.now)) }
 {
     if at > bytes.len() {

@@ -25,7 +25,8 @@ pub fn name(number: u16) -> Option<&'static str>
 
 /// What the number means, and when it comes, of the first row that has it; `None` where no row has it.
 pub fn meaning(number: u16) -> Option<&'static str>
-    ensures value { IsToldOf (λ row. row.meaning.now) number (option_map (λ text. text.now) result) }
+    ensures value { IsToldOf (λ row. row.meaning.now) number
+        (option_map (λ text. text.now) result) }
 {
     Some(first_in(&sections(), number)?.meaning)
 }

@@ -31,7 +31,8 @@ const NO_ADDRESS: u16 = 0;
 /// The address at the front of the bytes, of the family that an AFI names, and the bytes after it. The faults come in the
 /// order `Afi`, `Mask` (a mask of so many bits, 0 where there is none, is longer than the address), `Short`.
 fn read_named(afi: u16, mask_len: u8, bytes: &[u8]) -> Result<(Addr, &[u8]), RequestFault>
-    ensures address { Reads (λ x. (x.0, x.1.now)) result (lifted (named_at afi mask_len bytes.now)) }
+    ensures address { Reads (λ x. (x.0, x.1.now)) result
+        (lifted (named_at afi mask_len bytes.now)) }
     ensures plain { IfOutOfMemory result ⊥ }
     ensures fits { IfOk result (λ x. mask_len ≤ max_len x.0) }
 {

@@ -69,7 +69,8 @@ pub fn read_encapsulated(bytes: &[u8]) -> Result<EncapsulatedRequest<'_>, Reques
     ensures found { IfOk result (λ e. SpellsEncapsulated bytes.now (encapsulated_value e)) }
 
     // What is spelled so is read.
-    ensures only { (m : EncapsulatedValue) → SpellsEncapsulated bytes.now m → Reads encapsulated_value result (Ok m) }
+    ensures only { (m : EncapsulatedValue) → SpellsEncapsulated bytes.now m
+        → Reads encapsulated_value result (Ok m) }
 
     // Which answer it is.
     ensures exact { Reads encapsulated_value result (encapsulated_at bytes.now) }
@@ -114,7 +115,8 @@ fn read_udp(
     destination: Addr,
     payload: &[u8],
 ) -> Result<EncapsulatedRequest<'_>, RequestFault>
-    ensures { Reads encapsulated_value result (udp_at (datagram_of source destination payload.now)) }
+    ensures { Reads encapsulated_value result
+        (udp_at (datagram_of source destination payload.now)) }
 {
     if payload.len() < UDP_LEN {
         return Err(RequestFault::Short);
@@ -160,8 +162,10 @@ pub fn write_encapsulated<A: Memory>(
     request: &EncapsulatedRequest<'_>,
 ) -> Result<Vec<u8, A>, AllocError>
     requires { FitsDatagram (encapsulated_value request.now) }
-    ensures written { IfOk result (λ v. v.items ≡ written_encapsulated (encapsulated_value request.now)) }
-    ensures spells { IfOk result (λ v. SpellsEncapsulated v.items (encapsulated_value request.now)) }
+    ensures written { IfOk result
+        (λ v. v.items ≡ written_encapsulated (encapsulated_value request.now)) }
+    ensures spells { IfOk result
+        (λ v. SpellsEncapsulated v.items (encapsulated_value request.now)) }
     ensures known { OnOk result (IsEncapsulated (encapsulated_value request.now)) }
     ensures memory { OnErr result A.may_refuse }
 {
@@ -180,7 +184,8 @@ fn put_udp<A: Memory>(
     len: u16,
 ) -> Result<(), AllocError>
     requires { len ≡ 8 + length request.now.message.now }
-    ensures datagram { OnOk result (out.new.items ≡ out.old.items ++ written_udp (encapsulated_value request.now)) }
+    ensures datagram { OnOk result
+        (out.new.items ≡ out.old.items ++ written_udp (encapsulated_value request.now)) }
     ensures port { request.now.port < 2 ^ 16 }
     ensures bytes { IsBytes request.now.message.now }
     ensures memory { OnErr result A.may_refuse }

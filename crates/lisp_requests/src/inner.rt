@@ -147,7 +147,8 @@ pub(crate) fn put_ip_head<A: Memory>(
     len: u16,
 ) -> Result<(), AllocError>
     requires { len ≤ 65515 }
-    ensures header { OnOk result (out.new.items ≡ out.old.items ++ written_ip source destination len) }
+    ensures header { OnOk result
+        (out.new.items ≡ out.old.items ++ written_ip source destination len) }
     ensures whole { OnOk result (IsWhole source × IsWhole destination) }
     ensures memory { OnErr result A.may_refuse }
 {

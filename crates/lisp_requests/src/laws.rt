@@ -87,13 +87,15 @@ pub fn one_encapsulated()
 /// The written spelling of an encapsulated message is one of its spellings: both headers carry their checksums.
 #[tactic(auto, using(crate::proofs::SpelledLaws::encapsulated_spelled))]
 pub fn written_encapsulated_spells()
-    ensures { (m : EncapsulatedValue) → IsEncapsulated m → SpellsEncapsulated (written_encapsulated m) m }
+    ensures { (m : EncapsulatedValue) → IsEncapsulated m
+        → SpellsEncapsulated (written_encapsulated m) m }
 {}
 
 /// What is written of an encapsulated message is read again.
 #[tactic(auto, using(crate::proofs::SpelledLaws::reads_back))]
 pub fn encapsulated_reads_back()
-    ensures { (m : EncapsulatedValue) → IsEncapsulated m → encapsulated_at (written_encapsulated m) ≡ Ok m }
+    ensures { (m : EncapsulatedValue) → IsEncapsulated m
+        → encapsulated_at (written_encapsulated m) ≡ Ok m }
 {}
 
 /// Words that carry their checksum sum to all ones.

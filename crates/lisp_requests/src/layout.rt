@@ -65,8 +65,10 @@ fn layout_of(
 ) -> RequestLayout
     requires { 12 ≤ length head.now }
     ensures fields { HasFields result head.now source }
-    ensures counts { (result.rloc_count ≡ rloc_count head.now) × (result.eid_count ≡ slice_index head.now 3) }
-    ensures places { (result.rlocs_at ≡ rlocs_at) × (result.eids_at ≡ eids_at) × (result.end ≡ end) }
+    ensures counts { (result.rloc_count ≡ rloc_count head.now)
+        × (result.eid_count ≡ slice_index head.now 3) }
+    ensures places { (result.rlocs_at ≡ rlocs_at) × (result.eids_at ≡ eids_at)
+        × (result.end ≡ end) }
 {
     RequestLayout {
         authoritative: is_set(head[KIND_AT], AUTHORITATIVE),

@@ -131,7 +131,8 @@ fn read_records<A: Memory + Copy>(
     count: u8,
     bytes: &[u8],
 ) -> Result<(Vec<MapRecord<A>, A>, &[u8]), RequestFault>
-    ensures records { Gives (λ x. (x.0.items, x.1.now)) result (items_at reply_record_at count bytes.now) }
+    ensures records { Gives (λ x. (x.0.items, x.1.now)) result
+        (items_at reply_record_at count bytes.now) }
     ensures count { IfOk result (λ x. length x.0.items ≡ count) }
     ensures memory { IfOutOfMemory result (A.may_refuse × (0 < count)) }
 {

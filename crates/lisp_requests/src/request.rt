@@ -99,7 +99,8 @@ pub fn read_request<A: Memory + Copy>(alloc: A, bytes: &[u8]) -> Result<MapReque
     ensures found { IfOk result (λ m. SpellsRequest bytes.now m) }
 
     // What is spelled so is read, unless memory runs out.
-    ensures only { (m : MapRequestValue) → SpellsRequest bytes.now m → Gives (λ m. m) result (Ok m) }
+    ensures only { (m : MapRequestValue) → SpellsRequest bytes.now m
+        → Gives (λ m. m) result (Ok m) }
 
     // Which answer it is.
     ensures exact { Gives (λ m. m) result (request_at bytes.now) }

@@ -142,7 +142,8 @@ fn with_four<A: Allocator, E: Allocator>(
     third: &str,
     fourth: &str,
 ) -> Result<Command<A>, ScriptWhat>
-    ensures { SpellsPlainly config.now verb (first.now ∷ second.now ∷ third.now ∷ fourth.now ∷ []) result }
+    ensures { SpellsPlainly config.now verb
+        (first.now ∷ second.now ∷ third.now ∷ fourth.now ∷ []) result }
 {
     match verb {
         Verb::Send => sent(config, first, second, part(third, fourth), Ok(Fate::Done)),
@@ -161,7 +162,8 @@ fn with_five<A: Allocator, E: Allocator>(
     fourth: &str,
     fifth: &str,
 ) -> Result<Command<A>, ScriptWhat>
-    ensures { SpellsPlainly config.now verb (first.now ∷ second.now ∷ third.now ∷ fourth.now ∷ fifth.now ∷ []) result }
+    ensures { SpellsPlainly config.now verb
+        (first.now ∷ second.now ∷ third.now ∷ fourth.now ∷ fifth.now ∷ []) result }
 {
     match verb {
         Verb::Send => sent(config, first, second, part(third, fourth), doubt(fifth)),

@@ -118,7 +118,8 @@ impl<A: Allocator + Copy> Server<A> {
     /// long as nothing changes the Map-Server, this gives from place 0 on, each time from the one after the last, every row
     /// once that is alive at the time. Takes no memory.
     pub fn next_held(&self, place: usize, now: u64) -> Option<(usize, &Row<A>)>
-        ensures { MatchOption result (live_from self.now.rows place now ≡ []) (λ found. IsNextLive self.now.rows place now found.0 found.1.now) }
+        ensures { MatchOption result (live_from self.now.rows place now ≡ [])
+            (λ found. IsNextLive self.now.rows place now found.0 found.1.now) }
     {
         self.tables.rows.next_live(place, now)
     }
@@ -147,7 +148,8 @@ impl<A: Allocator + Copy> Server<A> {
     pub fn expire_one(&mut self, now: u64) -> Option<(RouterId, Prefix)>
         requires { now ≤ max_moment }
         ensures dropped { IfSome result (λ key. DropsDead self.old.rows self.new.rows now key) }
-        ensures none { result ≡ None → All (λ h. is_alive h now ≡ true) self.old.rows × (self.new.rows ≡ self.old.rows) }
+        ensures none { result ≡ None → All (λ h. is_alive h now ≡ true) self.old.rows
+            × (self.new.rows ≡ self.old.rows) }
         ensures rest { self.new ≡ record self.old { rows = self.new.rows } }
         ensures one_each { OneEach self.new.rows }
     {

@@ -53,7 +53,9 @@ pub fn counts_text<A: Memory + Copy, B: Memory + Copy, E: Allocator>(
     statistics: &Statistics<B>,
     gauges: &[Gauge],
 ) -> Result<String<A>, AllocError>
-    ensures text { GivesText result (counts_text format (node_name config.now number) statistics.now.tallies.entries gauges.now) }
+    ensures text { GivesText result
+        (counts_text format (node_name config.now number) statistics.now.tallies.entries
+        gauges.now) }
     ensures memory { OnErr result A.may_refuse }
 {
     let mut text = String::new(alloc);
@@ -87,7 +89,8 @@ fn put_family<A: Memory, B: Memory + Copy>(
     name: &str,
     tallies: &BTreeMap<LineKind, u64, B>,
 ) -> Result<(), AllocError>
-    ensures text { Adds result text.old text.new (family head.now shape name.now tallies.now.entries) }
+    ensures text { Adds result text.old text.new
+        (family head.now shape name.now tallies.now.entries) }
     ensures memory { OnErr result A.may_refuse }
 {
     text.try_write(head)?;
@@ -101,7 +104,8 @@ fn put_tallies<A: Memory, B: Memory + Copy>(
     name: &str,
     tallies: &BTreeMap<LineKind, u64, B>,
 ) -> Result<(), AllocError>
-    ensures text { Adds result text.old text.new (flat_map (tally_text shape name.now) tallies.now.entries) }
+    ensures text { Adds result text.old text.new
+        (flat_map (tally_text shape name.now) tallies.now.entries) }
     ensures memory { OnErr result A.may_refuse }
 {
     for (kind, times) in tallies {
@@ -210,7 +214,8 @@ fn put_gauges<A: Memory>(
     name: &str,
     gauges: &[Gauge],
 ) -> Result<(), AllocError>
-    ensures text { Adds result text.old text.new (flat_map (gauge_text format name.now) gauges.now) }
+    ensures text { Adds result text.old text.new
+        (flat_map (gauge_text format name.now) gauges.now) }
     ensures memory { OnErr result A.may_refuse }
 {
     for gauge in gauges {

@@ -58,7 +58,8 @@ fn put_routers<A: Memory + Copy, B: Memory + Copy, C: Memory + Copy, E: Allocato
     heard: &BTreeMap<RouterId, Hearing, B>,
     now: u64,
 ) -> Result<(), AllocError>
-    ensures text { Adds result text.old text.new (flat_map (counted_text config.now now counts.now) heard.now.entries) }
+    ensures text { Adds result text.old text.new
+        (flat_map (counted_text config.now now counts.now) heard.now.entries) }
     ensures memory { OnErr result A.may_refuse }
 {
     for (router, hearing) in heard {
@@ -91,7 +92,8 @@ fn put_router<A: Memory + Copy, E: Allocator>(
     now: u64,
     rows: u64,
 ) -> Result<(), AllocError>
-    ensures text { Adds result text.old text.new (router_text config.now now router.now hearing.now rows) }
+    ensures text { Adds result text.old text.new
+        (router_text config.now now router.now hearing.now rows) }
     ensures memory { OnErr result A.may_refuse }
 {
     let name = router_name(config, router);

@@ -40,8 +40,10 @@ impl<A: Memory + Copy> Statistics<A> {
 
     /// The node prints a line, at a moment in ms.
     pub fn tell(&mut self, line: &Printed, now: u64)
-        ensures counts { CountsLine ⟦<LineKind as Ord>⟧.cmp A.may_refuse self.old self.new (kind_of line.now) }
-        ensures hears { HearsLine router_cmp A.may_refuse self.old self.new (heard_in line.now now) }
+        ensures counts { CountsLine ⟦<LineKind as Ord>⟧.cmp A.may_refuse self.old self.new
+            (kind_of line.now) }
+        ensures hears { HearsLine router_cmp A.may_refuse self.old self.new
+            (heard_in line.now now) }
         ensures saves { self.new.longest_save ≡ self.old.longest_save }
     {
         if let Some(kind) = LineKind::of(line) {

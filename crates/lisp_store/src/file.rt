@@ -72,15 +72,21 @@ impl<F: Folder> NonceStore for FileStore<F> {
         ensures damaged { FindsDamageIfHonest (F.seen self.old.folder) pair.now result }
 
         // `Device` only where the folder's device failed.
-        ensures device { IsErrOf result StoreFault.Device → DeviceFailed (F.seen self.old.folder) (F.seen self.new.folder) }
+        ensures device { IsErrOf result StoreFault.Device
+            → DeviceFailed (F.seen self.old.folder) (F.seen self.new.folder) }
 
         // What every store promises.
         ensures member { LoadsIfHonest (⟦<Self as NonceStore>⟧.seen self.old) pair.now result }
-        ensures same { KeepsListsIfHonest (⟦<Self as NonceStore>⟧.seen self.old) (⟦<Self as NonceStore>⟧.seen self.new) }
-        ensures cause { IfErr result (IsOfDevice (⟦<Self as NonceStore>⟧.seen self.old) (⟦<Self as NonceStore>⟧.seen self.new)) }
-        ensures refused { IsErrOf result StoreFault.OutOfMemory → ⟦<Self as NonceStore>⟧.seen self.new ≡ ⟦<Self as NonceStore>⟧.seen self.old }
+        ensures same { KeepsListsIfHonest (⟦<Self as NonceStore>⟧.seen self.old)
+            (⟦<Self as NonceStore>⟧.seen self.new) }
+        ensures cause { IfErr result
+            (IsOfDevice (⟦<Self as NonceStore>⟧.seen self.old)
+            (⟦<Self as NonceStore>⟧.seen self.new)) }
+        ensures refused { IsErrOf result StoreFault.OutOfMemory
+            → ⟦<Self as NonceStore>⟧.seen self.new ≡ ⟦<Self as NonceStore>⟧.seen self.old }
         ensures memory { IsErrOf result StoreFault.OutOfMemory → F.may_refuse }
-        ensures proceeds { Proceeds (⟦<Self as NonceStore>⟧.seen self.old) (⟦<Self as NonceStore>⟧.seen self.new) }
+        ensures proceeds { Proceeds (⟦<Self as NonceStore>⟧.seen self.old)
+            (⟦<Self as NonceStore>⟧.seen self.new) }
     {
         let loaded = read_nonce(&mut self.folder, pair);
         counted(&mut self.faults, loaded)
@@ -89,17 +95,24 @@ impl<F: Folder> NonceStore for FileStore<F> {
     /// `Device` where replacing the file failed.
     fn save(&mut self, pair: &Pair, nonce: u64) -> Result<(), StoreFault>
         // Only where the folder's device failed.
-        ensures device { IsErrOf result StoreFault.Device → DeviceFailed (F.seen self.old.folder) (F.seen self.new.folder) }
+        ensures device { IsErrOf result StoreFault.Device
+            → DeviceFailed (F.seen self.old.folder) (F.seen self.new.folder) }
 
         // What every store promises.
-        ensures done { SavesIfHonest (⟦<Self as NonceStore>⟧.seen self.old) (⟦<Self as NonceStore>⟧.seen self.new) pair.now nonce result }
-        ensures doubt { DoubtsIfHonest (⟦<Self as NonceStore>⟧.seen self.old) (⟦<Self as NonceStore>⟧.seen self.new) pair.now nonce result }
-        ensures others { KeepsOthersIfHonest (⟦<Self as NonceStore>⟧.seen self.old) (⟦<Self as NonceStore>⟧.seen self.new) pair.now }
+        ensures done { SavesIfHonest (⟦<Self as NonceStore>⟧.seen self.old)
+            (⟦<Self as NonceStore>⟧.seen self.new) pair.now nonce result }
+        ensures doubt { DoubtsIfHonest (⟦<Self as NonceStore>⟧.seen self.old)
+            (⟦<Self as NonceStore>⟧.seen self.new) pair.now nonce result }
+        ensures others { KeepsOthersIfHonest (⟦<Self as NonceStore>⟧.seen self.old)
+            (⟦<Self as NonceStore>⟧.seen self.new) pair.now }
         ensures sound { result ≢ Err StoreFault.Damaged }
-        ensures cause { IsErrOf result StoreFault.Device → Rose (⟦<Self as NonceStore>⟧.seen self.old) (⟦<Self as NonceStore>⟧.seen self.new) }
-        ensures refused { IsErrOf result StoreFault.OutOfMemory → ⟦<Self as NonceStore>⟧.seen self.new ≡ ⟦<Self as NonceStore>⟧.seen self.old }
+        ensures cause { IsErrOf result StoreFault.Device
+            → Rose (⟦<Self as NonceStore>⟧.seen self.old) (⟦<Self as NonceStore>⟧.seen self.new) }
+        ensures refused { IsErrOf result StoreFault.OutOfMemory
+            → ⟦<Self as NonceStore>⟧.seen self.new ≡ ⟦<Self as NonceStore>⟧.seen self.old }
         ensures memory { IsErrOf result StoreFault.OutOfMemory → F.may_refuse }
-        ensures proceeds { Proceeds (⟦<Self as NonceStore>⟧.seen self.old) (⟦<Self as NonceStore>⟧.seen self.new) }
+        ensures proceeds { Proceeds (⟦<Self as NonceStore>⟧.seen self.old)
+            (⟦<Self as NonceStore>⟧.seen self.new) }
     {
         let saved = write_nonce(&mut self.folder, pair, nonce);
         counted(&mut self.faults, saved)
@@ -123,10 +136,12 @@ fn read_nonce<F: Folder>(folder: &mut F, pair: &Pair) -> Result<Option<u64>, Sto
     ensures range { IfOk result IsNonce }
     ensures nonce { ReadsNonceIfHonest (F.seen folder.old) pair.now result }
     ensures damaged { FindsDamageIfHonest (F.seen folder.old) pair.now result }
-    ensures device { IsErrOf result StoreFault.Device → DeviceFailed (F.seen folder.old) (F.seen folder.new) }
+    ensures device { IsErrOf result StoreFault.Device
+        → DeviceFailed (F.seen folder.old) (F.seen folder.new) }
     ensures same { KeepsFilesIfHonest (F.seen folder.old) (F.seen folder.new) }
     ensures honest { (F.seen folder.new).is_honest ≡ (F.seen folder.old).is_honest }
-    ensures refused { IsErrOf result StoreFault.OutOfMemory → F.seen folder.new ≡ F.seen folder.old }
+    ensures refused { IsErrOf result StoreFault.OutOfMemory
+        → F.seen folder.new ≡ F.seen folder.old }
     ensures memory { IsErrOf result StoreFault.OutOfMemory → F.may_refuse }
 {
     let name = pair_name(pair);
@@ -144,13 +159,18 @@ fn read_nonce<F: Folder>(folder: &mut F, pair: &Pair) -> Result<Option<u64>, Sto
 // Puts a file of the nonce in the place of the pair's file.
 fn write_nonce<F: Folder>(folder: &mut F, pair: &Pair, nonce: u64) -> Result<(), StoreFault>
     ensures pair { IsPair pair.now }
-    ensures done { ReplacesIfHonest (F.seen folder.old) (F.seen folder.new) (pair_name pair.now) (nonce_text nonce) result }
-    ensures doubt { DoubtsFileIfHonest (F.seen folder.old) (F.seen folder.new) (pair_name pair.now) (nonce_text nonce) result }
-    ensures others { KeepsOtherFilesIfHonest (F.seen folder.old) (F.seen folder.new) (pair_name pair.now) }
+    ensures done { ReplacesIfHonest (F.seen folder.old) (F.seen folder.new) (pair_name pair.now)
+        (nonce_text nonce) result }
+    ensures doubt { DoubtsFileIfHonest (F.seen folder.old) (F.seen folder.new) (pair_name pair.now)
+        (nonce_text nonce) result }
+    ensures others { KeepsOtherFilesIfHonest (F.seen folder.old) (F.seen folder.new)
+        (pair_name pair.now) }
     ensures honest { (F.seen folder.new).is_honest ≡ (F.seen folder.old).is_honest }
     ensures sound { result ≢ Err StoreFault.Damaged }
-    ensures device { IsErrOf result StoreFault.Device → DeviceFailed (F.seen folder.old) (F.seen folder.new) }
-    ensures refused { IsErrOf result StoreFault.OutOfMemory → F.seen folder.new ≡ F.seen folder.old }
+    ensures device { IsErrOf result StoreFault.Device
+        → DeviceFailed (F.seen folder.old) (F.seen folder.new) }
+    ensures refused { IsErrOf result StoreFault.OutOfMemory
+        → F.seen folder.new ≡ F.seen folder.old }
     ensures memory { IsErrOf result StoreFault.OutOfMemory → F.may_refuse }
 {
     let name = pair_name(pair);

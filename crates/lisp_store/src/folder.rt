@@ -51,7 +51,8 @@ pub trait Folder {
         ensures within { IfOk result (λ found. IfSome found (λ count. count ≤ length buffer.new)) }
         ensures room { length buffer.new ≡ length buffer.old }
         ensures same { KeepsFilesIfHonest (seen self.old) (seen self.new) }
-        ensures cause { IsErrOf result FolderFault.Device → DeviceFailed (seen self.old) (seen self.new) }
+        ensures cause { IsErrOf result FolderFault.Device
+            → DeviceFailed (seen self.old) (seen self.new) }
         ensures count { (seen self.old).faults ≤ (seen self.new).faults }
         ensures honest { (seen self.new).is_honest ≡ (seen self.old).is_honest }
         ensures refused { IsErrOf result FolderFault.OutOfMemory → seen self.new ≡ seen self.old }
@@ -64,9 +65,11 @@ pub trait Folder {
         ensures done { ReplacesIfHonest (seen self.old) (seen self.new) name.now bytes.now result }
 
         // Not done: it may have what it had, and perhaps these.
-        ensures doubt { DoubtsFileIfHonest (seen self.old) (seen self.new) name.now bytes.now result }
+        ensures doubt { DoubtsFileIfHonest (seen self.old)
+            (seen self.new) name.now bytes.now result }
         ensures others { KeepsOtherFilesIfHonest (seen self.old) (seen self.new) name.now }
-        ensures cause { IsErrOf result FolderFault.Device → DeviceFailed (seen self.old) (seen self.new) }
+        ensures cause { IsErrOf result FolderFault.Device
+            → DeviceFailed (seen self.old) (seen self.new) }
         ensures count { (seen self.old).faults ≤ (seen self.new).faults }
         ensures honest { (seen self.new).is_honest ≡ (seen self.old).is_honest }
         ensures refused { IsErrOf result FolderFault.OutOfMemory → seen self.new ≡ seen self.old }

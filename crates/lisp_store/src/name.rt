@@ -139,7 +139,8 @@ fn kind_of_letter(letter: &[u8]) -> PairKind
 
 // The bytes that so many digits are of, if they are.
 fn bytes_of<const N: usize>(digits: &[u8]) -> Option<[u8; N]>
-    ensures { (bytes : List ℕ) → length bytes ≡ N → IsBytes bytes → digits.now ≡ encode_lower bytes → result ≡ Some bytes }
+    ensures { (bytes : List ℕ) → length bytes ≡ N → IsBytes bytes → digits.now ≡ encode_lower bytes
+        → result ≡ Some bytes }
 {
     let mut bytes = [0; N];
     match hex::decode_to_slice(digits, &mut bytes) {

@@ -31,7 +31,8 @@ pub(crate) struct Heard {
 impl Heard {
     /// Its line is printed, and then its message is sent, if there is one.
     pub(crate) fn tell<O: Endpoint + Lines>(&self, outside: &mut O)
-        ensures { Tells (O.seen outside.old) (O.seen outside.new) (printed.Heard self.now.act.line self.now.from) self.now.act.message }
+        ensures { Tells (O.seen outside.old) (O.seen outside.new)
+            (printed.Heard self.now.act.line self.now.from) self.now.act.message }
     {
         let line = Printed::Heard {
             line: self.act.line,
@@ -44,7 +45,8 @@ impl Heard {
 // The node hears bytes that came from an address.
 fn hear<N: Node>(node: &mut N, place: &Place, from: Addr, bytes: &[u8], now: u64) -> Heard
     requires { IsPlaced place.now.config.now place.now.number (N.state node.old) }
-    ensures does { DoesOne Global place.now.config.now place.now.number (N.state node.old) (N.state node.new) now (events.Junk place.now.number from bytes.now) result.act }
+    ensures does { DoesOne Global place.now.config.now place.now.number (N.state node.old)
+        (N.state node.new) now (events.Junk place.now.number from bytes.now) result.act }
     ensures from { result.from ≡ from }
     ensures placed { IsPlaced place.now.config.now place.now.number (N.state node.new) }
 {
@@ -66,7 +68,10 @@ pub(crate) fn hear_group<N: Node, O: Endpoint>(
 ) -> (Option<Heard>, Vec<Heard>)
     requires within { FitsBuffer received buffer.old }
     requires placed { IsPlaced place.now.config.now place.now.number (N.state node.old) }
-    ensures hears { HearsGroup Global place.now.config.now place.now.number places (N.state node.old) (N.state node.new) now (reception received buffer.old) (reverse result.1.items ++ option_to_list result.0) (O.seen outside.old) (O.seen outside.new) }
+    ensures hears { HearsGroup Global place.now.config.now place.now.number places
+        (N.state node.old) (N.state node.new) now (reception received buffer.old)
+        (reverse result.1.items ++ option_to_list result.0) (O.seen outside.old)
+        (O.seen outside.new) }
     ensures placed { IsPlaced place.now.config.now place.now.number (N.state node.new) }
 {
     let Received::Datagram { from, count } = received else {
@@ -89,7 +94,9 @@ fn hear_others<N: Node, O: Endpoint>(
     outside: &mut O,
 ) -> Vec<Heard>
     requires { IsPlaced place.now.config.now place.now.number (N.state node.old) }
-    ensures hears { HearsOthers Global place.now.config.now place.now.number places (N.state node.old) (N.state node.new) now (reverse result.items) (O.seen outside.old) (O.seen outside.new) }
+    ensures hears { HearsOthers Global place.now.config.now place.now.number places
+        (N.state node.old) (N.state node.new) now (reverse result.items) (O.seen outside.old)
+        (O.seen outside.new) }
     ensures placed { IsPlaced place.now.config.now place.now.number (N.state node.new) }
 {
     let mut others = Vec::new(alloc);
@@ -114,7 +121,8 @@ fn hear_next<N: Node, O: Endpoint>(
     outside: &mut O,
 ) -> Option<Heard>
     requires { IsPlaced place.now.config.now place.now.number (N.state node.old) }
-    ensures hears { HearsNext Global place.now.config.now place.now.number (N.state node.old) (N.state node.new) now result (O.seen outside.old) (O.seen outside.new) }
+    ensures hears { HearsNext Global place.now.config.now place.now.number (N.state node.old)
+        (N.state node.new) now result (O.seen outside.old) (O.seen outside.new) }
     ensures placed { IsPlaced place.now.config.now place.now.number (N.state node.new) }
 {
     let Received::Datagram { from, count } = outside.poll(buffer) else {

@@ -56,7 +56,10 @@ impl Intake {
         requires bound { now ≤ max_moment }
         requires within { FitsBuffer received buffer.old }
         requires placed { IsPlaced place.now.config.now place.now.number (N.state node.old) }
-        ensures takes { TakesAll Global place.now.config.now place.now.number places (N.state node.old) (N.state node.new) now (reception received buffer.old) result.heard result.outcome (O.seen outside.old) (O.seen outside.new) }
+        ensures takes { TakesAll Global place.now.config.now place.now.number places
+            (N.state node.old) (N.state node.new) now
+            (reception received buffer.old) result.heard result.outcome (O.seen outside.old)
+            (O.seen outside.new) }
         ensures placed { IsPlaced place.now.config.now place.now.number (N.state node.new) }
     {
         let (first, others) = hear_group(
@@ -80,7 +83,8 @@ impl Intake {
 
     /// Each act is told, in their order.
     pub(crate) fn tell<O: Endpoint + Lines>(&self, outside: &mut O)
-        ensures { TellsAll self.now.heard self.now.outcome (O.seen outside.old) (O.seen outside.new) }
+        ensures { TellsAll self.now.heard self.now.outcome (O.seen outside.old)
+            (O.seen outside.new) }
     {
         if let Some(first) = &self.first {
             first.tell(outside);
@@ -110,7 +114,8 @@ fn obey<N: Node>(
 ) -> Option<Result<Act, WorldFault>>
     requires bound { now ≤ max_moment }
     requires placed { IsPlaced place.now.config.now place.now.number (N.state node.old) }
-    ensures obeys { Obeys Global place.now.config.now place.now.number (N.state node.old) (N.state node.new) now order result }
+    ensures obeys { Obeys Global place.now.config.now place.now.number (N.state node.old)
+        (N.state node.new) now order result }
     ensures placed { IsPlaced place.now.config.now place.now.number (N.state node.new) }
 {
     match order {

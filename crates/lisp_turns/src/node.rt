@@ -35,12 +35,14 @@ pub trait Node {
     fn expire(&mut self, now: u64) -> Option<(RouterId, Prefix)>
         requires { now ≤ max_moment }
         ensures drops { IfSome result (λ row. DropsRow (state self.old) (state self.new) now row) }
-        ensures none { result ≡ None → NoneDead (state self.old) now × (state self.new ≡ state self.old) };
+        ensures none { result ≡ None → NoneDead (state self.old) now
+            × (state self.new ≡ state self.old) };
 
     /// It is given bytes that come from an address, at a moment.
     fn hear(&mut self, place: &Place, from: Addr, bytes: &[u8], now: u64) -> Act
         requires { IsPlaced place.now.config.now place.now.number (state self.old) }
-        ensures does { DoesOne Global place.now.config.now place.now.number (state self.old) (state self.new) now (events.Junk place.now.number from bytes.now) result }
+        ensures does { DoesOne Global place.now.config.now place.now.number (state self.old)
+            (state self.new) now (events.Junk place.now.number from bytes.now) result }
         ensures tells { MayTell ⟦<Global as Memory>⟧.may_refuse store_may_refuse result.line };
 
     /// It does what a user tells it, at a moment; a refusal of its core is a line. What keeps it from being told so changes nothing:
@@ -49,18 +51,26 @@ pub trait Node {
     fn obey(&mut self, place: &Place, order: Order, now: u64) -> Result<Act, WorldFault>
         requires bound { now ≤ max_moment }
         requires placed { IsPlaced place.now.config.now place.now.number (state self.old) }
-        ensures does { IfOk result (DoesOne Global place.now.config.now place.now.number (state self.old) (state self.new) now (event_of place.now.number order)) }
-        ensures fault { refusal_of result ≡ order_fault place.now.config.now (state self.old) order }
+        ensures does { IfOk result
+            (DoesOne Global place.now.config.now place.now.number (state self.old)
+            (state self.new) now (event_of place.now.number order)) }
+        ensures fault { refusal_of result
+            ≡ order_fault place.now.config.now (state self.old) order }
         ensures same { OnErr result (state self.new ≡ state self.old) }
-        ensures tells { IfOk result (λ act. MayTell ⟦<Global as Memory>⟧.may_refuse store_may_refuse act.line) };
+        ensures tells { IfOk result
+            (λ act. MayTell ⟦<Global as Memory>⟧.may_refuse store_may_refuse act.line) };
 
     /// It does what is due first at a moment: sends a Map-Register, or a notice again; `None` where nothing is due, and it is
     /// left unchanged. A Map-Register that it sent isn't due any more at that moment, and no other becomes so.
     fn serve(&mut self, place: &Place, now: u64) -> Option<Act>
         requires bound { now ≤ max_moment }
         requires placed { IsPlaced place.now.config.now place.now.number (state self.old) }
-        ensures does { IfSome result (DoesDuty Global place.now.config.now place.now.number (state self.old) (state self.new) now) }
-        ensures none { result ≡ None → (state self.new ≡ state self.old) × NothingDue (state self.old) now }
+        ensures does { IfSome result
+            (DoesDuty Global place.now.config.now place.now.number (state self.old)
+            (state self.new) now) }
+        ensures none { result ≡ None → (state self.new ≡ state self.old)
+            × NothingDue (state self.old) now }
         ensures placed { IsPlaced place.now.config.now place.now.number (state self.new) }
-        ensures tells { IfSome result (λ act. MayTell ⟦<Global as Memory>⟧.may_refuse store_may_refuse act.line) };
+        ensures tells { IfSome result
+            (λ act. MayTell ⟦<Global as Memory>⟧.may_refuse store_may_refuse act.line) };
 }

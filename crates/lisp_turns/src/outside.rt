@@ -80,19 +80,22 @@ pub trait Outside {
 pub trait Endpoint: Outside {
     /// The next datagram, taken into `buffer`; `Nothing` where none comes before its time limit.
     fn receive(&mut self, buffer: &mut [u8]) -> Received
-        ensures asked { Logs (Self.seen self.old) (Self.seen self.new) (Receives (reception result buffer.new)) }
+        ensures asked { Logs (Self.seen self.old) (Self.seen self.new)
+            (Receives (reception result buffer.new)) }
         ensures within { FitsBuffer result buffer.new }
         ensures room { length buffer.new ≡ length buffer.old };
 
     /// The next datagram that waits already, taken into `buffer`; `Nothing` where none does. It waits for none.
     fn poll(&mut self, buffer: &mut [u8]) -> Received
-        ensures asked { Logs (Self.seen self.old) (Self.seen self.new) (Polls (reception result buffer.new)) }
+        ensures asked { Logs (Self.seen self.old) (Self.seen self.new)
+            (Polls (reception result buffer.new)) }
         ensures within { FitsBuffer result buffer.new }
         ensures room { length buffer.new ≡ length buffer.old };
 
     /// Sends a message to an address; whether the socket took it.
     fn send(&mut self, to: &Addr, message: &[u8]) -> bool
-        ensures { Logs (Self.seen self.old) (Self.seen self.new) (Sends to.now message.now result) };
+        ensures { Logs (Self.seen self.old) (Self.seen self.new)
+            (Sends to.now message.now result) };
 }
 
 /// A node's clock.
@@ -133,5 +136,6 @@ pub trait Control: Outside {
 
     /// Answers the user, if there is one: what came of the order; or what was asked, by the node's core at a moment, in ms.
     fn answer(&mut self, core: NodeCore<'_>, now: u64, outcome: Option<Result<Line, WorldFault>>)
-        ensures { Logs (Self.seen self.old) (Self.seen self.new) (Answers (core_value core.entry) now outcome) };
+        ensures { Logs (Self.seen self.old) (Self.seen self.new)
+            (Answers (core_value core.entry) now outcome) };
 }

@@ -103,9 +103,12 @@ fn register<S: WorldStore>(
     requires placed { IsPlaced place.now.config.now place.now.number (RouterNodeOf router.old) }
     requires due { IsRegisterDue router.old due.server due.part now }
     requires server { due.server < length place.now.config.now.servers }
-    ensures does { IfSome result (DoesDuty Global place.now.config.now place.now.number (RouterNodeOf router.old) (RouterNodeOf router.new) now) }
+    ensures does { IfSome result
+        (DoesDuty Global place.now.config.now place.now.number (RouterNodeOf router.old)
+        (RouterNodeOf router.new) now) }
     ensures some { IsSome result }
-    ensures tells { IfSome result (λ act. MayTell ⟦<Global as Memory>⟧.may_refuse S.may_refuse act.line) }
+    ensures tells { IfSome result
+        (λ act. MayTell ⟦<Global as Memory>⟧.may_refuse S.may_refuse act.line) }
     ensures placed { IsPlaced place.now.config.now place.now.number (RouterNodeOf router.new) }
 {
     let answer = router.send(due.server, due.part, Fate::Done, now)?;
@@ -125,7 +128,8 @@ fn told(place: &Place, due: Due, answer: Result<Bytes, SendFault>) -> Act
 // Has the router register another database, where it is up.
 fn change<S: WorldStore>(router: &mut RouterNode<S>, place: &Place, db: Database, now: u64) -> Act
     requires placed { IsPlaced place.now.config.now place.now.number (RouterNodeOf router.old) }
-    ensures does { DoesOne Global place.now.config.now place.now.number (RouterNodeOf router.old) (RouterNodeOf router.new) now (events.Change place.now.number db) result }
+    ensures does { DoesOne Global place.now.config.now place.now.number (RouterNodeOf router.old)
+        (RouterNodeOf router.new) now (events.Change place.now.number db) result }
     ensures tells { MayTell ⟦<Global as Memory>⟧.may_refuse S.may_refuse result.line }
 {
     let records = db.records().len();
@@ -141,10 +145,13 @@ fn rotate<S: WorldStore>(
     now: u64,
 ) -> Result<Act, WorldFault>
     requires placed { IsPlaced place.now.config.now place.now.number (RouterNodeOf router.old) }
-    ensures does { IfOk result (DoesOne Global place.now.config.now place.now.number (RouterNodeOf router.old) (RouterNodeOf router.new) now (events.Rotate place.now.number key Done)) }
+    ensures does { IfOk result
+        (DoesOne Global place.now.config.now place.now.number (RouterNodeOf router.old)
+        (RouterNodeOf router.new) now (events.Rotate place.now.number key Done)) }
     ensures fault { refusal_of result ≡ rotate_fault place.now.config.now router.old key }
     ensures same { OnErr result (router.new ≡ router.old) }
-    ensures tells { IfOk result (λ act. MayTell ⟦<Global as Memory>⟧.may_refuse S.may_refuse act.line) }
+    ensures tells { IfOk result
+        (λ act. MayTell ⟦<Global as Memory>⟧.may_refuse S.may_refuse act.line) }
 {
     let Some(secret) = key_at(place.config.sites(), router.me().site, key) else {
         return Err(WorldFault::UnknownKey);

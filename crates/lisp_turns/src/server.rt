@@ -75,7 +75,9 @@ fn resend<S: WorldStore>(
     requires bound { now ≤ max_moment }
     requires placed { IsPlaced place.now.config.now place.now.number (ServerNodeOf server.old) }
     requires due { is_due_at now (notice_at server.old.core.notices router.now) ≡ true }
-    ensures does { DoesOne Global place.now.config.now place.now.number (ServerNodeOf server.old) (ServerNodeOf server.new) now (events.Resend place.now.number (number_of place.now.config.now router.now)) result }
+    ensures does { DoesOne Global place.now.config.now place.now.number (ServerNodeOf server.old)
+        (ServerNodeOf server.new) now
+        (events.Resend place.now.number (number_of place.now.config.now router.now)) result }
     ensures tells { MayTell ⟦<Global as Memory>⟧.may_refuse S.may_refuse result.line }
 {
     let answer = server.resend(router, now);
@@ -102,7 +104,8 @@ fn notify<S: WorldStore>(
     requires placed { IsPlaced place.now.config.now place.now.number (ServerNodeOf server.old) }
     requires router { is_router place.now.config.now router ≡ true }
     requires me { me.now ≡ (router_at place.now.config.now router).me }
-    ensures does { DoesOne Global place.now.config.now place.now.number (ServerNodeOf server.old) (ServerNodeOf server.new) now (events.Notice place.now.number router Done) result }
+    ensures does { DoesOne Global place.now.config.now place.now.number (ServerNodeOf server.old)
+        (ServerNodeOf server.new) now (events.Notice place.now.number router Done) result }
     ensures tells { MayTell ⟦<Global as Memory>⟧.may_refuse S.may_refuse result.line }
 {
     let answer = server.notify(Fate::Done, me, now);

@@ -56,8 +56,10 @@ pub fn take_turns<N: Node, O: Endpoint + Clock + Commit + Lines + Control>(
     outside: &mut O,
 ) -> Result<(), Uncommitted>
     requires { IsPlaced place.now.config.now place.now.number (N.state node.old) }
-    ensures turns { EndsTurns Global place.now.config.now place.now.number places turns (N.state node.old) (N.state node.new) (O.seen outside.old) (O.seen outside.new) result }
-    ensures part { RunsAsPart place.now.config.now place.now.number (N.state node.old) (O.seen outside.old) (O.seen outside.new) result }
+    ensures turns { EndsTurns Global place.now.config.now place.now.number places turns
+        (N.state node.old) (N.state node.new) (O.seen outside.old) (O.seen outside.new) result }
+    ensures part { RunsAsPart place.now.config.now place.now.number (N.state node.old)
+        (O.seen outside.old) (O.seen outside.new) result }
     ensures placed { IsPlaced place.now.config.now place.now.number (N.state node.new) }
 {
     let mut station = Station {
@@ -89,8 +91,11 @@ fn turn<N: Node, O: Endpoint + Clock + Commit + Lines + Control>(
     outside: &mut O,
 ) -> bool
     requires { IsPlaced station.old.place.config.now station.old.place.number (N.state node.old) }
-    ensures turn { EndsTurn Global station.old.place.config.now station.old.place.number station.old.places (at_station (N.state node.old) station.old (O.seen outside.old)) (at_station (N.state node.new) station.new (O.seen outside.new)) result }
-    ensures placed { IsPlaced station.old.place.config.now station.old.place.number (N.state node.new) }
+    ensures turn { EndsTurn Global station.old.place.config.now station.old.place.number
+        station.old.places (at_station (N.state node.old) station.old (O.seen outside.old))
+        (at_station (N.state node.new) station.new (O.seen outside.new)) result }
+    ensures placed { IsPlaced station.old.place.config.now station.old.place.number
+        (N.state node.new) }
     ensures place { station.new.place ≡ station.old.place }
     ensures places { station.new.places ≡ station.old.places }
 {
@@ -109,7 +114,8 @@ fn turn<N: Node, O: Endpoint + Clock + Commit + Lines + Control>(
 // Time passes, and each row that dies is told.
 fn expire<N: Node, O: Lines>(node: &mut N, now: u64, outside: &mut O)
     requires { now ≤ max_moment }
-    ensures { Expires (N.state node.old) (N.state node.new) now (O.seen outside.old) (O.seen outside.new) }
+    ensures { Expires (N.state node.old) (N.state node.new) now (O.seen outside.old)
+        (O.seen outside.new) }
 {
     while let Some((router, eid)) = node.expire(now) {
         outside.print(&Printed::Expired { router, eid });
@@ -138,9 +144,14 @@ fn take_in<N: Node, O: Endpoint + Commit + Lines + Control>(
 ) -> bool
     requires bound { now ≤ max_moment }
     requires within { FitsBuffer received buffer.old }
-    requires placed { IsPlaced station.old.place.config.now station.old.place.number (N.state node.old) }
-    ensures takes { TakesIn Global station.old.place.config.now station.old.place.number station.old.places (N.state node.old) (N.state node.new) now (reception received buffer.old) station.old.receives station.new.receives (O.seen outside.old) (O.seen outside.new) result }
-    ensures placed { IsPlaced station.old.place.config.now station.old.place.number (N.state node.new) }
+    requires placed { IsPlaced station.old.place.config.now station.old.place.number
+        (N.state node.old) }
+    ensures takes { TakesIn Global station.old.place.config.now station.old.place.number
+        station.old.places (N.state node.old) (N.state node.new) now
+        (reception received buffer.old) station.old.receives station.new.receives
+        (O.seen outside.old) (O.seen outside.new) result }
+    ensures placed { IsPlaced station.old.place.config.now station.old.place.number
+        (N.state node.new) }
     ensures place { station.new.place ≡ station.old.place }
     ensures places { station.new.places ≡ station.old.places }
     ensures sends { station.new.sends ≡ station.old.sends }
@@ -160,8 +171,11 @@ fn take_in<N: Node, O: Endpoint + Commit + Lines + Control>(
 // A socket that failed is told, once a minute.
 fn tell_failure<O: Lines>(received: Received, receives: &mut Pause, now: u64, outside: &mut O)
     requires { now ≤ max_moment }
-    ensures pause { (buffer : List ℕ) → receives.new ≡ receives_after (reception received buffer) receives.old now }
-    ensures told { (buffer : List ℕ) → Asks (O.seen outside.old) (O.seen outside.new) (failure_calls (reception received buffer) receives.old now) }
+    ensures pause { (buffer : List ℕ)
+        → receives.new ≡ receives_after (reception received buffer) receives.old now }
+    ensures told { (buffer : List ℕ)
+        → Asks (O.seen outside.old) (O.seen outside.new)
+        (failure_calls (reception received buffer) receives.old now) }
 {
     if let Received::Failed = received {
         if receives.fail(now) {
@@ -178,9 +192,13 @@ fn serve_due<N: Node, O: Endpoint + Lines>(
     outside: &mut O,
 )
     requires bound { now ≤ max_moment }
-    requires placed { IsPlaced station.old.place.config.now station.old.place.number (N.state node.old) }
-    ensures serves { ServesDue Global station.old.place.config.now station.old.place.number (N.state node.old) (N.state node.new) now station.old.sends station.new.sends (O.seen outside.old) (O.seen outside.new) }
-    ensures placed { IsPlaced station.old.place.config.now station.old.place.number (N.state node.new) }
+    requires placed { IsPlaced station.old.place.config.now station.old.place.number
+        (N.state node.old) }
+    ensures serves { ServesDue Global station.old.place.config.now station.old.place.number
+        (N.state node.old) (N.state node.new) now station.old.sends station.new.sends
+        (O.seen outside.old) (O.seen outside.new) }
+    ensures placed { IsPlaced station.old.place.config.now station.old.place.number
+        (N.state node.new) }
     ensures place { station.new.place ≡ station.old.place }
     ensures places { station.new.places ≡ station.old.places }
     ensures receives { station.new.receives ≡ station.old.receives }
@@ -198,9 +216,13 @@ fn serve_all<N: Node, O: Endpoint + Lines>(
     outside: &mut O,
 )
     requires bound { now ≤ max_moment }
-    requires placed { IsPlaced station.old.place.config.now station.old.place.number (N.state node.old) }
-    ensures serves { ServesAll Global station.old.place.config.now station.old.place.number (N.state node.old) (N.state node.new) now station.old.sends station.new.sends (O.seen outside.old) (O.seen outside.new) }
-    ensures placed { IsPlaced station.old.place.config.now station.old.place.number (N.state node.new) }
+    requires placed { IsPlaced station.old.place.config.now station.old.place.number
+        (N.state node.old) }
+    ensures serves { ServesAll Global station.old.place.config.now station.old.place.number
+        (N.state node.old) (N.state node.new) now station.old.sends station.new.sends
+        (O.seen outside.old) (O.seen outside.new) }
+    ensures placed { IsPlaced station.old.place.config.now station.old.place.number
+        (N.state node.new) }
     ensures place { station.new.place ≡ station.old.place }
     ensures places { station.new.places ≡ station.old.places }
     ensures receives { station.new.receives ≡ station.old.receives }
@@ -221,7 +243,8 @@ fn serve_all<N: Node, O: Endpoint + Lines>(
 
 // After a socket failed, a second passes.
 fn rest<O: Clock>(received: Received, outside: &mut O)
-    ensures { (buffer : List ℕ) → Asks (O.seen outside.old) (O.seen outside.new) (rest_calls (reception received buffer)) }
+    ensures { (buffer : List ℕ)
+        → Asks (O.seen outside.old) (O.seen outside.new) (rest_calls (reception received buffer)) }
 {
     if let Received::Failed = received {
         outside.wait(RETRY_MS);

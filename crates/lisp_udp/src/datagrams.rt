@@ -73,7 +73,8 @@ impl<'a> Sockets<'a, NodeSocket> {
     // A socket at the address of the node with a number, too. Faults: 92, 97.
     fn add<R: Net>(&mut self, rt: &R, config: &'a Config, number: usize) -> Result<(), RunFault>
         requires { IsNode config.now number }
-        ensures { OnOk result ((s : SocketValue) × IsSocketAt config.now number s × (self.new.sockets.items ≡ self.old.sockets.items ++ s ∷ [])) }
+        ensures { OnOk result ((s : SocketValue) × IsSocketAt config.now number s
+            × (self.new.sockets.items ≡ self.old.sockets.items ++ s ∷ [])) }
     {
         let NodeEntry { name, address } = entry_at(config, number);
         let socket = NodeSocket::bind(rt, address, RECEIVE_TIMEOUT_MS)?;
@@ -97,8 +98,12 @@ impl<E: Endpoint> Sockets<'_, E> {
         datagram: &Datagram,
         writer: &mut W,
     ) -> Result<bool, RunFault>
-        ensures told { IfOk result (λ arrived. WritesTold W.contents writer.old writer.new (TellsArrival self.old.sockets.items self.new.sockets.items k datagram.now arrived)) }
-        ensures cut { OnErr result (CutsTold W.contents writer.old writer.new (TellsArrival self.old.sockets.items self.new.sockets.items k datagram.now false)) }
+        ensures told { IfOk result
+            (λ arrived. WritesTold W.contents writer.old writer.new
+            (TellsArrival self.old.sockets.items self.new.sockets.items k datagram.now arrived)) }
+        ensures cut { OnErr result
+            (CutsTold W.contents writer.old writer.new
+            (TellsArrival self.old.sockets.items self.new.sockets.items k datagram.now false)) }
     {
         let Some(at) = self.place_of(&datagram.to) else {
             return Ok(true);
@@ -113,8 +118,12 @@ impl<E: Endpoint> Sockets<'_, E> {
         datagram: &Datagram,
         writer: &mut W,
     ) -> Result<(), RunFault>
-        ensures told { OnOk result (WritesTold W.contents writer.old writer.new (SendsOne self.old.sockets.items self.new.sockets.items datagram.now)) }
-        ensures cut { OnErr result (CutsTold W.contents writer.old writer.new (SendsOne self.old.sockets.items self.new.sockets.items datagram.now)) }
+        ensures told { OnOk result
+            (WritesTold W.contents writer.old writer.new
+            (SendsOne self.old.sockets.items self.new.sockets.items datagram.now)) }
+        ensures cut { OnErr result
+            (CutsTold W.contents writer.old writer.new
+            (SendsOne self.old.sockets.items self.new.sockets.items datagram.now)) }
     {
         let Some(_) = self.place_of(&datagram.to) else {
             return Ok(());
@@ -164,8 +173,12 @@ fn arrives_at<E: Endpoint, W: Write>(
     datagram: &Datagram,
     writer: &mut W,
 ) -> Result<bool, RunFault>
-    ensures told { IfOk result (λ arrived. WritesTold W.contents writer.old writer.new (ArrivesAt socket.old socket.new k datagram.now.bytes arrived)) }
-    ensures cut { OnErr result (CutsTold W.contents writer.old writer.new (ArrivesAt socket.old socket.new k datagram.now.bytes false)) }
+    ensures told { IfOk result
+        (λ arrived. WritesTold W.contents writer.old writer.new
+        (ArrivesAt socket.old socket.new k datagram.now.bytes arrived)) }
+    ensures cut { OnErr result
+        (CutsTold W.contents writer.old writer.new
+        (ArrivesAt socket.old socket.new k datagram.now.bytes false)) }
 {
     match next_is(socket, datagram) {
         Arrival::Arrived => return Ok(true),
@@ -177,7 +190,8 @@ fn arrives_at<E: Endpoint, W: Write>(
 
 // Whether the next datagram at a socket is this one.
 fn next_is<E: Endpoint>(socket: &mut NamedSocket<'_, E>, datagram: &Datagram) -> Arrival
-    ensures { (reception : Reception) × Asks socket.old socket.new (Receives reception) × IsArrival datagram.now.bytes reception result }
+    ensures { (reception : Reception) × Asks socket.old socket.new (Receives reception)
+        × IsArrival datagram.now.bytes reception result }
 {
     let mut buffer = [0; MOST_BYTES];
     let received = socket.socket.receive(&mut buffer);
@@ -213,8 +227,10 @@ fn send_from<E: Endpoint, W: Write>(
     datagram: &Datagram,
     writer: &mut W,
 ) -> Result<(), RunFault>
-    ensures told { OnOk result (WritesTold W.contents writer.old writer.new (SendsAt socket.old socket.new datagram.now)) }
-    ensures cut { OnErr result (CutsTold W.contents writer.old writer.new (SendsAt socket.old socket.new datagram.now)) }
+    ensures told { OnOk result
+        (WritesTold W.contents writer.old writer.new (SendsAt socket.old socket.new datagram.now)) }
+    ensures cut { OnErr result
+        (CutsTold W.contents writer.old writer.new (SendsAt socket.old socket.new datagram.now)) }
 {
     if socket.socket.send(&datagram.to, datagram.bytes.as_slice()) {
         return Ok(());

@@ -185,7 +185,8 @@ impl<R: std::time::Clock, T: SystemTable, P: Printer> Endpoint for Devices<'_, R
 impl<R: std::time::Clock, T: SystemTable, P: Printer> Commit for Devices<'_, R, T, P> {
     /// Does nothing where each save is committed by itself. A commit of a group is timed as a save.
     fn commit(&mut self) -> bool
-        ensures logs { Logs (⟦<Self as Outside>⟧.seen self.old) (⟦<Self as Outside>⟧.seen self.new) (Commits result) }
+        ensures logs { Logs (⟦<Self as Outside>⟧.seen self.old) (⟦<Self as Outside>⟧.seen self.new)
+            (Commits result) }
         ensures group { IfSome self.old.group (λ group. IsTrue result → SomeIsDone T.Table.means) }
     {
         let Some(group) = &self.group else {
@@ -243,9 +244,14 @@ impl<R: std::time::Clock, T, P: Printer> Clock for Devices<'_, R, T, P> {
 
 impl<R, T, P: Printer> Lines for Devices<'_, R, T, P> {
     fn print(&mut self, line: &Printed)
-        ensures logs { LogsLine (⟦<Self as Outside>⟧.seen self.old) (⟦<Self as Outside>⟧.seen self.new) line.now }
-        ensures counts { CountsLine ⟦<LineKind as Ord>⟧.cmp ⟦<Global as Memory>⟧.may_refuse self.old.statistics self.new.statistics (kind_of line.now) }
-        ensures hears { HearsLine router_cmp ⟦<Global as Memory>⟧.may_refuse self.old.statistics self.new.statistics (heard_in line.now (moment_of self.old.stopwatch.last)) }
+        ensures logs { LogsLine (⟦<Self as Outside>⟧.seen self.old)
+            (⟦<Self as Outside>⟧.seen self.new) line.now }
+        ensures counts { CountsLine ⟦<LineKind as Ord>⟧.cmp
+            ⟦<Global as Memory>⟧.may_refuse self.old.statistics self.new.statistics
+            (kind_of line.now) }
+        ensures hears { HearsLine router_cmp
+            ⟦<Global as Memory>⟧.may_refuse self.old.statistics self.new.statistics
+            (heard_in line.now (moment_of self.old.stopwatch.last)) }
     {
         let now = self.stopwatch.told();
         self.statistics.tell(line, now);

@@ -28,7 +28,8 @@ impl<'a, T: SystemTable> Group<'a, T> {
         places: u8,
         database: &'a SharedDatabase<'a, T>,
     ) -> Result<Group<'a, T>, AllocError>
-        ensures { IfOk result (λ g. g.queue ≡ record { waiting = []; taken = []; places = places }) }
+        ensures { IfOk result (λ g. g.queue
+            ≡ record { waiting = []; taken = []; places = places }) }
     {
         Ok(Group {
             queue: Queue::new(alloc, places)?,

@@ -39,7 +39,8 @@ impl<'a> Journal<'a> {
         pairs: usize,
         store_failure: &'a Cell<Option<ErrorKind>>,
     ) -> Result<Journal<'a>, RunFault>
-        ensures { IfOk result (λ journal. journal.log ≡ begins config.now name.now servers.now pairs) }
+        ensures { IfOk result (λ journal. journal.log
+            ≡ begins config.now name.now servers.now pairs) }
     {
         Ok(Journal {
             alloc: rt.alloc(),
@@ -74,7 +75,8 @@ impl Printer for Journal<'_> {
     }
 
     fn print(&mut self, line: &Printed, failure: Option<ErrorKind>, now: u64)
-        ensures { TellsAndPours ⟦<Global as Memory>⟧.may_refuse self.old.log self.new.log line.now now }
+        ensures { TellsAndPours
+            ⟦<Global as Memory>⟧.may_refuse self.old.log self.new.log line.now now }
     {
         let cause = self.cause(line, failure);
         let cause = cause.as_ref().map(|word| word.as_str());

@@ -37,7 +37,8 @@ pub(crate) fn run_over<S: WorldStore + Drop, O: Endpoint + Clock + Commit + Line
 ) -> Result<Life<O>, RunFault>
     requires { IsNode config.now number }
     ensures part { RunsOver O.seen config.now number (S.seen store) outside result }
-    ensures turns { TakesItsTurns Global O.seen config.now number (S.seen store) places turns outside result }
+    ensures turns { TakesItsTurns Global O.seen config.now number
+        (S.seen store) places turns outside result }
     ensures device { IfErr outside (λ fault. IsErr result) }
 {
     if number < config.servers().len() {
@@ -60,8 +61,12 @@ fn run_at<N: Node + Drop, O: Endpoint + Clock + Commit + Lines + Control + Drop>
     outside: Result<O, RunFault>,
 ) -> Result<Life<O>, RunFault>
     requires { IfOk node (λ n. IsPlaced config.now number (N.state n)) }
-    ensures part { (store : StoreState) → IfOk node (λ n. Begins config.now number store (N.state n)) → RunsOver O.seen config.now number store outside result }
-    ensures turns { (store : StoreState) → IfOk node (λ n. Begins config.now number store (N.state n)) → TakesItsTurns Global O.seen config.now number store places turns outside result }
+    ensures part { (store : StoreState)
+        → IfOk node (λ n. Begins config.now number store (N.state n))
+        → RunsOver O.seen config.now number store outside result }
+    ensures turns { (store : StoreState)
+        → IfOk node (λ n. Begins config.now number store (N.state n))
+        → TakesItsTurns Global O.seen config.now number store places turns outside result }
     ensures start { IfErr node (λ fault. result ≡ Err fault) }
     ensures device { OnOk node (IfErr outside (λ fault. result ≡ Err fault)) }
 {

@@ -29,7 +29,9 @@ pub(crate) fn live<T: SystemTable, O: Endpoint + Clock + Commit + Lines + Contro
     outside: Result<O, RunFault>,
 ) -> Result<O, RunFault>
     requires { IsMapServer config.now number }
-    ensures { IfOk outside (λ before. IfOk result (λ after. Lives Global config.now number shared_store places turns (O.seen before) (O.seen after))) }
+    ensures { IfOk outside (λ before. IfOk result
+        (λ after. Lives Global config.now number shared_store places turns (O.seen before)
+        (O.seen after))) }
 {
     let store = database.store();
     let mut life = run_over(alloc, config, number, store, places, turns, outside)?;

@@ -164,8 +164,12 @@ struct RunningNetwork<'a, S: WorldStore, E: Endpoint> {
 impl<S: WorldStore + Drop, E: Endpoint> RunningNetwork<'_, S, E> {
     // Takes the commands, one after the other.
     fn run<W: Write>(&mut self, commands: &[Command], writer: &mut W) -> Result<(), RunFault>
-        ensures { OnOk result (TakesAll (λ old new orders. Wrote Global ⟦<Global as Memory>⟧.may_refuse S.may_refuse old new self.old.config.now orders)
-            self.old.world self.new.world self.old.sockets.sockets.items self.new.sockets.sockets.items (map command_value commands.now) (W.contents writer.old) (W.contents writer.new)) }
+        ensures { OnOk result (TakesAll
+            (λ old new orders. Wrote Global
+            ⟦<Global as Memory>⟧.may_refuse S.may_refuse old new self.old.config.now orders)
+            self.old.world self.new.world self.old.sockets.sockets.items
+            self.new.sockets.sockets.items (map command_value commands.now) (W.contents writer.old)
+            (W.contents writer.new)) }
     {
         for at in 0..commands.len() {
             self.take(&commands[at..at + 1], writer)?;
@@ -176,8 +180,13 @@ impl<S: WorldStore + Drop, E: Endpoint> RunningNetwork<'_, S, E> {
     // Takes a command, which stands alone in the list, if it waits for no datagram or that arrives, and sends what it adds to
     // the datagrams.
     fn take<W: Write>(&mut self, command: &[Command], writer: &mut W) -> Result<(), RunFault>
-        ensures takes { OnOk result (TakesCommand (Wrote Global ⟦<Global as Memory>⟧.may_refuse S.may_refuse self.old.world self.new.world self.old.config.now (map command_value command.now))
-            self.old.world self.new.world self.old.sockets.sockets.items self.new.sockets.sockets.items (map command_value command.now) (W.contents writer.old) (W.contents writer.new)) }
+        ensures takes { OnOk result
+            (TakesCommand (Wrote Global
+            ⟦<Global as Memory>⟧.may_refuse S.may_refuse self.old.world self.new.world
+            self.old.config.now (map command_value command.now))
+            self.old.world self.new.world self.old.sockets.sockets.items
+            self.new.sockets.sockets.items (map command_value command.now) (W.contents writer.old)
+            (W.contents writer.new)) }
         ensures config { self.new.config ≡ self.old.config }
     {
         if !arrives(self.alloc, &self.world, command, &mut self.sockets, writer)? {
@@ -199,7 +208,9 @@ fn arrives<S: WorldStore, E: Endpoint, W: Write>(
     sockets: &mut Sockets<'_, E>,
     writer: &mut W,
 ) -> Result<bool, RunFault>
-    ensures { IfOk result (λ arrived. WritesTold W.contents writer.old writer.new (TellsAwaited (awaited world.now (map command_value command.now)) sockets.old.sockets.items sockets.new.sockets.items arrived)) }
+    ensures { IfOk result (λ arrived. WritesTold W.contents writer.old writer.new
+        (TellsAwaited (awaited world.now (map command_value command.now)) sockets.old.sockets.items
+        sockets.new.sockets.items arrived)) }
 {
     let Some(Command::Act(Event::Deliver { k, .. })) = command.first() else {
         return Ok(true);
@@ -218,7 +229,8 @@ fn send_from<S: WorldStore, E: Endpoint, W: Write>(
     sockets: &mut Sockets<'_, E>,
     writer: &mut W,
 ) -> Result<(), RunFault>
-    ensures { OnOk result (SendsAll sockets.old.sockets.items sockets.new.sockets.items (drop first world.now.bag) (W.contents writer.old) (W.contents writer.new)) }
+    ensures { OnOk result (SendsAll sockets.old.sockets.items sockets.new.sockets.items
+        (drop first world.now.bag) (W.contents writer.old) (W.contents writer.new)) }
 {
     for k in first..world.sent() {
         if let Some(datagram) = world.datagram(k) {

@@ -23,8 +23,10 @@ pub(crate) fn print_line<W: Write>(
     line: &Printed,
     writer: &mut W,
 ) -> Result<(), RunFault>
-    ensures text { Writes result W.contents writer.old writer.new (printed_text config.now name.now line.now) }
-    ensures some { WritesSome result W.contents writer.old writer.new (printed_text config.now name.now line.now) }
+    ensures text { Writes result W.contents writer.old writer.new
+        (printed_text config.now name.now line.now) }
+    ensures some { WritesSome result W.contents writer.old writer.new
+        (printed_text config.now name.now line.now) }
     ensures fault { IfErr result (λ fault. IsPrintingFault fault) }
 {
     let text = printed_text(alloc, config, name, line)?;

@@ -13,7 +13,8 @@ use lisp_records::Addr;
 impl<S: WorldStore, A: Memory + Copy> World<S, A> {
     // Bytes that no node sent arrive at a node, as if they came from an address.
     pub(crate) fn junk(&mut self, to: usize, from: Addr, bytes: &[u8]) -> Result<Line, WorldFault>
-        ensures { Takes A.may_refuse S.may_refuse self.old self.new (Junk to from bytes.now) result }
+        ensures { Takes A.may_refuse S.may_refuse self.old self.new
+            (Junk to from bytes.now) result }
     {
         self.check_node(to)?;
         self.bag.make_room(1)?;

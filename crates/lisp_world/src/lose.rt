@@ -25,7 +25,8 @@ impl<S: WorldStore, A: Memory + Copy> World<S, A> {
         key: u8,
         db: &Option<Database<E>>,
     ) -> Result<Line, WorldFault>
-        ensures { Takes A.may_refuse S.may_refuse self.old self.new (Lose router key db.now) result }
+        ensures { Takes A.may_refuse S.may_refuse self.old self.new
+            (Lose router key db.now) result }
     {
         let (place, secret) = self.place_and_key(router, key)?;
         if used_ever(&self.routers[place], key) {

@@ -197,7 +197,9 @@ where
     S: Drop,
     requires addresses { addresses.now ≡ addresses_of config.now }
     requires left { HasNodeLeft config.now servers.old.items routers.old.items }
-    ensures added { OnOk result (AddsNode config.now (S.seen store) servers.old.items servers.new.items routers.old.items routers.new.items) }
+    ensures added { OnOk result
+        (AddsNode config.now (S.seen store) servers.old.items servers.new.items routers.old.items
+        routers.new.items) }
     ensures memory { OnErr result A.may_refuse }
 {
     if servers.len() < config.servers().len() {
@@ -369,7 +371,8 @@ fn start_all<S: WorldStore, A: Memory + Copy>(
 ) -> Result<(), WorldFault>
     requires { first + length routers.old < 2 ^ 64 }
     ensures started { OnOk result (HaveStarted routers.old routers.new) }
-    ensures faults { IfErr result (IsStartFault first routers.old routers.new A.may_refuse S.may_refuse) }
+    ensures faults { IfErr result
+        (IsStartFault first routers.old routers.new A.may_refuse S.may_refuse) }
 {
     for i in 0..routers.len() {
         if let Err(fault) = start(alloc, &mut routers[i]) {

@@ -24,7 +24,8 @@ impl<S: WorldStore, A: Memory + Copy> World<S, A> {
         router: usize,
         fate: Fate,
     ) -> Result<Line, WorldFault>
-        ensures { Takes A.may_refuse S.may_refuse self.old self.new (Notice server router fate) result }
+        ensures { Takes A.may_refuse S.may_refuse self.old self.new
+            (Notice server router fate) result }
     {
         let place = self.place_beside(server, router);
         let place = with_room(&mut self.bag, place)?;

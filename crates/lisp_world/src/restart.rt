@@ -24,7 +24,8 @@ impl<S: WorldStore, A: Memory + Copy> World<S, A> {
         pick: u64,
         db: &Option<Database<E>>,
     ) -> Result<Line, WorldFault>
-        ensures { Takes A.may_refuse S.may_refuse self.old self.new (Restart node pick db.now) result }
+        ensures { Takes A.may_refuse S.may_refuse self.old self.new
+            (Restart node pick db.now) result }
     {
         self.check_restart(node, db)?;
         if self.is_server(node) {

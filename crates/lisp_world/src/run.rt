@@ -22,7 +22,8 @@ impl<S: WorldStore, A: Memory + Copy> World<S, A> {
         events: &[Event<E>],
         lines: &mut Vec<Line, A>,
     ) -> Result<(), (usize, WorldFault)>
-        ensures runs { Runs A.may_refuse S.may_refuse self.old self.new lines.old.items lines.new.items events.now result }
+        ensures runs { Runs A.may_refuse S.may_refuse self.old self.new lines.old.items
+            lines.new.items events.now result }
         ensures headline { Promises self.new }
         ensures memory { IfErr result (λ at. at.1 ≡ OutOfMemory → A.may_refuse) }
         ensures calm { AllCalm (stores_of self.old) → AllCalm (stores_of self.new) }

@@ -25,7 +25,8 @@ impl<S: WorldStore, A: Memory + Copy> World<S, A> {
         part: usize,
         fate: Fate,
     ) -> Result<Line, WorldFault>
-        ensures { Takes A.may_refuse S.may_refuse self.old self.new (Send router server part fate) result }
+        ensures { Takes A.may_refuse S.may_refuse self.old self.new
+            (Send router server part fate) result }
     {
         let place = self.place_beside(server, router);
         let place = with_room(&mut self.bag, place)?;

@@ -231,8 +231,10 @@ fn answer<R: Files + Net + AllocGlobal>(rt: &R, path: &str, question: &str) -> i
 // what it is told ends the program.
 fn print_answer<W: Write>(errand: Errand, answer: &str, writer: &mut W) -> Result<(), ProgramFault>
     ensures fault { EndsAtFault answer.now result }
-    ensures refusal { EndsAtRefusal errand answer.now (W.contents writer.old) (W.contents writer.new) result }
-    ensures refused { IfErr result (λ fault. (number : ℕ) → fault ≡ Refused number → TellsRefusal errand answer.now number) }
+    ensures refusal { EndsAtRefusal errand answer.now (W.contents writer.old)
+        (W.contents writer.new) result }
+    ensures refused { IfErr result (λ fault. (number : ℕ) → fault ≡ Refused number
+        → TellsRefusal errand answer.now number) }
 {
     let Some(lines) = answer.strip_suffix('\n') else {
         return Err(ProgramFault::Unanswered);

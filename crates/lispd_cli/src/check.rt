@@ -150,7 +150,8 @@ fn print_checked<W: Write>(
     config: &Config,
     writer: &mut W,
 ) -> Result<bool, InputFault>
-    ensures { IfOk result (Warns config.now document.now.text source.now.is_open_to_others path.now W.contents writer.old writer.new) }
+    ensures { IfOk result (Warns config.now document.now.text source.now.is_open_to_others path.now
+        W.contents writer.old writer.new) }
 {
     let lines = warning_words(alloc, source, document, unknown, config)?;
     print_config(alloc, config, writer)?;
@@ -166,7 +167,8 @@ fn print_warnings<W: Write>(
     warnings: &[String],
     writer: &mut W,
 ) -> Result<(), InputFault>
-    ensures { Writes result W.contents writer.old writer.new (warning_lines path.now (map string_bytes warnings.now)) }
+    ensures { Writes result W.contents writer.old writer.new
+        (warning_lines path.now (map string_bytes warnings.now)) }
 {
     for words in warnings {
         print(warning_of(alloc, path, words), writer)?;
@@ -245,7 +247,8 @@ fn add_warnings(
     config: &Config,
     warnings: &[Warning],
 ) -> Result<(), AllocError>
-    ensures { AddsLined result document.now.text all.old all.new (map (warning_text config.now) warnings.now) }
+    ensures { AddsLined result document.now.text all.old all.new
+        (map (warning_text config.now) warnings.now) }
 {
     for warning in warnings {
         let line = entry_line(document, warning_place(config, *warning));

@@ -23,7 +23,8 @@ pub(crate) fn explain_line<W: Write>(
     words: &[&str],
     writer: &mut W,
 ) -> Result<(), ProgramFault>
-    ensures ok { OnOk result (ExplainsLine (texts words.now) (W.contents writer.old) (W.contents writer.new)) }
+    ensures ok { OnOk result
+        (ExplainsLine (texts words.now) (W.contents writer.old) (W.contents writer.new)) }
     ensures unknown { IsErrOf result unknown → explained_of (texts words.now) ≡ None }
     ensures write { IsErrOf result unwritten → IsSome (explained_of (texts words.now)) }
     ensures memory { IsErrOf result out_of_memory → ⟦<Global as Memory>⟧.may_refuse }
@@ -37,7 +38,8 @@ pub(crate) fn explain_line<W: Write>(
 
 // The numbers that are explained of the words; `None` where one is that of nothing, or they are no line.
 fn explained_of(alloc: Global, words: &[&str]) -> Result<Option<Vec<u16>>, AllocError>
-    ensures numbers { IfOk result (λ found. option_map (λ numbers. numbers.items) found ≡ explained_of (texts words.now)) }
+    ensures numbers { IfOk result
+        (λ found. option_map (λ numbers. numbers.items) found ≡ explained_of (texts words.now)) }
     ensures memory { OnErr result ⟦<Global as Memory>⟧.may_refuse }
 {
     let line = line_of(alloc, words)?;
@@ -60,7 +62,8 @@ fn are_known(numbers: &[u16]) -> bool
 
 // Writes the explanations of known numbers, one after the other: then only writing fails.
 fn explain_each<W: Write>(numbers: &[u16], writer: &mut W) -> Result<(), ProgramFault>
-    ensures ok { OnOk result (ExplainsEach numbers.now (W.contents writer.old) (W.contents writer.new)) }
+    ensures ok { OnOk result
+        (ExplainsEach numbers.now (W.contents writer.old) (W.contents writer.new)) }
     ensures fault { IfErr result (λ fault. fault ≡ unwritten) }
 {
     for number in numbers {

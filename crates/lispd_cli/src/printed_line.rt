@@ -17,7 +17,8 @@ pub(crate) fn numbers_of<A: Memory + Copy>(
     alloc: A,
     words: &[&str],
 ) -> Result<Option<Vec<u16, A>>, AllocError>
-    ensures numbers { IfOk result (λ found. option_map (λ numbers. numbers.items) found ≡ numbers_of (texts words.now)) }
+    ensures numbers { IfOk result
+        (λ found. option_map (λ numbers. numbers.items) found ≡ numbers_of (texts words.now)) }
     ensures memory { OnErr result A.may_refuse }
 {
     match with_carried(alloc, numbered(words))? {
@@ -31,7 +32,9 @@ fn with_carried<A: Memory>(
     alloc: A,
     line: Option<(u16, &[&str])>,
 ) -> Result<Option<Vec<u16, A>>, AllocError>
-    ensures numbers { IfOk result (λ found. option_map (λ numbers. numbers.items) found ≡ with_carried (option_map (λ l. (l.0, texts l.1.now)) line.entry)) }
+    ensures numbers { IfOk result
+        (λ found. option_map (λ numbers. numbers.items) found
+        ≡ with_carried (option_map (λ l. (l.0, texts l.1.now)) line.entry)) }
     ensures memory { OnErr result A.may_refuse }
 {
     let Some((number, words)) = line else {
@@ -48,7 +51,9 @@ fn with_carried<A: Memory>(
 
 // Adds the faults that the words behind a number carry; whether they are words of a line.
 fn add_carried<A: Memory>(numbers: &mut Vec<u16, A>, words: &[&str]) -> Result<bool, AllocError>
-    ensures numbers { IfOk result (λ read. read_as read numbers.new.items ≡ both (Some numbers.old.items) (carried_by (texts words.now))) }
+    ensures numbers { IfOk result
+        (λ read. read_as read numbers.new.items
+        ≡ both (Some numbers.old.items) (carried_by (texts words.now))) }
     ensures memory { OnErr result A.may_refuse }
 {
     let mut name = None;
@@ -79,7 +84,9 @@ fn add_told<A: Memory>(
     word: &str,
     value: &str,
 ) -> Result<bool, AllocError>
-    ensures numbers { IfOk result (λ read. read_as read numbers.new.items ≡ both (Some numbers.old.items) (told_by word.now value.now)) }
+    ensures numbers { IfOk result
+        (λ read. read_as read numbers.new.items
+        ≡ both (Some numbers.old.items) (told_by word.now value.now)) }
     ensures memory { OnErr result A.may_refuse }
 {
     match told_by(word, value) {

@@ -70,7 +70,8 @@ pub struct NodeWords<'a> {
 pub fn node_words<'a>(words: &ArgMatches<'a>) -> Result<NodeWords<'a>, ProgramFault>
     ensures words { IfOk result (ReadsNode words.now) }
     ensures known { IfOk result (λ w. w.is_known ≡ true → w.turns ≡ None) }
-    ensures database { IfOk result (λ w. option_in words.now (codes "group") ≢ None → w.has_database ≡ true) }
+    ensures database { IfOk result (λ w. option_in words.now (codes "group") ≢ None
+        → w.has_database ≡ true) }
     ensures group { IfOk result (λ w. (1 ≤ w.group) × (w.group ≤ 64)) }
 {
     let turns = turns(words)?;
@@ -106,8 +107,10 @@ fn turns(words: &ArgMatches<'_>) -> Result<Option<u32>, ProgramFault>
 
 // How many datagrams a node takes in a turn at most. Faults: `Group`, `GroupOfFiles`.
 fn group(words: &ArgMatches<'_>, has_database: bool) -> Result<u8, ProgramFault>
-    ensures number { IfOk result (λ group. group_of (option_in words.now (codes "group")) ≡ Some group) }
-    ensures database { IfOk result (λ _. option_in words.now (codes "group") ≢ None → has_database ≡ true) }
+    ensures number { IfOk result
+        (λ group. group_of (option_in words.now (codes "group")) ≡ Some group) }
+    ensures database { IfOk result (λ _. option_in words.now (codes "group") ≢ None
+        → has_database ≡ true) }
     ensures bounds { IfOk result (λ group. (1 ≤ group) × (group ≤ 64)) }
 {
     let Some(text) = words.get_str(GROUP) else {

@@ -32,7 +32,8 @@ impl<A: Allocator> Model for Replaced<A> {
 
 impl<A: Memory + Copy> Replaced<A> {
     fn new(alloc: A, name: &str, bytes: &[u8], failed: bool) -> Result<Replaced<A>, AllocError>
-        ensures value { IfOk result (λ r. r ≡ record { name = name.now; bytes = bytes.now; failed = failed }) }
+        ensures value { IfOk result
+            (λ r. r ≡ record { name = name.now; bytes = bytes.now; failed = failed }) }
         ensures memory { OnErr result A.may_refuse }
     {
         Ok(Replaced {
@@ -103,7 +104,9 @@ impl<A: Memory + Copy> Folder for MemoryFolder<A> {
     fn read(&mut self, name: &str, buffer: &mut [u8]) -> Result<Option<usize>, FolderFault>
         // Exactly.
         ensures answers { IsOk result }
-        ensures first { IfOk result (λ found. IsFront (length buffer.new) found buffer.new (first_content self.old name.now)) }
+        ensures first { IfOk result
+            (λ found. IsFront (length buffer.new) found buffer.new
+            (first_content self.old name.now)) }
         ensures unchanged { self.new ≡ self.old }
 
         // What every folder promises.
@@ -119,17 +122,24 @@ impl<A: Memory + Copy> Folder for MemoryFolder<A> {
     fn replace(&mut self, name: &str, bytes: &[u8]) -> Result<(), FolderFault>
         // Exactly, where there is memory for it.
         ensures answer { HadMemory result → result ≡ replace_answer self.old }
-        ensures contents { HadMemory result → contents_at (memory_files self.new) name.now ≡ contents_replaced self.old name.now bytes.now }
+        ensures contents { HadMemory result
+            → contents_at (memory_files self.new) name.now
+            ≡ contents_replaced self.old name.now bytes.now }
         ensures faults { HadMemory result → self.new.faults ≡ faults_replaced self.old }
         ensures turn { self.new.turn ≡ self.old.turn - 1 }
 
         // What every folder promises.
-        ensures done { ReplacesIfHonest (memory_folder_state self.old) (memory_folder_state self.new) name.now bytes.now result }
-        ensures doubt { DoubtsFileIfHonest (memory_folder_state self.old) (memory_folder_state self.new) name.now bytes.now result }
-        ensures others { KeepsOtherFilesIfHonest (memory_folder_state self.old) (memory_folder_state self.new) name.now }
-        ensures cause { IsErrOf result FolderFault.Device → DeviceFailed (memory_folder_state self.old) (memory_folder_state self.new) }
+        ensures done { ReplacesIfHonest (memory_folder_state self.old)
+            (memory_folder_state self.new) name.now bytes.now result }
+        ensures doubt { DoubtsFileIfHonest (memory_folder_state self.old)
+            (memory_folder_state self.new) name.now bytes.now result }
+        ensures others { KeepsOtherFilesIfHonest (memory_folder_state self.old)
+            (memory_folder_state self.new) name.now }
+        ensures cause { IsErrOf result FolderFault.Device
+            → DeviceFailed (memory_folder_state self.old) (memory_folder_state self.new) }
         ensures count { self.old.faults ≤ self.new.faults }
-        ensures refused { IsErrOf result FolderFault.OutOfMemory → memory_folder_state self.new ≡ memory_folder_state self.old }
+        ensures refused { IsErrOf result FolderFault.OutOfMemory
+            → memory_folder_state self.new ≡ memory_folder_state self.old }
         ensures memory { IsErrOf result FolderFault.OutOfMemory → A.may_refuse }
     {
         let fails = self.turn == 1;
@@ -154,7 +164,8 @@ fn note<A: Memory>(replaced: &mut Vec<Replaced<A>, A>, last: Replaced<A>) -> Res
 
 // The last `replace` of a name that was done.
 fn last_done<'a, A: Allocator>(replaced: &'a [Replaced<A>], name: &str) -> Option<&'a Replaced<A>>
-    ensures { option_map (λ r. r.now) result ≡ find (gives_content name.now) (reverse replaced.now) }
+    ensures { option_map (λ r. r.now) result
+        ≡ find (gives_content name.now) (reverse replaced.now) }
 {
     replaced.iter().rev().find(|r| r.gives_content(name))
 }
@@ -175,7 +186,8 @@ fn answer(fails: bool, faults: &mut u64) -> Result<(), FolderFault>
 
 // The bytes of the last `replace` of a name that was done.
 fn content<'a, A: Allocator>(replaced: &'a [Replaced<A>], name: &str) -> Option<&'a [u8]>
-    ensures { option_map (λ bytes. bytes.now) result ≡ content_found name.now (reverse replaced.now) }
+    ensures { option_map (λ bytes. bytes.now) result
+        ≡ content_found name.now (reverse replaced.now) }
 {
     match last_done(replaced, name) {
         Some(last) => Some(last.bytes()),
@@ -185,7 +197,8 @@ fn content<'a, A: Allocator>(replaced: &'a [Replaced<A>], name: &str) -> Option<
 
 // How many bytes of a file are copied, if there is one.
 fn copied(buffer: &mut [u8], content: Option<&[u8]>) -> Option<usize>
-    ensures front { IsFront (length buffer.new) result buffer.new (option_map (λ bytes. bytes.now) content.entry) }
+    ensures front { IsFront (length buffer.new) result buffer.new
+        (option_map (λ bytes. bytes.now) content.entry) }
     ensures within { IfSome result (λ count. count ≤ length buffer.new) }
     ensures room { length buffer.new ≡ length buffer.old }
 {
