@@ -3,12 +3,9 @@
 ghost use Rattle.std.specs.Prelude.{◌≡◌, ◌≤◌, ◌↔◌, length, vec_len, IsTrue};
 ghost use Rattle.lisp_messages.specs.Authentic.{IsAuthentic, is_authentic, with_tag};
 
-use crate::reading::HEAD_LEN;
+use crate::reading::{AUTH_AT, HEAD_LEN};
 use lisp_hmac::{Key, TAG_LEN};
 use std::alloc::Allocator;
-
-/// Where the Authentication Data stands in a message.
-const AUTH_AT: usize = 16;
 
 /// Whether the Authentication Data of a message is its tag under a secret, over the whole payload (RFC 9301
 /// section 5.6). False where there are no 32 bytes. For one message alone: many are told by `authentic_under`.

@@ -3,7 +3,7 @@
 ghost use Rattle.std.specs.Prelude.{◌≡◌};
 ghost use Rattle.lisp_messages.specs.Head.{head_at};
 
-use crate::reading::{HEAD_LEN, read_nonce};
+use crate::reading::{HEAD_LEN, KEY_ID_AT, read_nonce};
 
 /// The Key ID and the nonce of a message (RFC 9301 sections 5.6 and 5.7).
 #[derive(Clone, Copy, Debug, PartialEq, Eq)]
@@ -25,7 +25,7 @@ impl Head {
             return None;
         }
         Some(Head {
-            key_id: bytes[12],
+            key_id: bytes[KEY_ID_AT],
             nonce: read_nonce(bytes),
         })
     }

@@ -19,6 +19,18 @@ use std::alloc::Allocator;
 /// The one Algorithm ID that is served: HMAC-SHA-256-128-None (RFC 9301 section 12.5).
 pub(crate) const HMAC_SHA_256_128_NONE: u8 = 2;
 
+/// Where the Key ID stands (RFC 9301 section 5.6).
+pub(crate) const KEY_ID_AT: usize = 12;
+
+/// Where the Algorithm ID stands.
+const ALGORITHM_AT: usize = 13;
+
+/// Where the Authentication Data Length stands, 2 bytes.
+const AUTH_LENGTH_AT: usize = 14;
+
+/// Where the Authentication Data stands.
+pub(crate) const AUTH_AT: usize = 16;
+
 /// The bytes of a message before its records.
 pub(crate) const HEAD_LEN: usize = 32;
 
@@ -76,21 +88,20 @@ pub(crate) fn read_tail<A: Allocator>(
 }
 
 /// The message type, where the 32 bytes before the records are as they must be.
-#[rattlefmt::skip]
 #[tactic(auto, unfolding(crate::specs::Reading::kind_at))]
 pub(crate) fn read_kind(bytes: &[u8]) -> Result<Kind, ReadFault>
     ensures kind { Reads (λ k. k) result (kind_at bytes.now) }
     ensures head { OnOk result (32 ≤ length bytes.now) }
 {
-    let [first, _, _, _, _, _, _, _, _, _, _, _, _, algorithm, length_high, length_low, ..] = bytes
-    else {
+    if bytes.len() < AUTH_AT {
         return Err(ReadFault::Short);
-    };
-    let kind = Kind::from_number(*first / 16)?;
-    if *algorithm != HMAC_SHA_256_128_NONE {
+    }
+    let kind = Kind::from_number(bytes[0] / 16)?;
+    if bytes[ALGORITHM_AT] != HMAC_SHA_256_128_NONE {
         return Err(ReadFault::Algorithm);
     }
-    if u16::from_be_bytes([*length_high, *length_low]) as usize != lisp_hmac::TAG_LEN {
+    let auth_length = u16::from_be_bytes([bytes[AUTH_LENGTH_AT], bytes[AUTH_LENGTH_AT + 1]]);
+    if auth_length as usize != lisp_hmac::TAG_LEN {
         return Err(ReadFault::AuthLength);
     }
     if bytes.len() < HEAD_LEN {

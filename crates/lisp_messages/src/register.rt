@@ -15,7 +15,7 @@ use crate::authentication::sign_written;
 use crate::fault::ReadFault;
 use crate::kind::Kind;
 use crate::message::Message;
-use crate::reading::{HEAD_LEN, read_nonce};
+use crate::reading::{HEAD_LEN, KEY_ID_AT, read_nonce};
 use crate::writing::{head, put_head, put_records};
 use lisp_hmac::Key;
 use lisp_memory::{FallibleCopies, Memory};
@@ -208,7 +208,7 @@ pub(crate) fn read_register<A: Allocator>(
         merge: is_set(bytes[2], MERGE),
         want_notify: is_set(bytes[2], WANT_NOTIFY),
         nonce: read_nonce(bytes),
-        key_id: bytes[12],
+        key_id: bytes[KEY_ID_AT],
         records: Records::from_vec(records),
         xtr,
         site,
