@@ -11,18 +11,21 @@ import re
 import shutil
 import signal
 import sqlite3
+import tempfile
 import time
 from pathlib import Path
 from subprocess import DEVNULL, PIPE
 
 from nodes import (DATABASE, FILES, GROUPS, LIMIT, PORT, SITE, XTR, check, failing, in_words, is_bound, is_up, killed, map_register,
                    next_line, nonce_in, over, peer, ran, received, run_tests, until)
-from nonces import DATABASE_FILE, END, LOG_FILE, MOST, TAKEN, changed, in_database, in_files, kept, pair, put_file
+from nonces import DATABASE_FILE, END, LOG_FILE, MOST, TAKEN, changed, empty_log, in_database, in_files, kept, pair, put_file
 
 # What isn't copied with a folder: the socket of a node.
 UNCOPIED = shutil.ignore_patterns("control")
 # How a node ends that can't use its database; and how it ends without a turn.
 UNUSABLE, UNMOVED = (1, "", "lispd: fault 93\n"), (0, "", "")
+# What is wrong with a database whose log is gone.
+LOG_GONE = "its log (-wal) is gone; sqlite3 without -readonly removes it"
 # How many routers register with a Map-Server whose log is damaged then, and the bytes of a frame of a log.
 REGISTERED, FRAME = 20, 24 + 4096
 # What a node ends with for want of memory.
@@ -309,6 +312,99 @@ def a_log_without_its_database(here):
     check("what is kept", kept(here, "s1"), {pair(): 7})
 
 
+def has_no_table(database):
+    """Whether the file of a database by itself, without its log, has nothing in it."""
+    with tempfile.TemporaryDirectory() as room:
+        copy = shutil.copy(database, room)
+        with contextlib.closing(sqlite3.connect(copy)) as it:
+            return it.execute("SELECT count(*) FROM sqlite_schema").fetchone() == (0,)
+
+
+def a_database_without_its_log(here):
+    """Its last nonces would be lost: the node doesn't start over it, and leaves it as it is. It starts with an empty log."""
+    here.store, folder = DATABASE, Path(f"{here.folder}/s1")
+    words, database, log = here.words("server", "s1", "--turns", "0"), folder / DATABASE_FILE, folder / LOG_FILE
+    for count in (0, 1, 5, 1500):
+        process = here.start(*here.words("server", "s1"), stdout=DEVNULL)
+        is_up(here.s1)
+        with peer(here.r1) as it:
+            for nonce in range(1, count + 1):
+                here.answer(it, map_register(nonce))
+        killed(process)
+        check(f"{count} nonces: what is kept", kept(here, "s1"), {pair(): count} if count else {})
+        log.unlink()
+        before, names = database.read_bytes(), sorted(os.listdir(folder))
+        for _ in range(2):
+            check(f"{count} nonces: without it", in_words(*words), (1, 93, f"{database}: {LOG_GONE}"))
+        check(f"{count} nonces: what is there", (database.read_bytes() == before, sorted(os.listdir(folder))), (True, names))
+        empty_log(folder)
+        check(f"{count} nonces: with an empty one", ran(*words), UNMOVED)
+        shutil.rmtree(folder)
+
+
+def a_database_that_is_read(here):
+    """SQLite's read-only mode leaves the log of a stopped node. Without it SQLite moves the log into the database, and removes it."""
+    here.store, folder, wanted = DATABASE, Path(f"{here.folder}/s1"), {}
+    words, database, log = here.words("server", "s1", "--turns", "0"), folder / DATABASE_FILE, folder / LOG_FILE
+    for first in (1, 4, 7):
+        process = here.start(*here.words("server", "s1"), stdout=DEVNULL)
+        is_up(here.s1)
+        with peer(here.r1) as it:
+            for nonce in range(first, first + 3):
+                here.answer(it, map_register(nonce, xtr=XTR + nonce))
+                wanted[pair(xtr=XTR + nonce)] = nonce
+        killed(process)
+        before = database.read_bytes(), log.read_bytes()
+        check(f"{first}: what is read", count_rows(f"file:{database}?mode=ro"), len(wanted))
+        check(f"{first}: both files", (database.read_bytes(), log.read_bytes()) == before, True)
+        check(f"{first}: the next start", ran(*words), UNMOVED)
+        check(f"{first}: what is kept", kept(here, "s1"), wanted)
+        check(f"{first}: what is read and moved", count_rows(f"file:{database}"), len(wanted))
+        check(f"{first}: its log is removed", log.exists(), False)
+        check(f"{first}: without it", ran(*words), UNUSABLE)
+        empty_log(folder)
+        check(f"{first}: with an empty log", ran(*words), UNMOVED)
+        check(f"{first}: what is kept with it", kept(here, "s1"), wanted)
+
+
+def count_rows(database):
+    """For how many pairs a database keeps nonces, which is opened by a URI."""
+    with contextlib.closing(sqlite3.connect(database, uri=True)) as it:
+        return it.execute("SELECT count(*) FROM nonces").fetchone()[0]
+
+
+def killed_over_no_folder(call):
+    """Kills a Map-Server while it makes its database, before each call that opens or changes a file, or in the middle of each write: the
+    next start takes what is there, also where the log was lost, as long as the database is as it was placed. From then on the log is
+    missed."""
+    def test(here):
+        folder, aside = Path(f"{here.folder}/s1"), Path(f"{here.folder}/aside")
+        words = (*here.words("server", "s1"), *DATABASE, "--turns", "0")
+        database, log = folder / DATABASE_FILE, folder / LOG_FILE
+        placed, empty = None, 0
+        for at in killed_runs(here, words, call, folder, lambda it: None):
+            if database.exists() and placed is None:
+                placed = database.read_bytes()
+                check(f"{call} {at}: it has no table, and no log", (has_no_table(database), log.exists()), (True, False))
+            if database.exists() and database.read_bytes() == placed:
+                shutil.rmtree(aside, ignore_errors=True)
+                shutil.copytree(folder, aside, ignore=UNCOPIED)
+                log.unlink(missing_ok=True)
+                check(f"{call} {at}: the next start without the log", ran(*words), UNMOVED)
+                shutil.rmtree(folder)
+                shutil.copytree(aside, folder)
+                empty += 1
+            elif database.exists():
+                check(f"{call} {at}: there is a log", log.exists(), True)
+            check(f"{call} {at}: the next start", ran(*words), UNMOVED)
+            check(f"{call} {at}: what is kept", in_database(folder), {})
+            log.unlink()
+            check(f"{call} {at}: a start without the log", ran(*words), UNUSABLE)
+        check(f"{call}: it is seen as it was placed", empty > 2, True)
+    test.__name__ = f"{call}_over_no_folder"
+    return test
+
+
 def a_text(path):
     path.write_text("These are no nonces, but as long as you like.\n" * 1000)
 
@@ -385,6 +481,7 @@ def what_is_no_database(here):
     shutil.rmtree(folder)
     ran(*here.words("router", "r1", "--turns", "1"))
     a_table_too_many(folder / DATABASE_FILE)
+    empty_log(folder)
     check("a table too many", ran(*here.words("router", "r1", "--turns", "1")), UNUSABLE)
 
 
@@ -403,14 +500,14 @@ def a_damaged_page(here):
     for page in range(len(whole) // size):
         for text in (bytes(size), b"\xff" * size):
             path.write_bytes(whole[:page * size] + text + whole[(page + 1) * size:])
-            (folder / LOG_FILE).unlink(missing_ok=True)
+            (folder / LOG_FILE).write_bytes(b"")
             check(f"page {page + 1} is {text[:1]!r} ..", ran(*words), UNUSABLE)
     for length in (100, size, len(whole) - size, len(whole) - 1):
         path.write_bytes(whole[:length])
-        (folder / LOG_FILE).unlink(missing_ok=True)
+        (folder / LOG_FILE).write_bytes(b"")
         check(f"{length} bytes of it", ran(*words), UNUSABLE)
     path.write_bytes(whole)
-    (folder / LOG_FILE).unlink(missing_ok=True)
+    (folder / LOG_FILE).write_bytes(b"")
     check("the whole", ran(*words), (0, "sent r1 s1 key 1 nonce 5\nsent r1 s2 key 1 nonce 6\n", ""))
 
 
@@ -696,6 +793,7 @@ run_tests([a_database_tells_of_itself, a_router_s_database, kinds_are_kept_apart
            a_router_s_files_are_taken_over, the_greatest_nonce_counts, files_over_a_database, a_damaged_file_isn_t_taken_over,
            killed_while_files_are_taken("kill"), killed_while_files_are_taken("tear"), killed_while_older_files_are_taken,
            a_database_that_was_put_back, a_start_that_knows_no_machine, a_log_without_its_database, what_is_no_database,
+           a_database_without_its_log, a_database_that_is_read, killed_over_no_folder("kill"), killed_over_no_folder("tear"),
            what_is_told_of_a_database, a_damaged_page, a_damaged_log,
            a_log_that_is_moved, an_empty_database_beside_its_log, *(over(store, a_database_that_is_taken_away) for store in (DATABASE, GROUPS)),
            *(over(store, a_call_that_fails(call, error)) for store in (DATABASE, GROUPS)

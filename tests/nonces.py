@@ -86,6 +86,13 @@ def put_file(folder, of, nonce, end=END):
 
 
 def changed(folder, statement, values=()):
-    """Runs a statement of SQL on the database of a node's folder."""
+    """Runs a statement of SQL on the database of a node's folder; the log is empty then."""
     with contextlib.closing(sqlite3.connect(Path(folder) / DATABASE_FILE)) as database, database:
-        return database.execute(statement, values).fetchall()
+        rows = database.execute(statement, values).fetchall()
+    empty_log(folder)
+    return rows
+
+
+def empty_log(folder):
+    """Makes the log of a node's database where it isn't there: SQLite removed it once its content was in the database."""
+    (Path(folder) / LOG_FILE).touch()

@@ -16,7 +16,7 @@ from pathlib import Path
 
 from nodes import (DATABASE, EXAMPLES, FILES, GROUPS, LIMIT, MAP_NOTIFY, PORT, check, failing, is_bound, is_up, killed, map_register, next_line,
                    nonce_in, nonce_text, over, peer, ran, received, run_tests, until)
-from nonces import DATABASE_FILE, kept, pair
+from nonces import DATABASE_FILE, empty_log, kept, pair
 
 # How often a Map-Server and a router are killed.
 KILLS = 50
@@ -101,6 +101,7 @@ def a_database_is_one_process_s(here):
     with contextlib.closing(sqlite3.connect(folder / DATABASE_FILE)) as database:
         database.execute("BEGIN EXCLUSIVE")
         check("a router while sqlite3 has it", ran(*words, "--turns", "1"), (1, "", "lispd: fault 93\n"))
+    empty_log(folder)
     check("and when it is free", ran(*words, "--turns", "1")[0], 0)
 
 

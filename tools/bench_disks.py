@@ -83,6 +83,8 @@ def fill(path, pairs):
     connection.execute("COMMIT")
     connection.execute("PRAGMA wal_checkpoint(TRUNCATE)")
     connection.close()
+    # (SQLite removed the log, without which no node starts)
+    open(f"{path}-wal", "ab").close()
     return True
 
 

@@ -92,12 +92,19 @@ fn told<V: Drop>(answer: Result<V, Error>) -> Result<V, Failure>
 pub trait SystemStore: Alter + Drop {
     /// Opens the database at `path`, or an empty one where nothing is there.
     fn open(rt: &HostRuntime, path: &str) -> Result<Connection<Self>, Error>;
+
+    /// Moves what its log has into the file, syncs both, and closes them.
+    fn close(connection: Connection<Self>) -> Result<(), Error>;
 }
 
 impl<S: SystemStore> SystemTable for SqliteTable<S> {
     fn open(rt: &HostRuntime, path: &str) -> Result<SqliteTable<S>, Failure> {
         let connection = told(S::open(rt, path))?;
         Ok(SqliteTable { connection })
+    }
+
+    fn close(self) -> Result<(), Failure> {
+        told(S::close(self.connection))
     }
 }
 
@@ -110,6 +117,10 @@ pub trait SystemDisk: Disk + Drop {
 impl<D: SystemDisk> SystemStore for FileStore<D> {
     fn open(rt: &HostRuntime, path: &str) -> Result<Connection<FileStore<D>>, Error> {
         D::open(rt, path)
+    }
+
+    fn close(connection: Connection<FileStore<D>>) -> Result<(), Error> {
+        connection.close()
     }
 }
 

@@ -5,3 +5,4 @@ pub mod Signing
 pub mod TakeOver
 pub mod Groups
 pub mod Keeper
+pub mod EmptyDatabase

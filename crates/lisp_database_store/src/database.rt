@@ -10,7 +10,7 @@ use crate::failure::Failure;
 use crate::files::Watch;
 use crate::keeper::Keeper;
 use crate::log_file::refuse_damage;
-use crate::new_file::place_empty;
+use crate::new_file::{front_of, is_empty_database, place_empty};
 use crate::reopening::Reopening;
 use crate::table::SystemTable;
 use lisp_memory::FallibleString;
@@ -41,12 +41,18 @@ pub struct Database<T> {
 impl<T: SystemTable> Database<T> {
     /// Opens the database at `path`, or makes it, with the `application_id` of these databases, "LISP", and the `user_version` 1.
     /// `Device` where the file or its log can't be opened, read or written, `Damaged` where it holds no database of nonces, or its log is
-    /// damaged.
+    /// damaged, or gone: then the kind is `NotFound`.
+    ///
+    /// From then on the file has the tables. So it isn't an empty database, which alone may be without a log, before it keeps a nonce.
     pub fn open(rt: &HostRuntime, path: &str) -> Result<Database<T>, Failure>
         ensures tables { IfOk result (λ database. IsOpen database.table T.Table.means.has_tables) }
     {
         place_empty(rt, path)?;
-        refuse_damage(rt, path)?;
+        let front = front_of(rt, path)?;
+        refuse_damage(rt, path, &front)?;
+        if is_empty_database(&front) {
+            move_tables::<T>(rt, path)?;
+        }
         let table = open_table(rt, path)?;
         Ok(Database {
             rt: rt.clone()?,
@@ -289,6 +295,12 @@ fn open_table<T: SystemTable>(rt: &HostRuntime, path: &str) -> Result<T, Failure
     let mut table = T::open(rt, path)?;
     table.make_tables()?;
     Ok(table)
+}
+
+// Makes the tables in an empty database, where its log doesn't have them, and moves them into the file.
+fn move_tables<T: SystemTable>(rt: &HostRuntime, path: &str) -> Result<(), Failure> {
+    let table: T = open_table(rt, path)?;
+    table.close()
 }
 
 // Commits the transaction of a table, after which none is open.

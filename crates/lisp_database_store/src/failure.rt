@@ -65,6 +65,12 @@ pub(crate) const DAMAGED: Failure = Failure {
     kind: ErrorKind::InvalidData,
 };
 
+/// A database of nonces without its log.
+pub(crate) const LOG_GONE: Failure = Failure {
+    fault: StoreFault::Damaged,
+    kind: ErrorKind::NotFound,
+};
+
 /// No memory.
 const OUT_OF_MEMORY: Failure = Failure {
     fault: StoreFault::OutOfMemory,

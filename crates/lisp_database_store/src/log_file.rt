@@ -3,22 +3,43 @@
 ghost use Rattle.std.specs.Prelude.{◌≡◌, ◌↔◌, IfErr, IsErr};
 ghost use Rattle.lisp_nonces.specs.declared.fault.StoreFault.{StoreFault};
 ghost use Rattle.lisp_database_log.specs.Log.{IsDamaged};
+ghost use Rattle.lisp_database_store.specs.EmptyDatabase.{IsEmptyDatabase};
 
-use crate::failure::{DAMAGED, Failure};
+use crate::failure::{DAMAGED, Failure, LOG_GONE};
+use crate::new_file::{is_empty_database, is_marked};
 use lisp_database_log::is_damaged;
 use lisp_memory::FallibleString;
 use lisp_store::is_file_there;
 use std::fs::{self, Files};
 
-/// Refuses a database whose log is damaged: SQLite would drop the nonces behind the damage without a word. Where there is no log, there
-/// is nothing to refuse. `Damaged`; `Device` where the log can't be read.
-pub(crate) fn refuse_damage<R: Files + AllocGlobal>(rt: &R, path: &str) -> Result<(), Failure> {
+/// Refuses a database whose log is damaged: SQLite would drop the nonces behind the damage without a word. And one whose log is gone,
+/// which may have had nonces: a crash leaves none but an empty database without a log. `front` has the first bytes of the database, as
+/// `front_of` answers them. `Damaged`; `Device` where the log can't be read.
+pub(crate) fn refuse_damage<R: Files + AllocGlobal>(
+    rt: &R,
+    path: &str,
+    front: &[u8],
+) -> Result<(), Failure> {
     let path = String::try_format(rt.alloc(), format_args!("{path}-wal"))?;
     if !is_file_there(rt, path.as_str())? {
-        return Ok(());
+        return judge_alone(front);
     }
     let log = fs::read(rt, path.as_str())?;
     judge(&log)
+}
+
+// Whether a database with these first bytes may be without a log.
+fn judge_alone(front: &[u8]) -> Result<(), Failure>
+    ensures gone { IsErr result ↔ ¬ (IsEmptyDatabase front.now) }
+    ensures fault { IfErr result (λ failure. failure.fault ≡ StoreFault.Damaged) }
+{
+    if is_empty_database(front) {
+        return Ok(());
+    }
+    if is_marked(front) {
+        return Err(LOG_GONE);
+    }
+    Err(DAMAGED)
 }
 
 // Whether the bytes of a log are as a crash may leave them.

@@ -1,16 +1,25 @@
 //! The file of a new database.
 
+ghost use Rattle.std.specs.Prelude.{◌≡◌, ◌↔◌, ◌==◌, IsTrue};
+ghost use Rattle.std.specs.List.{list_all};
+ghost use Rattle.lisp_database_store.specs.EmptyDatabase.{IsEmptyDatabase, front};
+
 use lisp_memory::FallibleString;
 use lisp_store::is_file_there;
 use std::fs::{self, OpenFile};
-use std::io::{self, ErrorKind, Write};
+use std::io::{self, ErrorKind, Read, Write};
 use std::rt::Files;
 
 /// The bytes of a page.
-const PAGE: u64 = 4_096;
+const PAGE: usize = 4_096;
+
+/// How many bytes name the format of a file, and where `application_id` stands.
+const FORMAT: usize = 16;
+
+const MARK: usize = 68;
 
 /// How the one page of an empty database begins; the rest of it is 0.
-const FRONT: &[u8] = &[
+const FRONT: [u8; 108] = [
     // "SQLite format 3" and 0.
     0x53, 0x51, 0x4c, 0x69, 0x74, 0x65, 0x20, 0x66, 0x6f, 0x72, 0x6d, 0x61, 0x74, 0x20, 0x33, 0,
     // Pages of 4,096 bytes, a log beside the file, and what is always the same.
@@ -48,16 +57,62 @@ pub(crate) fn place_empty<R: Files + AllocGlobal>(rt: &R, path: &str) -> io::Res
     let new = String::try_format(rt.alloc(), format_args!("{path}.new"))?;
     is_file_there(rt, new.as_str())?;
     let mut file = fs::create(rt, new.as_str())?;
-    file.write_all(FRONT)?;
-    file.set_len(PAGE)?;
+    file.write_all(&FRONT)?;
+    file.set_len(PAGE as u64)?;
     file.sync_all()?;
     fs::rename(rt, new.as_str(), path)?;
     fs::open(rt, folder_of(path))?.sync_all()
 }
 
+/// The bytes of the file at `path`, but none behind the first one after a page: they show whether it is an empty database.
+pub(crate) fn front_of<R: Files + AllocGlobal>(rt: &R, path: &str) -> io::Result<Vec<u8>> {
+    let mut front = Vec::new(rt.alloc());
+    fs::open(rt, path)?
+        .take(PAGE as u64 + 1)
+        .read_to_end(&mut front)?;
+    Ok(front)
+}
+
+/// Whether the bytes are those of an empty database, as `place_empty` writes it.
+pub(crate) fn is_empty_database(bytes: &[u8]) -> bool
+    ensures { IsTrue result ↔ IsEmptyDatabase bytes.now }
+{
+    if bytes.len() != PAGE {
+        return false;
+    }
+    let (front, rest) = bytes.split_at(FRONT.len());
+    is_front(front) && are_zero(rest)
+}
+
+// Whether an empty database begins so.
+fn is_front(bytes: &[u8]) -> bool
+    ensures { IsTrue result ↔ (bytes.now ≡ front) }
+{
+    are_same(bytes, FRONT.as_slice())
+}
+
+fn are_same(bytes: &[u8], others: &[u8]) -> bool
+    ensures { IsTrue result ↔ (bytes.now ≡ others.now) }
+{
+    bytes == others
+}
+
+// Whether each byte is 0.
+fn are_zero(bytes: &[u8]) -> bool
+    ensures { result ≡ list_all (λ b. b == 0) bytes.now }
+{
+    bytes.iter().all(|byte| *byte == 0)
+}
+
+/// Whether a file that begins with these bytes is SQLite's, with the `application_id` of databases of nonces.
+pub(crate) fn is_marked(bytes: &[u8]) -> bool {
+    bytes.starts_with(&FRONT[..FORMAT])
+        && matches!(bytes.get(MARK..MARK + 4), Some(mark) if mark == &FRONT[MARK..MARK + 4])
+}
+
 // Refuses a file that has no whole page.
 fn refuse_short<R: Files>(rt: &R, path: &str) -> io::Result<()> {
-    if fs::metadata(rt, path)?.len() < PAGE {
+    if fs::metadata(rt, path)?.len() < PAGE as u64 {
         return Err(io::Error::from(ErrorKind::InvalidData));
     }
     Ok(())

@@ -61,4 +61,7 @@ pub trait SystemTable: Table {
     /// Opens the database at `path`, or an empty one where nothing is there. `Device` where what is there can't be opened, `Damaged`
     /// where it is no database.
     fn open(rt: &HostRuntime, path: &str) -> Result<Self, Failure>;
+
+    /// Moves what its log has into the file, syncs both, and closes them. `Device` where that fails.
+    fn close(self) -> Result<(), Failure>;
 }

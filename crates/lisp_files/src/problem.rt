@@ -60,6 +60,9 @@ pub enum Problem {
     /// A database that isn't there, though its log is.
     #[error("isn't there, and its log (-wal) is")]
     LogAlone,
+    /// A database of nonces without its log.
+    #[error("its log (-wal) is gone; sqlite3 without -readonly removes it")]
+    LogGone,
     /// A folder in which a file of nonces holds none.
     #[error("a file of nonces in it is damaged")]
     DamagedNonce,

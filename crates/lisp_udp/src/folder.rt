@@ -213,6 +213,7 @@ fn unopened(rt: &HostRuntime, path: &str, failure: Failure) -> Problem {
 // The same, where a file of its name is there, or nothing is.
 fn unusable_file(is_there: bool, failure: Failure) -> Problem {
     match failure.fault {
+        StoreFault::Damaged if failure.kind == ErrorKind::NotFound => Problem::LogGone,
         StoreFault::Damaged if is_there => Problem::NoDatabase,
         StoreFault::Damaged => Problem::LogAlone,
         _ => Problem::Open(io::Error::from(failure.kind)),
