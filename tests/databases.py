@@ -385,7 +385,8 @@ def killed_over_no_folder(call):
         for at in killed_runs(here, words, call, folder, lambda it: None):
             if database.exists() and placed is None:
                 placed = database.read_bytes()
-                check(f"{call} {at}: it has no table, and no log", (has_no_table(database), log.exists()), (True, False))
+                # (the first write that is torn after it was placed is one to its log)
+                check(f"{call} {at}: it has no table, and a log", (has_no_table(database), log.exists()), (True, call == "tear"))
             if database.exists() and database.read_bytes() == placed:
                 shutil.rmtree(aside, ignore_errors=True)
                 shutil.copytree(folder, aside, ignore=UNCOPIED)

@@ -19,8 +19,8 @@ use lisp_store::Writer;
 use std::io::{self, ErrorKind};
 use std::time::Instant;
 
-/// A database of one row for each pair, in a file of the system's, which sqlite3 reads while the node doesn't run. The log beside
-/// the file, named with `-wal` added, is part of it. After a call that failed by the device the next one opens the file again, since
+/// A database of one row for each pair, in a file of the system's, which `sqlite3 -readonly` reads while the node doesn't run. The log
+/// beside the file, named with `-wal` added, is part of it. After a call that failed by the device the next one opens the file again, since
 /// it is in doubt what the disk has.
 ///
 /// That the disk returns what was synced, and that nobody else writes the two files, is a premise. Where somebody removes, renames,

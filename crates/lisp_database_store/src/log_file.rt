@@ -12,9 +12,10 @@ use lisp_memory::FallibleString;
 use lisp_store::is_file_there;
 use std::fs::{self, Files};
 
-/// Refuses a database whose log is damaged: SQLite would drop the nonces behind the damage without a word. And one whose log is gone,
-/// which may have had nonces: a crash leaves none but an empty database without a log. `front` has the first bytes of the database, as
-/// `front_of` answers them. `Damaged`; `Device` where the log can't be read.
+/// Refuses a database whose log is damaged: SQLite would drop the nonces after the damage without a word. And one whose log is gone,
+/// which may have had nonces: a crash leaves no database without a log, but for an empty one. `front` has the first bytes of the
+/// database, as `front_of` answers them. `Damaged`, of the kind `NotFound` where the log of a database of nonces is gone; `Device` where
+/// the log can't be read.
 pub(crate) fn refuse_damage<R: Files + AllocGlobal>(
     rt: &R,
     path: &str,

@@ -64,7 +64,7 @@ pub(crate) fn place_empty<R: Files + AllocGlobal>(rt: &R, path: &str) -> io::Res
     fs::open(rt, folder_of(path))?.sync_all()
 }
 
-/// The bytes of the file at `path`, but none behind the first one after a page: they show whether it is an empty database.
+/// The first bytes of the file at `path`, at most one more than a page has: they show whether it is an empty database.
 pub(crate) fn front_of<R: Files + AllocGlobal>(rt: &R, path: &str) -> io::Result<Vec<u8>> {
     let mut front = Vec::new(rt.alloc());
     fs::open(rt, path)?
