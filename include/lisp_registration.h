@@ -1,6 +1,6 @@
 /*
- * LISP registration (RFC 9301) for programs in C and C++: Map-Register, Map-Notify and Map-Notify-Ack, and the cores of
- * a Map-Server and of a router. docs/EMBEDDING.md says how to use it.
+ * LISP registration (RFC 9301) for programs in C and C++: Map-Register, Map-Notify and Map-Notify-Ack, Map-Request and
+ * Map-Reply, and the cores of a Map-Server and of a router. docs/EMBEDDING.md says how to use it.
  *
  * The functions of liblisp_registration.a are proved: each does what is said here for every input, if the caller keeps
  * what no proof can see:
@@ -19,9 +19,9 @@
  * C and not proved. A length of 0 goes with any pointer, also a null one. What a call only writes needs no value
  * before.
  *
- * Of the calls for messages nothing is kept, so that threads need no lock. Only lisp_write_message of them takes
- * memory, and gives all of it back before it returns. What a handle (struct lisp_server, struct lisp_router) keeps is
- * given back by lisp_server_stop and lisp_router_stop.
+ * Of the calls for messages nothing is kept, so that threads need no lock. Only those that write take memory
+ * (lisp_write_..), and give all of it back before they return. What a handle (struct lisp_server, struct lisp_router)
+ * keeps is given back by lisp_server_stop and lisp_router_stop.
  *
  * Each function but lisp_authentic answers LISP_DONE or the number of the first fault that it met, LISP_NULL and
  * LISP_LENGTH before all others; at a fault nothing was written, but where it is said. The numbers are those of
@@ -85,9 +85,25 @@ enum {
     LISP_LENGTH = 101,              /* a length or a count is more than memory can have */
     LISP_ROOM = 102,                /* the buffer has no room */
     LISP_FIELD = 103,               /* a field has no place in a message */
-    LISP_COUNTS = 104,              /* more than 255 records, or not as many locators as the records count */
+    LISP_COUNTS = 104,              /* so many records, locators, ITR-RLOCs or EID-Prefixes have no place */
     LISP_OUT_OF_MEMORY = 105,       /* malloc or realloc gave no memory */
-    LISP_NO_ROUTER = 106            /* no router of the configuration has the name */
+    LISP_NO_ROUTER = 106,           /* no router of the configuration has the name */
+    LISP_REQUEST_SHORT = 110,       /* the bytes end before the Map-Request, the Map-Reply or a part of it does */
+    LISP_REQUEST_KIND = 111,        /* another type than the one that is read: 1, 2 or 8 */
+    LISP_SECURITY = 112,            /* an encapsulated message with an authentication header (S) */
+    LISP_IP_VERSION = 113,          /* an inner IP header of another version than 4 and 6 */
+    LISP_IP_HEADER_LENGTH = 114,    /* an inner IPv4 header of fewer than 20 bytes */
+    LISP_IP_LENGTH = 115,           /* an inner IP length that its header doesn't fit, or above what is there */
+    LISP_FRAGMENT = 116,            /* an inner IP datagram that is a fragment */
+    LISP_PROTOCOL = 117,            /* an inner IP datagram that carries no UDP */
+    LISP_IP_CHECKSUM = 118,         /* an inner IPv4 header with a wrong checksum */
+    LISP_PORT = 119,                /* an inner UDP destination port other than 4342 */
+    LISP_UDP_LENGTH = 120,          /* an inner UDP length below 8, or more than what is there */
+    LISP_UDP_CHECKSUM = 121,        /* an inner UDP datagram with a wrong checksum; over IPv6 also with none */
+    LISP_NO_RECORD = 122,           /* a Map-Request without a record */
+    LISP_REQUEST_AFI = 123,         /* an address family that is neither IPv4 nor IPv6, nor 0 for the Source EID */
+    LISP_REQUEST_MASK = 124,        /* an EID mask longer than its address */
+    LISP_REQUEST_TRAILING = 125     /* bytes after the records of a Map-Reply */
 };
 
 /* Types of messages (RFC 9301 section 5.1). */
@@ -96,8 +112,11 @@ enum { LISP_MAP_REGISTER = 3, LISP_MAP_NOTIFY = 4, LISP_MAP_NOTIFY_ACK = 5 };
 /* Address families, as AFI fields name them. */
 enum { LISP_IPV4 = 1, LISP_IPV6 = 2 };
 
-/* Where the first record of each message begins. */
-enum { LISP_RECORDS_AT = 32 };
+/* Where the first record of each message begins; and that of a Map-Reply. */
+enum { LISP_RECORDS_AT = 32, LISP_REPLY_RECORDS_AT = 12 };
+
+/* The most ITR-RLOCs and EID-Prefixes of a Map-Request (RFC 9301 section 5.2). */
+enum { LISP_ITR_RLOCS = 32, LISP_EIDS = 255 };
 
 /* Room for the locators of any record; and for any datagram that a Map-Server or a router sends of its own accord. */
 enum { LISP_LOCATORS = 255, LISP_MESSAGE_ROOM = 16440 };
@@ -158,6 +177,49 @@ struct lisp_message {
     uint8_t record_count;  /* read only: how many records it has */
     size_t records_at;     /* read only: where the first record begins, which is LISP_RECORDS_AT */
     size_t records_end;    /* read only: where the last record ends */
+};
+
+/* An EID-Prefix that is asked for (RFC 9301 section 5.2). */
+struct lisp_prefix {
+    uint8_t mask_len;             /* the EID mask-len, 0 to 32 or 128 */
+    struct lisp_address address;  /* bits past the mask are 0, and are cleared where one is written */
+};
+
+/* A Map-Request but its ITR-RLOCs and EID-Prefixes (RFC 9301 section 5.2). */
+struct lisp_request {
+    uint64_t nonce;
+    uint8_t authoritative;        /* A, 1 or 0: an authoritative answer is wanted, from the site itself */
+    uint8_t probe;                /* P, 1 or 0: the ITR probes whether a locator is reached */
+    uint8_t smr;                  /* S, 1 or 0: a Solicit-Map-Request, which asks the receiver to ask again */
+    uint8_t pitr;                 /* p, 1 or 0: a PITR sends it */
+    uint8_t smr_invoked;          /* s, 1 or 0: a Solicit-Map-Request was the reason for it */
+    uint8_t local;                /* L, 1 or 0: it comes from an xTR of the same site */
+    uint8_t no_reply;             /* D, 1 or 0: no Map-Reply is wanted */
+    uint8_t itr_rloc_count;       /* read only: how many ITR-RLOCs it has, 1 to LISP_ITR_RLOCS */
+    uint8_t eid_count;            /* read only: how many EID-Prefixes it has, 1 to LISP_EIDS */
+    struct lisp_address source;   /* the Source EID; of family 0 where there is none */
+    size_t itr_rlocs_at;          /* read only: where the first ITR-RLOC begins */
+    size_t eids_at;               /* read only: where the record of the first EID-Prefix begins */
+    size_t end;                   /* read only: where the last record ends */
+};
+
+/* A Map-Reply but its records (RFC 9301 sections 5.4 and 5.5). */
+struct lisp_reply {
+    uint64_t nonce;        /* of the Map-Request that it answers */
+    uint8_t probe;         /* P, 1 or 0: it answers a probe */
+    uint8_t echo_nonce;    /* E, 1 or 0: the sender is capable of echoing nonces */
+    uint8_t sec;           /* S, 1 or 0: the sender is capable of LISP-SEC */
+    uint8_t record_count;  /* read only: how many records it has */
+    size_t records_at;     /* read only: where the first record begins, which is LISP_REPLY_RECORDS_AT */
+};
+
+/* What stands around an encapsulated Map-Request (RFC 9301 section 5.8). */
+struct lisp_encapsulated {
+    struct lisp_address source;       /* the inner source address */
+    struct lisp_address destination;  /* the inner destination address, of the same family: an EID that is asked for */
+    uint16_t port;                    /* the inner UDP source port, to which the Map-Reply goes */
+    size_t message_at;                /* read only: where the control message begins */
+    size_t message_length;            /* read only: how many bytes it has */
 };
 
 /*
@@ -274,6 +336,23 @@ uint16_t lisp_registration_write_message(const struct lisp_message *message, con
                                          size_t record_count, const struct lisp_locator *locators, size_t locator_count,
                                          const uint8_t *secret, size_t secret_length, uint8_t *buffer, size_t room,
                                          size_t *length);
+
+uint16_t lisp_registration_read_request(const uint8_t *bytes, size_t length, struct lisp_request *request);
+uint16_t lisp_registration_read_itr_rloc(const uint8_t *bytes, size_t length, size_t at, struct lisp_address *itr_rloc,
+                                         size_t *end);
+uint16_t lisp_registration_read_eid(const uint8_t *bytes, size_t length, size_t at, struct lisp_prefix *eid,
+                                    size_t *end);
+uint16_t lisp_registration_read_reply(const uint8_t *bytes, size_t length, struct lisp_reply *reply);
+uint16_t lisp_registration_read_encapsulated(const uint8_t *bytes, size_t length,
+                                             struct lisp_encapsulated *encapsulated);
+uint16_t lisp_registration_write_request(const struct lisp_request *request, const struct lisp_address *itr_rlocs,
+                                         size_t itr_rloc_count, const struct lisp_prefix *eids, size_t eid_count,
+                                         uint8_t *buffer, size_t room, size_t *length);
+uint16_t lisp_registration_write_reply(const struct lisp_reply *reply, const struct lisp_record *records,
+                                       size_t record_count, const struct lisp_locator *locators, size_t locator_count,
+                                       uint8_t *buffer, size_t room, size_t *length);
+uint16_t lisp_registration_write_encapsulated(const struct lisp_encapsulated *encapsulated, const uint8_t *message,
+                                              size_t message_length, uint8_t *buffer, size_t room, size_t *length);
 
 uint16_t lisp_registration_server_start(const uint8_t *configuration, size_t length, struct lisp_server *server);
 void lisp_registration_server_stop(struct lisp_server *server);
@@ -444,6 +523,180 @@ static inline uint16_t lisp_write_message(const struct lisp_message *message, co
                                            (const struct lisp_locator *)lisp_pointer(locators), locator_count,
                                            (const uint8_t *)lisp_pointer(secret), secret_length,
                                            (uint8_t *)lisp_pointer(buffer), room, length);
+}
+
+/*
+ * Reads a Map-Request: what it says but its ITR-RLOCs and EID-Prefixes, and where these are. The datagram begins with
+ * it; what follows its records is not read. The faults come in this order: LISP_REQUEST_SHORT (no 12 bytes),
+ * LISP_REQUEST_KIND, LISP_NO_RECORD; LISP_REQUEST_SHORT (no AFI), LISP_REQUEST_AFI and LISP_REQUEST_SHORT (no whole
+ * address) of the Source EID; then those of lisp_read_itr_rloc for each ITR-RLOC, and of lisp_read_eid for each record.
+ * M, R, I and reserved bits are ignored.
+ */
+static inline uint16_t lisp_read_request(const uint8_t *bytes, size_t length, struct lisp_request *request)
+{
+    uint16_t number = lisp_span(bytes, length, 1);
+
+    if (number != LISP_DONE)
+        return number;
+    if (request == NULL)
+        return LISP_NULL;
+    return lisp_registration_read_request((const uint8_t *)lisp_pointer(bytes), length, request);
+}
+
+/*
+ * Reads the ITR-RLOC that begins at byte `at` of a Map-Request, and tells where it ends, and the next one begins:
+ * `itr_rlocs_at` of the Map-Request is where the first one does. The faults come in this order: LISP_REQUEST_SHORT (no
+ * AFI), LISP_REQUEST_AFI, LISP_REQUEST_SHORT (no whole address).
+ */
+static inline uint16_t lisp_read_itr_rloc(const uint8_t *bytes, size_t length, size_t at, struct lisp_address *itr_rloc,
+                                          size_t *end)
+{
+    uint16_t number = lisp_span(bytes, length, 1);
+
+    if (number != LISP_DONE)
+        return number;
+    if (itr_rloc == NULL || end == NULL)
+        return LISP_NULL;
+    return lisp_registration_read_itr_rloc((const uint8_t *)lisp_pointer(bytes), length, at, itr_rloc, end);
+}
+
+/*
+ * Reads the EID-Prefix of the record that begins at byte `at` of a Map-Request, and tells where the record ends, and
+ * the next one begins: `eids_at` of the Map-Request is where the first one does. The faults come in this order:
+ * LISP_REQUEST_SHORT (no 4 bytes), LISP_REQUEST_AFI, LISP_REQUEST_MASK, LISP_REQUEST_SHORT (no whole address). EID bits
+ * past the mask are cleared, and the reserved byte is ignored.
+ */
+static inline uint16_t lisp_read_eid(const uint8_t *bytes, size_t length, size_t at, struct lisp_prefix *eid,
+                                     size_t *end)
+{
+    uint16_t number = lisp_span(bytes, length, 1);
+
+    if (number != LISP_DONE)
+        return number;
+    if (eid == NULL || end == NULL)
+        return LISP_NULL;
+    return lisp_registration_read_eid((const uint8_t *)lisp_pointer(bytes), length, at, eid, end);
+}
+
+/*
+ * Reads a Map-Reply, the whole datagram: what it says but its records, and where these are. Each is read by
+ * lisp_read_record, from LISP_REPLY_RECORDS_AT on, and its locators by lisp_read_locator. The faults come in this
+ * order: LISP_REQUEST_SHORT (no 12 bytes), LISP_REQUEST_KIND; for each record LISP_REQUEST_SHORT, LISP_REQUEST_AFI and
+ * LISP_REQUEST_MASK where lisp_read_record has LISP_SHORT, LISP_AFI and LISP_MASK; then LISP_REQUEST_TRAILING. Reserved
+ * bits are ignored.
+ */
+static inline uint16_t lisp_read_reply(const uint8_t *bytes, size_t length, struct lisp_reply *reply)
+{
+    uint16_t number = lisp_span(bytes, length, 1);
+
+    if (number != LISP_DONE)
+        return number;
+    if (reply == NULL)
+        return LISP_NULL;
+    return lisp_registration_read_reply((const uint8_t *)lisp_pointer(bytes), length, reply);
+}
+
+/*
+ * Reads what stands around an encapsulated control message, and tells where that message is, which lisp_read_request
+ * reads then. The faults come in this order: LISP_REQUEST_SHORT (no 4 bytes), LISP_REQUEST_KIND, LISP_SECURITY,
+ * LISP_REQUEST_SHORT (no IP header), LISP_IP_VERSION; for IPv4 LISP_REQUEST_SHORT (no 20 bytes), LISP_IP_HEADER_LENGTH,
+ * LISP_IP_LENGTH, LISP_FRAGMENT, LISP_PROTOCOL, LISP_IP_CHECKSUM; for IPv6 LISP_REQUEST_SHORT (no 40 bytes),
+ * LISP_IP_LENGTH, LISP_PROTOCOL; then LISP_REQUEST_SHORT (no UDP header), LISP_PORT, LISP_UDP_LENGTH,
+ * LISP_UDP_CHECKSUM. D, reserved bits, and what follows the inner datagrams are ignored.
+ */
+static inline uint16_t lisp_read_encapsulated(const uint8_t *bytes, size_t length,
+                                              struct lisp_encapsulated *encapsulated)
+{
+    uint16_t number = lisp_span(bytes, length, 1);
+
+    if (number != LISP_DONE)
+        return number;
+    if (encapsulated == NULL)
+        return LISP_NULL;
+    return lisp_registration_read_encapsulated((const uint8_t *)lisp_pointer(bytes), length, encapsulated);
+}
+
+/*
+ * Writes a Map-Request of these ITR-RLOCs and EID-Prefixes: M, R, I and reserved bits 0, and nothing after the records.
+ * Each flag but 0 is set; what is marked 'read only' above is not looked at, nor are the octets of a Source EID of
+ * family 0.
+ *
+ * At LISP_DONE the first `*length` bytes of the buffer are the message, and those behind them are as they were. At
+ * LISP_ROOM `*length` is how many bytes it needs, and the buffer is as it was. The faults come in this order:
+ * LISP_COUNTS (no ITR-RLOC or more than LISP_ITR_RLOCS, then no EID-Prefix or more than LISP_EIDS), LISP_FIELD (of the
+ * Source EID, then of the ITR-RLOCs, then of the EID-Prefixes), LISP_ROOM. LISP_OUT_OF_MEMORY may come in place of any
+ * of these.
+ */
+static inline uint16_t lisp_write_request(const struct lisp_request *request, const struct lisp_address *itr_rlocs,
+                                          size_t itr_rloc_count, const struct lisp_prefix *eids, size_t eid_count,
+                                          uint8_t *buffer, size_t room, size_t *length)
+{
+    uint16_t number = lisp_span(itr_rlocs, itr_rloc_count, sizeof *itr_rlocs);
+
+    if (number == LISP_DONE)
+        number = lisp_span(eids, eid_count, sizeof *eids);
+    if (number == LISP_DONE)
+        number = lisp_span(buffer, room, 1);
+    if (number != LISP_DONE)
+        return number;
+    if (request == NULL || length == NULL)
+        return LISP_NULL;
+    return lisp_registration_write_request(request, (const struct lisp_address *)lisp_pointer(itr_rlocs),
+                                           itr_rloc_count, (const struct lisp_prefix *)lisp_pointer(eids), eid_count,
+                                           (uint8_t *)lisp_pointer(buffer), room, length);
+}
+
+/*
+ * Writes a Map-Reply of these records: reserved bits 0. Each record takes as many of the locators as it counts, those
+ * of the first record first. Each flag but 0 is set; what is marked 'read only' above is not looked at.
+ *
+ * At LISP_DONE the first `*length` bytes of the buffer are the message, and those behind them are as they were. At
+ * LISP_ROOM `*length` is how many bytes it needs, and the buffer is as it was. The faults come in this order:
+ * LISP_COUNTS (more than 255 records), then for the records those of lisp_write_message, LISP_ROOM. LISP_OUT_OF_MEMORY
+ * may come in place of any of these.
+ */
+static inline uint16_t lisp_write_reply(const struct lisp_reply *reply, const struct lisp_record *records,
+                                        size_t record_count, const struct lisp_locator *locators, size_t locator_count,
+                                        uint8_t *buffer, size_t room, size_t *length)
+{
+    uint16_t number = lisp_span(records, record_count, sizeof *records);
+
+    if (number == LISP_DONE)
+        number = lisp_span(locators, locator_count, sizeof *locators);
+    if (number == LISP_DONE)
+        number = lisp_span(buffer, room, 1);
+    if (number != LISP_DONE)
+        return number;
+    if (reply == NULL || length == NULL)
+        return LISP_NULL;
+    return lisp_registration_write_reply(reply, (const struct lisp_record *)lisp_pointer(records), record_count,
+                                         (const struct lisp_locator *)lisp_pointer(locators), locator_count,
+                                         (uint8_t *)lisp_pointer(buffer), room, length);
+}
+
+/*
+ * Writes a control message after the headers of an encapsulated one: IPv4 or IPv6 by the addresses, both checksums,
+ * and reserved bits 0. The message is any bytes, and does not lie in the buffer. What is marked 'read only' above is
+ * not looked at.
+ *
+ * At LISP_DONE the first `*length` bytes of the buffer are the whole, and those behind them are as they were. At
+ * LISP_ROOM `*length` is how many bytes it needs, and the buffer is as it was. The faults come in this order:
+ * LISP_FIELD (of the source address, of the destination address, two families, a message of more than 65,507 bytes),
+ * LISP_ROOM. LISP_OUT_OF_MEMORY may come in place of LISP_ROOM and of LISP_DONE.
+ */
+static inline uint16_t lisp_write_encapsulated(const struct lisp_encapsulated *encapsulated, const uint8_t *message,
+                                               size_t message_length, uint8_t *buffer, size_t room, size_t *length)
+{
+    uint16_t number = lisp_span(message, message_length, 1);
+
+    if (number == LISP_DONE)
+        number = lisp_span(buffer, room, 1);
+    if (number != LISP_DONE)
+        return number;
+    if (encapsulated == NULL || length == NULL)
+        return LISP_NULL;
+    return lisp_registration_write_encapsulated(encapsulated, (const uint8_t *)lisp_pointer(message), message_length,
+                                                (uint8_t *)lisp_pointer(buffer), room, length);
 }
 
 /*

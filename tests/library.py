@@ -259,8 +259,8 @@ def test_numbers():
     """Each number of the header is a row of docs/REFUSALS.md."""
     rows = re.findall(r"^\| (\d+)[^|]* \| `(\w+)` \|", (TOP / "docs/REFUSALS.md").read_text(), re.M)
     answers = re.search(r"LISP_DONE = 0,(.*?)};", HEADER.read_text(), re.S)[1]
-    # (ROUTER_ stands in front of a name that a router's number shares with another one)
-    named = re.findall(r"LISP_(?:ROUTER_)?(\w+) = (\d+)", answers)
+    # (ROUTER_ and REQUEST_ stand in front of names that numbers of a router, and of Map-Requests and Map-Replies, share with others)
+    named = re.findall(r"LISP_(?:ROUTER_|REQUEST_)?(\w+) = (\d+)", answers)
     numbers = [(number, name.title().replace("_", "")) for name, number in named]
     check("whether the header has numbers", len(numbers) > 0, True)
     check("numbers that docs/REFUSALS.md hasn't", [it for it in numbers if it not in rows], [])

@@ -1,4 +1,7 @@
+pub mod Asking
 pub mod Datagrams
+pub mod Encapsulating
+pub mod Replying
 pub mod Holding
 pub mod Lengths
 pub mod Loops

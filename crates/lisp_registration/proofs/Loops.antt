@@ -22,7 +22,7 @@ pub none_made : {X : Type 0} (made : Result (List X) WriteFault) → with_front 
 none_made (Ok xs) = refl
 none_made (Err e) = refl
 
-regrouped : {X : Type 0} (front : List X) (x : X) (made : Result (List X) WriteFault) → with_front front (made >>= λ xs. Ok (x ∷ xs)) ≡ with_front (front ++ x ∷ []) made
+pub regrouped : {X : Type 0} (front : List X) (x : X) (made : Result (List X) WriteFault) → with_front front (made >>= λ xs. Ok (x ∷ xs)) ≡ with_front (front ++ x ∷ []) made
 regrouped front x (Ok xs) = ap (λ (ys : List _). Ok ys) (simp append_assoc)
 regrouped front x (Err e) = refl
 

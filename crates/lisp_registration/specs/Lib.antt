@@ -2,6 +2,8 @@ pub mod Fault
 pub mod Plain
 pub mod Meaning
 pub mod Told
+pub mod Requests
+pub mod RequestMeaning
 pub mod Room
 pub mod Server
 pub mod Starting

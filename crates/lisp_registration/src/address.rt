@@ -1,9 +1,13 @@
 //! Addresses, as C has them.
 
-ghost use Rattle.std.specs.Prelude.{◌≡◌, ◌++◌, replicate};
+ghost use Rattle.std.specs.Prelude.{◌≡◌, ◌++◌, length, replicate, IfOk, IsErrOf};
 ghost use Rattle.lisp_registration.specs.Plain.{no_address, plain_address};
-ghost use Rattle.lisp_registration.specs.Meaning.{address_in};
+ghost use Rattle.lisp_registration.specs.RequestMeaning.{each_in};
+ghost use Rattle.lisp_registration.specs.Meaning.{Makes, address_in};
+ghost use Rattle.lisp_registration.specs.declared.fault.WriteFault.TheVariants.{OutOfMemory};
 
+use crate::fault::WriteFault;
+use lisp_memory::{FallibleVec, Memory};
 use lisp_records::{Addr, Family};
 
 /// An address, in plain numbers (RFC 9301 section 5.4).
@@ -60,4 +64,23 @@ fn sixteen(octets: [u8; 4]) -> [u8; 16]
 {
     let [a, b, c, d] = octets;
     [a, b, c, d, 0, 0, 0, 0, 0, 0, 0, 0, 0, 0, 0, 0]
+}
+
+/// The addresses, in memory of `alloc`; `Field` for the first that is none.
+pub(crate) fn addresses_of<A: Memory>(
+    alloc: A,
+    plain: &[PlainAddress],
+) -> Result<Vec<Addr, A>, WriteFault>
+    ensures value { Makes (λ v. v.items) result (each_in address_in plain.now) }
+    ensures count { IfOk result (λ v. length v.items ≡ length plain.now) }
+    ensures memory { IsErrOf result OutOfMemory → A.may_refuse }
+{
+    let mut addresses = Vec::new(alloc);
+    for address in plain {
+        let Some(addr) = address.addr() else {
+            return Err(WriteFault::Field);
+        };
+        addresses.try_push(addr)?;
+    }
+    Ok(addresses)
 }

@@ -11,10 +11,12 @@ use std::alloc::{AllocError, AllocFailed};
 pub enum WriteFault {
     /// The buffer has no room for it.
     Room,
-    /// A field has no place in a message: a type other than 3, 4 and 5, an address family other than 1 and 2, a mask
-    /// longer than its address, ACT above 7, or a Map-Version number above 4095.
+    /// A field has no place in a message: a type other than 3, 4 and 5, an address family other than 1 and 2 (and 0 of a
+    /// Source EID), a mask longer than its address, ACT above 7, a Map-Version number above 4095, two families around an
+    /// encapsulated message, or such a message of more than 65,507 bytes.
     Field,
-    /// More than 255 records, or not as many locators as the records count.
+    /// More than 255 records, or not as many locators as the records count; of a Map-Request no ITR-RLOC or more than 32,
+    /// and no EID-Prefix or more than 255.
     Counts,
     /// Out of memory.
     OutOfMemory,

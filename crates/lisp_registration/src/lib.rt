@@ -2,8 +2,8 @@
 //! written into the caller's buffer, and the cores of a Map-Server and of a router behind handles. What C sees is in
 //! `include/lisp_registration.h`.
 //!
-//! Each export does what the function of a core or of `lisp_messages` below it does, and says so in its contract. What the
-//! caller has to keep (pointers to so much memory) no contract can say: it stands in the header.
+//! Each export does what the function of a core, of `lisp_messages` or of `lisp_requests` below it does, and says so in its
+//! contract. What the caller has to keep (pointers to so much memory) no contract can say: it stands in the header.
 //!
 //! # Decisions
 //!
@@ -30,6 +30,8 @@
 mod address;
 mod answer;
 mod due;
+mod eid;
+mod encapsulated;
 mod fault;
 mod handle_fault;
 mod held;
@@ -41,9 +43,12 @@ mod notice;
 mod notices;
 mod pair;
 mod reading;
+mod reading_requests;
 mod received;
 mod record;
 mod records;
+mod reply;
+mod request;
 mod room;
 mod router;
 mod router_handle;
@@ -56,10 +61,13 @@ mod starting;
 mod tag;
 mod telling;
 mod writing;
+mod writing_requests;
 
 pub use address::PlainAddress;
 pub use answer::PlainAnswer;
 pub use due::PlainDue;
+pub use eid::PlainPrefix;
+pub use encapsulated::PlainEncapsulated;
 pub use fault::WriteFault;
 pub use handle_fault::HandleFault;
 pub use held::{lisp_registration_server_answer, lisp_registration_server_row};
@@ -75,8 +83,14 @@ pub use pair::{PlainNonce, PlainPair};
 pub use reading::{
     lisp_registration_read_locator, lisp_registration_read_message, lisp_registration_read_record,
 };
+pub use reading_requests::{
+    lisp_registration_read_eid, lisp_registration_read_encapsulated,
+    lisp_registration_read_itr_rloc, lisp_registration_read_reply, lisp_registration_read_request,
+};
 pub use received::PlainReceived;
 pub use record::PlainRecord;
+pub use reply::PlainReply;
+pub use request::PlainRequest;
 pub use router::{
     lisp_registration_router_due, lisp_registration_router_receive, lisp_registration_router_send,
 };
@@ -95,3 +109,7 @@ pub use server::{
 };
 pub use tag::{lisp_registration_authentic, lisp_registration_sign};
 pub use writing::lisp_registration_write_message;
+pub use writing_requests::{
+    lisp_registration_write_encapsulated, lisp_registration_write_reply,
+    lisp_registration_write_request,
+};

@@ -1,12 +1,13 @@
 //! Writing a message into the caller's buffer.
 
-ghost use Rattle.std.specs.Prelude.{◌≡◌, ◌<◌, length, IfOk, OnErr, IsErrOf};
+ghost use Rattle.std.specs.Prelude.{◌≡◌, ◌<◌, ℕ, List, Result, length, IfOk, OnErr, IsErrOf};
 ghost use Rattle.lisp_memory.specs.Refusal.{MachineMayRefuse};
 ghost use Rattle.lisp_messages.specs.Authentic.{signed};
 ghost use Rattle.lisp_messages.specs.Written.{written};
 ghost use Rattle.lisp_registration.specs.Meaning.{Makes, datagram_in, kind_in};
 ghost use Rattle.lisp_registration.specs.Server.{length_in};
 ghost use Rattle.lisp_registration.specs.Told.{TellsWritten, put_in};
+ghost use Rattle.lisp_registration.specs.declared.fault.WriteFault.{WriteFault};
 ghost use Rattle.lisp_registration.specs.declared.fault.WriteFault.TheVariants.{OutOfMemory};
 
 use crate::fault::WriteFault;
@@ -18,7 +19,7 @@ use lisp_hmac::Key;
 use lisp_memory::Memory;
 use lisp_messages::{Kind, write_notify_under, write_register_under};
 use lisp_records::{MAX_RECORDS, Records};
-use std::alloc::{AllocError, Global};
+use std::alloc::{AllocError, Allocator, Global};
 
 /// Writes the message of these fields, records and locators, authentic under a secret of any length, into the buffer: bit I
 /// set, all reserved bits 0. Each record has so many of the locators as it counts, those of the first record first. At 0,
@@ -38,17 +39,8 @@ pub extern "C" fn lisp_registration_write_message(
         buffer.old length.old result buffer.new length.new }
     ensures memory { result ≡ 105 → MachineMayRefuse }
 {
-    match datagram(alloc, message, records, locators, secret) {
-        Ok(bytes) => {
-            *length = bytes.len();
-            if put(&bytes, buffer) {
-                0
-            } else {
-                WriteFault::Room.number()
-            }
-        }
-        Err(fault) => fault.number(),
-    }
+    let written = datagram(alloc, message, records, locators, secret);
+    put_written(&written, buffer, length)
 }
 
 // The bytes of the message. Faults: `Field` for its type, `Counts` for more than 255 records, then those of `records_of`.
@@ -90,6 +82,30 @@ fn signed<A: Memory>(
         Kind::Register => write_register_under(alloc, &message.register(records), key),
         Kind::Notify => write_notify_under(alloc, &message.notify(false, records), key),
         Kind::NotifyAck => write_notify_under(alloc, &message.notify(true, records), key),
+    }
+}
+
+/// Puts a message that was written in front of a buffer, and its length into `length`: 0, or the number of `Room` 102 where
+/// the buffer has no room for it, or of the fault for which it was not written.
+pub(crate) fn put_written<A: Allocator>(
+    written: &Result<Vec<u8, A>, WriteFault>,
+    buffer: &mut [u8],
+    length: &mut usize,
+) -> u16
+    ensures written { (datagram : Result (List ℕ) WriteFault) → Makes (λ v. v.items) written.now datagram →
+        TellsWritten datagram buffer.old length.old result buffer.new length.new }
+    ensures memory { result ≡ 105 → IsErrOf written.now OutOfMemory }
+{
+    match written {
+        Ok(bytes) => {
+            *length = bytes.len();
+            if put(bytes, buffer) {
+                0
+            } else {
+                WriteFault::Room.number()
+            }
+        }
+        Err(fault) => fault.number(),
     }
 }
 
