@@ -27,11 +27,14 @@ pub fn save_and_crash<S: Alter + Reopen + Drop>(
 
     // The nonce of the save that was done is kept, or that of the later one.
     ensures kept { IfSome result (λ again. HasCleanDisk (state S.Store again)
-        → Keeps (state S.Store again).now.trees pair.now (Some first) ⊎ Keeps (state S.Store again).now.trees pair.now (Some second)) }
+        → Keeps (state S.Store again).now.trees pair.now (Some first)
+        ⊎ Keeps (state S.Store again).now.trees pair.now (Some second)) }
 
     // For every other pair, what was kept before.
-    ensures others { IfSome result (λ again. HasCleanDisk (state S.Store again) → (q : _) → IsPair q → q ≢ pair.now
-        → rows_of (state S.Store again).now.trees q ≡ rows_of (state S.Store connection).now.trees q) }
+    ensures others { IfSome result (λ again. HasCleanDisk (state S.Store again) → (q : _)
+        → IsPair q → q ≢ pair.now
+        → rows_of (state S.Store again).now.trees q
+        ≡ rows_of (state S.Store connection).now.trees q) }
 {
     match save_nonce(&mut connection, pair, first) {
         Ok(_) => save_later(alloc, connection, pair, second),
@@ -46,10 +49,13 @@ fn save_later<S: Alter + Reopen + Drop>(
     pair: &Pair,
     nonce: u64,
 ) -> Option<Connection<S>>
-    ensures clean { IfSome result (λ again. doubt (state S.Store connection).is_clean ≤ doubt (state S.Store again).is_clean) }
+    ensures clean { IfSome result
+        (λ again. doubt (state S.Store connection).is_clean
+        ≤ doubt (state S.Store again).is_clean) }
     ensures left { IfSome result (λ again. HasCleanDisk (state S.Store again)
         → (state S.Store connection).may_leave (state S.Store again).now.trees
-        ⊎ (IsOfNonces (state S.Store connection).now → CommitsSave (state S.Store connection) pair.now nonce (state S.Store again).now.trees)) }
+        ⊎ (IsOfNonces (state S.Store connection).now
+        → CommitsSave (state S.Store connection) pair.now nonce (state S.Store again).now.trees)) }
 {
     let _ = save_nonce(&mut connection, pair, nonce);
     crash(alloc, connection)
@@ -60,8 +66,11 @@ fn crash<S: Alter + Reopen + Drop>(
     alloc: Global,
     connection: Connection<S>,
 ) -> Option<Connection<S>>
-    ensures clean { IfSome result (λ again. doubt (state S.Store connection).is_clean ≤ doubt (state S.Store again).is_clean) }
-    ensures left { IfSome result (λ again. HasCleanDisk (state S.Store again) → (state S.Store connection).may_leave (state S.Store again).now.trees) }
+    ensures clean { IfSome result
+        (λ again. doubt (state S.Store connection).is_clean
+        ≤ doubt (state S.Store again).is_clean) }
+    ensures left { IfSome result (λ again. HasCleanDisk (state S.Store again)
+        → (state S.Store connection).may_leave (state S.Store again).now.trees) }
 {
     let mut store = connection.into_store();
     match store.crash_and_reopen() {

@@ -61,7 +61,9 @@ fn are_columns(columns: &[Column]) -> bool
 
 // The primary key of the table is what a pair gives, and nothing else is unique.
 fn is_keyed(table: &Table) -> bool
-    ensures { IsTrue result ↔ ((table.now.primary ≡ nonces.primary) × (table.now.uniques ≡ nonces.uniques) × (table.now.orders ≡ nonces.orders)) }
+    ensures { IsTrue result
+        ↔ ((table.now.primary ≡ nonces.primary) × (table.now.uniques ≡ nonces.uniques)
+        × (table.now.orders ≡ nonces.orders)) }
 {
     match (table.uniques.as_slice(), table.orders.as_slice()) {
         ([unique], [order]) => is_key(table.primary.as_slice())

@@ -80,7 +80,8 @@ impl<S: Alter + Drop> Table for SqliteTable<S> {
 fn told<V: Drop>(answer: Result<V, Error>) -> Result<V, Failure>
     ensures done { IfOk answer (λ value. result ≡ Ok value) }
     ensures same { IfOk result (λ value. answer ≡ Ok value) }
-    ensures fault { IfErr answer (λ error. IfErr result (λ failure. failure.fault ≡ load_fault error)) }
+    ensures fault { IfErr answer
+        (λ error. IfErr result (λ failure. failure.fault ≡ load_fault error)) }
 {
     match answer {
         Ok(value) => Ok(value),

@@ -37,15 +37,19 @@ pub fn load_nonce<S: Alter>(
     pair: &Pair,
 ) -> Result<Option<u64>, Error>
     // What is kept for the pair.
-    ensures kept { IsOfNonces (state S.Store connection.old).now → HasCleanDisk (state S.Store connection.new)
+    ensures kept { IsOfNonces (state S.Store connection.old).now
+        → HasCleanDisk (state S.Store connection.new)
         → IfOk result (Keeps (state S.Store connection.old).now.trees pair.now) }
 
     // A load changes nothing.
-    ensures unchanged { HasTables (state S.Store connection.old) → HasCleanDisk (state S.Store connection.new)
+    ensures unchanged { HasTables (state S.Store connection.old)
+        → HasCleanDisk (state S.Store connection.new)
         → OnOk result (IsUnchanged (state S.Store connection.old) (state S.Store connection.new)) }
-    ensures failed { HasTables (state S.Store connection.old) → HasCleanDisk (state S.Store connection.new)
+    ensures failed { HasTables (state S.Store connection.old)
+        → HasCleanDisk (state S.Store connection.new)
         → OnErr result (LeavesAll (state S.Store connection.old) (state S.Store connection.new)) }
-    ensures crash { Survives (state S.Store connection.old) (state S.Store connection.new) (λ _. ¬ (HasTables (state S.Store connection.old))) }
+    ensures crash { Survives (state S.Store connection.old) (state S.Store connection.new)
+        (λ _. ¬ (HasTables (state S.Store connection.old))) }
 {
     let _schema = connection.schema();
     read_nonce(connection, pair)
@@ -58,8 +62,10 @@ pub fn save_nonce<S: Alter>(
     nonce: u64,
 ) -> Result<usize, Error>
     // Of a database of nonces, it is kept, and nothing else changes.
-    ensures saved { IsOfNonces (state S.Store connection.old).now → HasCleanDisk (state S.Store connection.new)
-        → OnOk result (SavesNonce (state S.Store connection.old) (state S.Store connection.new) pair.now nonce) }
+    ensures saved { IsOfNonces (state S.Store connection.old).now
+        → HasCleanDisk (state S.Store connection.new)
+        → OnOk result (SavesNonce (state S.Store connection.old)
+        (state S.Store connection.new) pair.now nonce) }
 
     // A save that failed leaves all as before, or as the last commit left it.
     ensures failed { HasCleanDisk (state S.Store connection.new)
@@ -67,7 +73,8 @@ pub fn save_nonce<S: Alter>(
 
     // Outside a transaction, a crash leaves what it could leave before, or the database with the nonce; inside one, what it could before.
     ensures crash { Survives (state S.Store connection.old) (state S.Store connection.new)
-        (λ db. IsOfNonces (state S.Store connection.old).now → CommitsSave (state S.Store connection.old) pair.now nonce db) }
+        (λ db. IsOfNonces (state S.Store connection.old).now
+        → CommitsSave (state S.Store connection.old) pair.now nonce db) }
 {
     known(*pair);
     write_row(connection, pair, nonce)
@@ -79,12 +86,16 @@ pub fn keep_greatest<S: Alter>(
     pair: &Pair,
     nonce: u64,
 ) -> Result<(), Error>
-    ensures greatest { IsOfNonces (state S.Store connection.old).now → HasCleanDisk (state S.Store connection.new)
-        → OnOk result (KeepsGreatest (state S.Store connection.old) (state S.Store connection.new) pair.now nonce) }
-    ensures failed { HasTables (state S.Store connection.old) → HasCleanDisk (state S.Store connection.new)
+    ensures greatest { IsOfNonces (state S.Store connection.old).now
+        → HasCleanDisk (state S.Store connection.new)
+        → OnOk result (KeepsGreatest (state S.Store connection.old)
+        (state S.Store connection.new) pair.now nonce) }
+    ensures failed { HasTables (state S.Store connection.old)
+        → HasCleanDisk (state S.Store connection.new)
         → OnErr result (LeavesAll (state S.Store connection.old) (state S.Store connection.new)) }
     ensures crash { Survives (state S.Store connection.old) (state S.Store connection.new)
-        (λ db. IsOfNonces (state S.Store connection.old).now → CommitsSave (state S.Store connection.old) pair.now nonce db) }
+        (λ db. IsOfNonces (state S.Store connection.old).now
+        → CommitsSave (state S.Store connection.old) pair.now nonce db) }
 {
     let kept = load_nonce(connection, pair)?;
     if is_as_great(kept, nonce) {
@@ -107,9 +118,11 @@ fn is_as_great(kept: Option<u64>, nonce: u64) -> bool
 
 /// For how many pairs a nonce is kept.
 pub fn count_pairs<S: Alter>(connection: &mut Connection<S>) -> Result<usize, Error>
-    ensures counted { HasTables (state S.Store connection.old) → HasCleanDisk (state S.Store connection.new)
+    ensures counted { HasTables (state S.Store connection.old)
+        → HasCleanDisk (state S.Store connection.new)
         → IfOk result (CountsPairs (state S.Store connection.old).now.trees) }
-    ensures unchanged { HasTables (state S.Store connection.old) → HasCleanDisk (state S.Store connection.new)
+    ensures unchanged { HasTables (state S.Store connection.old)
+        → HasCleanDisk (state S.Store connection.new)
         → OnOk result (IsUnchanged (state S.Store connection.old) (state S.Store connection.new)) }
 {
     read_count(connection)
@@ -126,7 +139,8 @@ fn read_count<S: Alter>(connection: &mut Connection<S>) -> Result<usize, Error>
 // The row with the count of pairs.
 fn query_count<S: Alter>(connection: &mut Connection<S>) -> Result<Row, Error>
     ensures { HasCleanDisk (state S.Store connection.new)
-        → QueriesRow count_text [] (state S.Store connection.old) (state S.Store connection.new) result }
+        → QueriesRow count_text [] (state S.Store connection.old)
+        (state S.Store connection.new) result }
 {
     connection.query_row(COUNT, &[])
 }
@@ -141,9 +155,14 @@ fn count_in(row: &Row) -> Result<usize, Error>
 
 // The nonce of a pair.
 fn read_nonce<S: Alter>(connection: &mut Connection<S>, pair: &Pair) -> Result<Option<u64>, Error>
-    ensures loads { HasCleanDisk (state S.Store connection.new) → IfOk result (Loads (state S.Store connection.old) (state S.Store connection.new) pair.now) }
-    ensures fails { HasCleanDisk (state S.Store connection.new) → OnErr result (LoadFails (state S.Store connection.old) (state S.Store connection.new) pair.now) }
-    ensures survives { Survives (state S.Store connection.old) (state S.Store connection.new) (CommitsLoad (state S.Store connection.old) pair.now) }
+    ensures loads { HasCleanDisk (state S.Store connection.new)
+        → IfOk result (Loads (state S.Store connection.old)
+        (state S.Store connection.new) pair.now) }
+    ensures fails { HasCleanDisk (state S.Store connection.new)
+        → OnErr result (LoadFails (state S.Store connection.old)
+        (state S.Store connection.new) pair.now) }
+    ensures survives { Survives (state S.Store connection.old) (state S.Store connection.new)
+        (CommitsLoad (state S.Store connection.old) pair.now) }
 {
     match find_row(connection, pair) {
         Ok(row) => Ok(Some(nonce_in(&row)?)),
@@ -158,8 +177,11 @@ fn write_row<S: Alter>(
     pair: &Pair,
     nonce: u64,
 ) -> Result<usize, Error>
-    ensures saves { HasCleanDisk (state S.Store connection.new) → Saves (state S.Store connection.old) (state S.Store connection.new) pair.now nonce result }
-    ensures survives { Survives (state S.Store connection.old) (state S.Store connection.new) (CommitsNonce (state S.Store connection.old) pair.now nonce) }
+    ensures saves { HasCleanDisk (state S.Store connection.new)
+        → Saves (state S.Store connection.old)
+        (state S.Store connection.new) pair.now nonce result }
+    ensures survives { Survives (state S.Store connection.old) (state S.Store connection.new)
+        (CommitsNonce (state S.Store connection.old) pair.now nonce) }
 {
     let (site, xtr) = (site_digits(pair.router.site), xtr_digits(pair.router.xtr));
     let nonce = nonce_digits(nonce);
@@ -172,8 +194,11 @@ fn write_row<S: Alter>(
 
 // The row of a pair.
 fn find_row<S: Alter>(connection: &mut Connection<S>, pair: &Pair) -> Result<Row, Error>
-    ensures row { HasCleanDisk (state S.Store connection.new) → QueriesRow load_text (key_of pair.now) (state S.Store connection.old) (state S.Store connection.new) result }
-    ensures survives { Survives (state S.Store connection.old) (state S.Store connection.new) (CommitsLoad (state S.Store connection.old) pair.now) }
+    ensures row { HasCleanDisk (state S.Store connection.new)
+        → QueriesRow load_text (key_of pair.now) (state S.Store connection.old)
+        (state S.Store connection.new) result }
+    ensures survives { Survives (state S.Store connection.old) (state S.Store connection.new)
+        (CommitsLoad (state S.Store connection.old) pair.now) }
 {
     let (site, xtr) = (site_digits(pair.router.site), xtr_digits(pair.router.xtr));
     let (kind, key) = (kind_word(pair.kind), u32::from(pair.key));
@@ -182,8 +207,11 @@ fn find_row<S: Alter>(connection: &mut Connection<S>, pair: &Pair) -> Result<Row
 
 // The row with a key.
 fn query_row<S: Alter>(connection: &mut Connection<S>, key: &[ValueRef<'_>]) -> Result<Row, Error>
-    ensures row { HasCleanDisk (state S.Store connection.new) → QueriesRow load_text (bound key.now) (state S.Store connection.old) (state S.Store connection.new) result }
-    ensures survives { Survives (state S.Store connection.old) (state S.Store connection.new) (CommitsShowing load_text (bound key.now) (state S.Store connection.old)) }
+    ensures row { HasCleanDisk (state S.Store connection.new)
+        → QueriesRow load_text (bound key.now) (state S.Store connection.old)
+        (state S.Store connection.new) result }
+    ensures survives { Survives (state S.Store connection.old) (state S.Store connection.new)
+        (CommitsShowing load_text (bound key.now) (state S.Store connection.old)) }
 {
     connection.query_row(LOAD, key)
 }

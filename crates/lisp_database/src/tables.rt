@@ -29,12 +29,17 @@ pub fn make_tables<S: Alter>(connection: &mut Connection<S>) -> Result<(), Error
     ensures tables { OnOk result (HasTables (state S.Store connection.new)) }
 
     // Of a new database, they have no row yet, and are committed.
-    ensures made { HasNothing (state S.Store connection.old) → HasCleanDisk (state S.Store connection.new) → OnOk result (MakesTables (state S.Store connection.new)) }
-    ensures crash { Survives (state S.Store connection.old) (state S.Store connection.new) (λ db. HasNothing (state S.Store connection.old) → AreMade db) }
+    ensures made { HasNothing (state S.Store connection.old)
+        → HasCleanDisk (state S.Store connection.new)
+        → OnOk result (MakesTables (state S.Store connection.new)) }
+    ensures crash { Survives (state S.Store connection.old) (state S.Store connection.new)
+        (λ db. HasNothing (state S.Store connection.old) → AreMade db) }
 
     // Of any other, nothing changes.
     ensures same { ¬ (HasNothing (state S.Store connection.old)) → connection.new ≡ connection.old }
-    ensures other { ¬ (HasNothing (state S.Store connection.old)) → ¬ (HasTables (state S.Store connection.old)) → result ≡ Err (SqliteFailure DatabaseCorrupt) }
+    ensures other { ¬ (HasNothing (state S.Store connection.old))
+        → ¬ (HasTables (state S.Store connection.old))
+        → result ≡ Err (SqliteFailure DatabaseCorrupt) }
     ensures mode { connection.old.in_transaction ≡ false → connection.new.in_transaction ≡ false }
 {
     if is_new(connection.schema()) {
@@ -50,7 +55,8 @@ pub fn make_tables<S: Alter>(connection: &mut Connection<S>) -> Result<(), Error
 // Makes both tables in one transaction.
 fn create<S: Alter>(connection: &mut Connection<S>) -> Result<(), Error>
     requires { HasNothing (state S.Store connection.old) }
-    ensures made { HasCleanDisk (state S.Store connection.new) → OnOk result (MakesTables (state S.Store connection.new)) }
+    ensures made { HasCleanDisk (state S.Store connection.new)
+        → OnOk result (MakesTables (state S.Store connection.new)) }
     ensures crash { Survives (state S.Store connection.old) (state S.Store connection.new) AreMade }
     ensures mode { connection.old.in_transaction ≡ false → connection.new.in_transaction ≡ false }
 {

@@ -43,7 +43,8 @@ pub fn save_writer<S: Alter>(connection: &mut Connection<S>, writer: &Writer) ->
 // The row of who wrote last.
 fn find_row<S: Alter>(connection: &mut Connection<S>) -> Result<Row, Error>
     ensures { HasCleanDisk (state S.Store connection.new)
-        → QueriesRow load_writer_text [] (state S.Store connection.old) (state S.Store connection.new) result }
+        → QueriesRow load_writer_text [] (state S.Store connection.old)
+        (state S.Store connection.new) result }
 {
     connection.query_row(LOAD, &[])
 }
@@ -55,7 +56,8 @@ fn put<S: Alter>(
     writer: &Writer,
 ) -> Result<usize, Error>
     ensures runs { HasCleanDisk (state S.Store connection.new)
-        → Executes statement.now (row_of_writer writer.now) (state S.Store connection.old) (state S.Store connection.new) result }
+        → Executes statement.now (row_of_writer writer.now) (state S.Store connection.old)
+        (state S.Store connection.new) result }
     ensures survives { Survives (state S.Store connection.old) (state S.Store connection.new)
         (CommitsBy statement.now (row_of_writer writer.now) (state S.Store connection.old)) }
 {

@@ -68,7 +68,8 @@ impl<T: SystemTable> Database<T> {
     pub fn load(&mut self, pair: &Pair) -> Result<Option<u64>, Failure>
         ensures kept { IfOk result (Finds T.Table.means self.old.table self.new.table pair.now) }
         ensures unchanged { OnOk result (LeavesAll T.Table.means self.old.table self.new.table) }
-        ensures anew { IfErr result (λ failure. failure.fault ≡ StoreFault.Device → self.new.table ≡ None) }
+        ensures anew { IfErr result (λ failure. failure.fault ≡ StoreFault.Device
+            → self.new.table ≡ None) }
     {
         let mut table = self.opened()?;
         let answer = table.load(pair);
@@ -77,7 +78,8 @@ impl<T: SystemTable> Database<T> {
 
     /// Keeps the nonce for the pair, and is done once that is committed, outside a transaction. `Device` whatever failed.
     pub fn save(&mut self, pair: &Pair, nonce: u64) -> Result<(), Failure>
-        ensures saved { OnOk result (Saves T.Table.means self.old.table self.new.table pair.now nonce) }
+        ensures saved { OnOk result
+            (Saves T.Table.means self.old.table self.new.table pair.now nonce) }
         ensures device { IfErr result (λ failure. failure.fault ≡ StoreFault.Device) }
         ensures anew { OnErr result (self.new.table ≡ None) }
     {
@@ -90,7 +92,8 @@ impl<T: SystemTable> Database<T> {
     pub fn pairs(&mut self) -> Result<usize, Failure>
         ensures counted { IfOk result (CountsPairs T.Table.means self.old.table self.new.table) }
         ensures unchanged { OnOk result (LeavesAll T.Table.means self.old.table self.new.table) }
-        ensures anew { IfErr result (λ failure. failure.fault ≡ StoreFault.Device → self.new.table ≡ None) }
+        ensures anew { IfErr result (λ failure. failure.fault ≡ StoreFault.Device
+            → self.new.table ≡ None) }
     {
         let mut table = self.opened()?;
         let answer = table.count_pairs();
@@ -99,7 +102,8 @@ impl<T: SystemTable> Database<T> {
 
     /// Keeps the nonce for the pair, unless it has a greater one. `Device` whatever failed.
     pub(crate) fn keep_greatest(&mut self, pair: &Pair, nonce: u64) -> Result<(), Failure>
-        ensures greatest { OnOk result (SavesGreatest T.Table.means self.old.table self.new.table pair.now nonce) }
+        ensures greatest { OnOk result
+            (SavesGreatest T.Table.means self.old.table self.new.table pair.now nonce) }
         ensures device { IfErr result (λ failure. failure.fault ≡ StoreFault.Device) }
         ensures anew { OnErr result (self.new.table ≡ None) }
     {
@@ -111,7 +115,8 @@ impl<T: SystemTable> Database<T> {
     /// Who wrote last, `None` for nobody.
     pub(crate) fn load_writer(&mut self) -> Result<Option<Writer>, Failure>
         ensures found { IfOk result (FindsWriter T.Table.means self.old.table self.new.table) }
-        ensures anew { IfErr result (λ failure. failure.fault ≡ StoreFault.Device → self.new.table ≡ None) }
+        ensures anew { IfErr result (λ failure. failure.fault ≡ StoreFault.Device
+            → self.new.table ≡ None) }
     {
         let mut table = self.opened()?;
         let answer = table.load_writer();
@@ -120,7 +125,8 @@ impl<T: SystemTable> Database<T> {
 
     /// Keeps who wrote last. `Device` whatever failed.
     pub(crate) fn save_writer(&mut self, writer: &Writer) -> Result<(), Failure>
-        ensures saved { OnOk result (SavesWriter T.Table.means self.old.table self.new.table writer.now) }
+        ensures saved { OnOk result
+            (SavesWriter T.Table.means self.old.table self.new.table writer.now) }
         ensures device { IfErr result (λ failure. failure.fault ≡ StoreFault.Device) }
         ensures anew { OnErr result (self.new.table ≡ None) }
     {
@@ -229,7 +235,8 @@ impl<T: SystemTable> Database<T> {
     fn answered<V: Drop>(&mut self, table: T, answer: Result<V, Failure>) -> Result<V, Failure>
         ensures same { result ≡ answer }
         ensures open { OnOk result (self.new.table ≡ Some table) }
-        ensures anew { IfErr result (λ failure. failure.fault ≡ StoreFault.Device → self.new.table ≡ self.old.table) }
+        ensures anew { IfErr result (λ failure. failure.fault ≡ StoreFault.Device
+            → self.new.table ≡ self.old.table) }
     {
         match &answer {
             Err(failure) if failure.fault == StoreFault::Device => self.failed = failure.kind,
@@ -240,7 +247,8 @@ impl<T: SystemTable> Database<T> {
 
     // The answer of a call that writes; the database stays open if that was done, in the files that lie at their names.
     fn written<V: Drop>(&mut self, table: T, answer: Result<V, Failure>) -> Result<(), Failure>
-        ensures ok { OnOk result ((value : _) × (answer ≡ Ok value) × (self.new.table ≡ Some table)) }
+        ensures ok { OnOk result ((value : _) × (answer ≡ Ok value)
+            × (self.new.table ≡ Some table)) }
         ensures anew { OnErr result (self.new.table ≡ self.old.table) }
         ensures device { IfErr result (λ failure. failure.fault ≡ StoreFault.Device) }
     {

@@ -46,11 +46,14 @@ impl<T: SystemTable> Groups<T> {
 
     /// The nonce that the pair has with the saves of the group, `None` for nothing. `Damaged` where its row has another form.
     pub fn load(&mut self, pair: &Pair) -> Result<Option<u64>, Failure>
-        ensures kept { IfOk result (Finds T.Table.means self.old.database.table self.new.database.table pair.now) }
-        ensures unchanged { OnOk result (LeavesAll T.Table.means self.old.database.table self.new.database.table) }
+        ensures kept { IfOk result
+            (Finds T.Table.means self.old.database.table self.new.database.table pair.now) }
+        ensures unchanged { OnOk result
+            (LeavesAll T.Table.means self.old.database.table self.new.database.table) }
         ensures lost { self.old.group ≡ Group.Lost → IsErr result }
         ensures stays { StaysLost self.old self.new }
-        ensures loses { IfErr result (λ failure. failure.fault ≡ StoreFault.Device → LosesGroup self.old self.new) }
+        ensures loses { IfErr result (λ failure. failure.fault ≡ StoreFault.Device
+            → LosesGroup self.old self.new) }
         ensures found { OnOk result (self.new.group ≡ self.old.group) }
         ensures goes_on { OnErr result (GoesOn T.Table.means self.old self.new) }
     {
@@ -114,7 +117,8 @@ impl<T: SystemTable> Groups<T> {
 
     // Begins the transaction of the group, if that isn't done.
     fn begin(&mut self) -> Result<(), Failure>
-        ensures begun { self.old.group ≡ Group.Empty → OnOk result (Begins T.Table.means self.old.database.table self.new.database.table) }
+        ensures begun { self.old.group ≡ Group.Empty
+            → OnOk result (Begins T.Table.means self.old.database.table self.new.database.table) }
         ensures waited { self.old.group ≡ Group.Waiting → self.new.database ≡ self.old.database }
         ensures lost { self.old.group ≡ Group.Lost → IsErr result }
         ensures same { self.new.group ≡ self.old.group }
@@ -132,7 +136,8 @@ impl<T: SystemTable> Groups<T> {
         ensures same { result ≡ answer }
         ensures unchanged { OnOk result (self.new ≡ self.old) }
         ensures stays { StaysLost self.old self.new }
-        ensures loses { IfErr result (λ failure. failure.fault ≡ StoreFault.Device → LosesGroup self.old self.new) }
+        ensures loses { IfErr result (λ failure. failure.fault ≡ StoreFault.Device
+            → LosesGroup self.old self.new) }
         ensures goes_on { OnErr result (GoesOn T.Table.means self.old self.new) }
     {
         if let Err(failure) = &answer {

@@ -28,19 +28,25 @@ pub trait Keeper: Drop {
         ensures found { IfOk result (finds self.old self.new pair.now) }
 
         // The answer is a value that may be kept, and no list changes.
-        ensures member { IsTrue (seen self.old).is_honest → IfOk result (λ value. Contains (kept_at (seen self.old).kept pair.now) value) }
-        ensures same { IsTrue (seen self.old).is_honest → (seen self.new).kept ≡ (seen self.old).kept }
+        ensures member { IsTrue (seen self.old).is_honest
+            → IfOk result (λ value. Contains (kept_at (seen self.old).kept pair.now) value) }
+        ensures same { IsTrue (seen self.old).is_honest
+            → (seen self.new).kept ≡ (seen self.old).kept }
         ensures honest { (seen self.new).is_honest ≡ (seen self.old).is_honest }
-        ensures refused { IfErr result (λ failure. failure.fault ≡ StoreFault.OutOfMemory → seen self.new ≡ seen self.old) };
+        ensures refused { IfErr result (λ failure. failure.fault ≡ StoreFault.OutOfMemory
+            → seen self.new ≡ seen self.old) };
 
     /// Keeps the nonce for the pair. `Device` whatever failed: a commit may have been under way.
     fn save_nonce(&mut self, pair: &Pair, nonce: u64) -> Result<(), Failure>
         ensures saved { OnOk result (saves self.old self.new pair.now nonce) }
 
         // Done: this value alone is kept. Not done: what was kept may be, and perhaps this value.
-        ensures done { IsTrue (seen self.old).is_honest → OnOk result (kept_at (seen self.new).kept pair.now ≡ Some nonce ∷ []) }
-        ensures doubt { IsTrue (seen self.old).is_honest → OnErr result (PairInDoubt (seen self.old).kept (seen self.new).kept pair.now nonce) }
-        ensures others { IsTrue (seen self.old).is_honest → SameElsewhere (seen self.old).kept (seen self.new).kept pair.now }
+        ensures done { IsTrue (seen self.old).is_honest
+            → OnOk result (kept_at (seen self.new).kept pair.now ≡ Some nonce ∷ []) }
+        ensures doubt { IsTrue (seen self.old).is_honest
+            → OnErr result (PairInDoubt (seen self.old).kept (seen self.new).kept pair.now nonce) }
+        ensures others { IsTrue (seen self.old).is_honest
+            → SameElsewhere (seen self.old).kept (seen self.new).kept pair.now }
         ensures honest { (seen self.new).is_honest ≡ (seen self.old).is_honest }
         ensures device { IfErr result (λ failure. failure.fault ≡ StoreFault.Device) };
 

@@ -40,7 +40,8 @@ impl<'a, T: SystemTable> SharedDatabase<'a, T> {
 
     /// A store in it.
     pub fn store(&'a self) -> DatabaseStore<'a, &'a SharedDatabase<'a, T>>
-        ensures { (⟦<DatabaseStore<'a, &'a SharedDatabase<'a, T>> as NonceStore>⟧.seen result) ≡ shared_store }
+        ensures { (⟦<DatabaseStore<'a, &'a SharedDatabase<'a, T>> as NonceStore>⟧.seen result)
+            ≡ shared_store }
     {
         DatabaseStore::over(self, self.failure)
     }
@@ -62,7 +63,8 @@ impl<'a, T: SystemTable> SharedDatabase<'a, T> {
 
     /// As `Groups::load`.
     pub(crate) fn load(&self, pair: &Pair) -> Result<Option<u64>, Failure>
-        ensures found { IfOk result (λ nonce. (old new : Option T) × Finds T.Table.means old new pair.now nonce) }
+        ensures found { IfOk result (λ nonce. (old new : Option T)
+            × Finds T.Table.means old new pair.now nonce) }
     {
         match self.groups.try_borrow_mut() {
             Ok(mut groups) => groups.load(pair),
@@ -72,7 +74,8 @@ impl<'a, T: SystemTable> SharedDatabase<'a, T> {
 
     /// As `Groups::save`.
     pub(crate) fn save(&self, pair: &Pair, nonce: u64) -> Result<(), Failure>
-        ensures saved { OnOk result ((old new : Groups T) × JoinsGroup T.Table.means old new pair.now nonce) }
+        ensures saved { OnOk result ((old new : Groups T)
+            × JoinsGroup T.Table.means old new pair.now nonce) }
         ensures device { IfErr result (λ failure. failure.fault ≡ StoreFault.Device) }
     {
         match self.groups.try_borrow_mut() {

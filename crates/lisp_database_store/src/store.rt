@@ -52,12 +52,18 @@ impl<K: Keeper> NonceStore for DatabaseStore<'_, K> {
 
         // What every store promises.
         ensures member { LoadsIfHonest (⟦<Self as NonceStore>⟧.seen self.old) pair.now result }
-        ensures same { KeepsListsIfHonest (⟦<Self as NonceStore>⟧.seen self.old) (⟦<Self as NonceStore>⟧.seen self.new) }
+        ensures same { KeepsListsIfHonest (⟦<Self as NonceStore>⟧.seen self.old)
+            (⟦<Self as NonceStore>⟧.seen self.new) }
         ensures loads { OnOk result (MayLoad (⟦<Self as NonceStore>⟧.seen self.old)) }
-        ensures load_fails { IfErr result (LoadFailsAsArmed (⟦<Self as NonceStore>⟧.seen self.old)) }
-        ensures cause { IfErr result (IsOfDevice (⟦<Self as NonceStore>⟧.seen self.old) (⟦<Self as NonceStore>⟧.seen self.new)) }
-        ensures refused { IsErrOf result StoreFault.OutOfMemory → ⟦<Self as NonceStore>⟧.seen self.new ≡ ⟦<Self as NonceStore>⟧.seen self.old }
-        ensures proceeds { Proceeds (⟦<Self as NonceStore>⟧.seen self.old) (⟦<Self as NonceStore>⟧.seen self.new) }
+        ensures load_fails { IfErr result
+            (LoadFailsAsArmed (⟦<Self as NonceStore>⟧.seen self.old)) }
+        ensures cause { IfErr result
+            (IsOfDevice (⟦<Self as NonceStore>⟧.seen self.old)
+            (⟦<Self as NonceStore>⟧.seen self.new)) }
+        ensures refused { IsErrOf result StoreFault.OutOfMemory
+            → ⟦<Self as NonceStore>⟧.seen self.new ≡ ⟦<Self as NonceStore>⟧.seen self.old }
+        ensures proceeds { Proceeds (⟦<Self as NonceStore>⟧.seen self.old)
+            (⟦<Self as NonceStore>⟧.seen self.new) }
     {
         let loaded = self.keeper.load_nonce(pair);
         self.counted(loaded)
@@ -68,16 +74,24 @@ impl<K: Keeper> NonceStore for DatabaseStore<'_, K> {
         ensures saved { OnOk result (K.saves self.old.keeper self.new.keeper pair.now nonce) }
 
         // What every store promises.
-        ensures done { SavesIfHonest (⟦<Self as NonceStore>⟧.seen self.old) (⟦<Self as NonceStore>⟧.seen self.new) pair.now nonce result }
-        ensures doubt { DoubtsIfHonest (⟦<Self as NonceStore>⟧.seen self.old) (⟦<Self as NonceStore>⟧.seen self.new) pair.now nonce result }
-        ensures others { KeepsOthersIfHonest (⟦<Self as NonceStore>⟧.seen self.old) (⟦<Self as NonceStore>⟧.seen self.new) pair.now }
+        ensures done { SavesIfHonest (⟦<Self as NonceStore>⟧.seen self.old)
+            (⟦<Self as NonceStore>⟧.seen self.new) pair.now nonce result }
+        ensures doubt { DoubtsIfHonest (⟦<Self as NonceStore>⟧.seen self.old)
+            (⟦<Self as NonceStore>⟧.seen self.new) pair.now nonce result }
+        ensures others { KeepsOthersIfHonest (⟦<Self as NonceStore>⟧.seen self.old)
+            (⟦<Self as NonceStore>⟧.seen self.new) pair.now }
         ensures saves { OnOk result (MaySave (⟦<Self as NonceStore>⟧.seen self.old)) }
-        ensures save_fails { IsErrOf result StoreFault.Device → MayFailSave (⟦<Self as NonceStore>⟧.seen self.old) }
-        ensures doubted { KeepsTooIfObedient (⟦<Self as NonceStore>⟧.seen self.old) (⟦<Self as NonceStore>⟧.seen self.new) pair.now nonce result }
+        ensures save_fails { IsErrOf result StoreFault.Device
+            → MayFailSave (⟦<Self as NonceStore>⟧.seen self.old) }
+        ensures doubted { KeepsTooIfObedient (⟦<Self as NonceStore>⟧.seen self.old)
+            (⟦<Self as NonceStore>⟧.seen self.new) pair.now nonce result }
         ensures sound { result ≢ Err StoreFault.Damaged }
-        ensures cause { IsErrOf result StoreFault.Device → Rose (⟦<Self as NonceStore>⟧.seen self.old) (⟦<Self as NonceStore>⟧.seen self.new) }
-        ensures refused { IsErrOf result StoreFault.OutOfMemory → ⟦<Self as NonceStore>⟧.seen self.new ≡ ⟦<Self as NonceStore>⟧.seen self.old }
-        ensures proceeds { Proceeds (⟦<Self as NonceStore>⟧.seen self.old) (⟦<Self as NonceStore>⟧.seen self.new) }
+        ensures cause { IsErrOf result StoreFault.Device
+            → Rose (⟦<Self as NonceStore>⟧.seen self.old) (⟦<Self as NonceStore>⟧.seen self.new) }
+        ensures refused { IsErrOf result StoreFault.OutOfMemory
+            → ⟦<Self as NonceStore>⟧.seen self.new ≡ ⟦<Self as NonceStore>⟧.seen self.old }
+        ensures proceeds { Proceeds (⟦<Self as NonceStore>⟧.seen self.old)
+            (⟦<Self as NonceStore>⟧.seen self.new) }
     {
         let saved = self.keeper.save_nonce(pair, nonce);
         self.counted(saved)

@@ -18,24 +18,30 @@ pub trait Table: Drop {
 
     /// The nonce that is kept for the pair, `None` for nothing. `Damaged` where its row has another form.
     fn load(&mut self, pair: &Pair) -> Result<Option<u64>, Failure>
-        ensures kept { Self.means.is_of_nonces self.old → Self.means.has_clean_disk self.new → IfOk result (Self.means.keeps self.old pair.now) }
-        ensures unchanged { Self.means.has_tables self.old → Self.means.has_clean_disk self.new → OnOk result (Self.means.is_unchanged self.old self.new) };
+        ensures kept { Self.means.is_of_nonces self.old → Self.means.has_clean_disk self.new
+            → IfOk result (Self.means.keeps self.old pair.now) }
+        ensures unchanged { Self.means.has_tables self.old → Self.means.has_clean_disk self.new
+            → OnOk result (Self.means.is_unchanged self.old self.new) };
 
     /// Keeps the nonce for the pair, and is done once that is committed, outside a transaction.
     fn save(&mut self, pair: &Pair, nonce: u64) -> Result<(), Failure>
-        ensures { Self.means.is_of_nonces self.old → Self.means.has_clean_disk self.new → OnOk result (Self.means.saves_nonce self.old self.new pair.now nonce) };
+        ensures { Self.means.is_of_nonces self.old → Self.means.has_clean_disk self.new
+            → OnOk result (Self.means.saves_nonce self.old self.new pair.now nonce) };
 
     /// Keeps the nonce for the pair, unless it has a greater one.
     fn keep_greatest(&mut self, pair: &Pair, nonce: u64) -> Result<(), Failure>
-        ensures { Self.means.is_of_nonces self.old → Self.means.has_clean_disk self.new → OnOk result (Self.means.keeps_greatest self.old self.new pair.now nonce) };
+        ensures { Self.means.is_of_nonces self.old → Self.means.has_clean_disk self.new
+            → OnOk result (Self.means.keeps_greatest self.old self.new pair.now nonce) };
 
     /// Begins a transaction.
     fn begin(&mut self) -> Result<(), Failure>
-        ensures { Self.means.has_tables self.old → Self.means.has_clean_disk self.new → OnOk result (Self.means.begins_group self.old self.new) };
+        ensures { Self.means.has_tables self.old → Self.means.has_clean_disk self.new
+            → OnOk result (Self.means.begins_group self.old self.new) };
 
     /// Commits the transaction, and is done once that is synced.
     fn commit(&mut self) -> Result<(), Failure>
-        ensures { Self.means.has_tables self.old → Self.means.has_clean_disk self.new → OnOk result (Self.means.commits_group self.old self.new) };
+        ensures { Self.means.has_tables self.old → Self.means.has_clean_disk self.new
+            → OnOk result (Self.means.commits_group self.old self.new) };
 
     /// Whether a transaction is open.
     fn has_transaction(&self) -> bool
@@ -44,16 +50,20 @@ pub trait Table: Drop {
 
     /// For how many pairs a nonce is kept.
     fn count_pairs(&mut self) -> Result<usize, Failure>
-        ensures counted { Self.means.has_tables self.old → Self.means.has_clean_disk self.new → IfOk result (Self.means.counts_pairs self.old) }
-        ensures unchanged { Self.means.has_tables self.old → Self.means.has_clean_disk self.new → OnOk result (Self.means.is_unchanged self.old self.new) };
+        ensures counted { Self.means.has_tables self.old → Self.means.has_clean_disk self.new
+            → IfOk result (Self.means.counts_pairs self.old) }
+        ensures unchanged { Self.means.has_tables self.old → Self.means.has_clean_disk self.new
+            → OnOk result (Self.means.is_unchanged self.old self.new) };
 
     /// Who wrote last, `None` for nobody yet.
     fn load_writer(&mut self) -> Result<Option<Writer>, Failure>
-        ensures { Self.means.has_clean_disk self.new → IfOk result (Self.means.finds_writer self.old self.new) };
+        ensures { Self.means.has_clean_disk self.new
+            → IfOk result (Self.means.finds_writer self.old self.new) };
 
     /// Keeps who writes from now on.
     fn save_writer(&mut self, writer: &Writer) -> Result<(), Failure>
-        ensures { Self.means.has_clean_disk self.new → OnOk result (Self.means.saves_writer self.old self.new writer.now) };
+        ensures { Self.means.has_clean_disk self.new
+            → OnOk result (Self.means.saves_writer self.old self.new writer.now) };
 }
 
 /// A database in a file of the system's.

@@ -14,7 +14,8 @@ impl<T: SystemTable> Database<T> {
     /// Compares the machine and its start with those of the last writer, and keeps the new ones where they differ. What can't be read
     /// now, or couldn't be then, is no change. Takes memory. `Device` whatever failed as they are kept.
     pub fn sign<R: Files + AllocGlobal>(&mut self, rt: &R) -> Result<Change, Failure>
-        ensures { IfOk result (λ change. (now : Writer) × Signs T.Table.means self.old.table self.new.table now change) }
+        ensures { IfOk result (λ change. (now : Writer)
+            × Signs T.Table.means self.old.table self.new.table now change) }
     {
         let now = Writer::of_this_start(rt)?;
         self.sign_as(now)

@@ -26,7 +26,8 @@ pub fn registers_are_told_whole()
 
 /// Where a router takes a datagram, so many bytes in front of the buffer are told as the answer has, and they are the answer.
 pub fn answers_of_routers_are_told_whole()
-    ensures { (from : PlainAddress) (bytes : List ℕ) (old : HostedRouter) (new : Option HostedRouter)
+    ensures { (from : PlainAddress) (bytes : List ℕ) (old : HostedRouter)
+        (new : Option HostedRouter)
         (buffer buffer_new : List ℕ) (seen seen_new : PlainSeen) → IsBytes bytes →
         TellsSeen from bytes (Some old) buffer seen 0 new buffer_new seen_new →
         AnswersWhole old.router from bytes buffer seen_new.reply_length buffer_new }

@@ -82,7 +82,8 @@ pub extern "C" fn lisp_registration_read_reply(
     bytes: &[u8],
     reply: &mut PlainReply,
 ) -> u16
-    ensures told { (result, reply.new) ≡ told plain_reply fault_number (reply_at bytes.now) reply.old }
+    ensures told { (result, reply.new)
+        ≡ told plain_reply fault_number (reply_at bytes.now) reply.old }
     ensures stand { RecordsStand bytes.now reply.new (reply_at bytes.now) }
 {
     match PlainReply::read(alloc, bytes) {
@@ -102,7 +103,8 @@ pub extern "C" fn lisp_registration_read_encapsulated(
     encapsulated: &mut PlainEncapsulated,
 ) -> u16
     ensures told { (result, encapsulated.new) ≡
-        told (plain_encapsulated bytes.now) fault_number (encapsulated_at bytes.now) encapsulated.old }
+        told (plain_encapsulated bytes.now) fault_number
+        (encapsulated_at bytes.now) encapsulated.old }
     ensures stands { IfOk (encapsulated_at bytes.now)
         (λ m. StandsAt bytes.now encapsulated.new.message_at m.message) }
 {

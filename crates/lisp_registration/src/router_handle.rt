@@ -45,7 +45,9 @@ pub extern "C" fn lisp_registration_router_start(
     now: u64,
     router: &mut RouterHandle,
 ) -> u16
-    ensures started { StartsNode (text_router configuration.now name.now (kept_in kept.now) now) router.old.value result router.new.value }
+    ensures started { StartsNode
+        (text_router configuration.now name.now (kept_in kept.now) now) router.old.value result
+        router.new.value }
     ensures memory { result ≡ 105 → MachineMayRefuse }
     ensures reading { result ≡ 24 → MayRunOut configuration.now }
 {
@@ -77,7 +79,8 @@ pub extern "C" fn lisp_registration_router_change(
     now: u64,
     router: &mut RouterHandle,
 ) -> u16
-    ensures changed { ChangesRouter (text_database configuration.now name.now) now router.old.value result router.new.value }
+    ensures changed { ChangesRouter
+        (text_database configuration.now name.now) now router.old.value result router.new.value }
     ensures memory { result ≡ 105 → MachineMayRefuse }
     ensures reading { result ≡ 24 → MayRunOut configuration.now }
 {

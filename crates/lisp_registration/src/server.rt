@@ -23,7 +23,8 @@ pub extern "C" fn lisp_registration_server_start(
     configuration: &[u8],
     server: &mut ServerHandle,
 ) -> u16
-    ensures started { StartsNode (text_server configuration.now) server.old.value result server.new.value }
+    ensures started { StartsNode
+        (text_server configuration.now) server.old.value result server.new.value }
     ensures memory { result ≡ 105 → MachineMayRefuse }
     ensures reading { result ≡ 24 → MayRunOut configuration.now }
 {
@@ -88,7 +89,8 @@ pub extern "C" fn lisp_registration_server_receive(
     buffer: &mut [u8],
     received: &mut PlainReceived,
 ) -> u16
-    ensures received { TellsReceived kept.now from.now bytes.now now server.old.value buffer.old received.old
+    ensures received { TellsReceived kept.now from.now bytes.now now server.old.value buffer.old
+        received.old
         result server.new.value buffer.new received.new }
     ensures memory { result ≡ 58 → MachineMayRefuse }
 {

@@ -43,7 +43,8 @@ pub(crate) fn started_router(
     kept: Option<u64>,
     now: u64,
 ) -> Result<Box<HostedRouter, Global>, NodeFault>
-    ensures started { Comes (λ hosted. hosted.value) result (text_router configuration.now name.now kept now) }
+    ensures started { Comes (λ hosted. hosted.value) result
+        (text_router configuration.now name.now kept now) }
     ensures memory { IsErrOf result OutOfMemory → MachineMayRefuse }
     ensures reading { RunsOutReading configuration.now result }
 {

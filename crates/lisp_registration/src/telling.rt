@@ -15,7 +15,8 @@ pub(crate) fn tell_received<A: Allocator>(
     buffer: &mut [u8],
     received: &mut PlainReceived,
 ) -> u16
-    ensures { (result, (buffer.new, received.new)) ≡ told_received answer.now buffer.old received.old }
+    ensures { (result, (buffer.new, received.new))
+        ≡ told_received answer.now buffer.old received.old }
 {
     match answer {
         Ok(took) => {

@@ -75,7 +75,8 @@ fn signed<A: Memory>(
     key: &Key,
 ) -> Result<Vec<u8, A>, AllocError>
     requires few { length records < 256 }
-    ensures value { IfOk result (λ v. v.items ≡ signed key.now (written (kind_in kind message.now records))) }
+    ensures value { IfOk result
+        (λ v. v.items ≡ signed key.now (written (kind_in kind message.now records))) }
     ensures memory { OnErr result A.may_refuse }
 {
     match kind {
@@ -92,7 +93,8 @@ pub(crate) fn put_written<A: Allocator>(
     buffer: &mut [u8],
     length: &mut usize,
 ) -> u16
-    ensures written { (datagram : Result (List ℕ) WriteFault) → Makes (λ v. v.items) written.now datagram →
+    ensures written { (datagram : Result (List ℕ) WriteFault)
+        → Makes (λ v. v.items) written.now datagram →
         TellsWritten datagram buffer.old length.old result buffer.new length.new }
     ensures memory { result ≡ 105 → IsErrOf written.now OutOfMemory }
 {

@@ -87,7 +87,8 @@ fn reply_bytes<A: Memory + Copy>(
     records: &[PlainRecord],
     locators: &[PlainLocator],
 ) -> Result<Vec<u8, A>, WriteFault>
-    ensures value { Makes (λ v. v.items) result (reply_bytes_in reply.now records.now locators.now) }
+    ensures value { Makes (λ v. v.items) result
+        (reply_bytes_in reply.now records.now locators.now) }
     ensures memory { IsErrOf result OutOfMemory → A.may_refuse }
 {
     if records.len() > MAX_RECORDS {
