@@ -12,8 +12,9 @@ use crate::writer::{load_writer, save_writer};
 use lisp_database_store::{Failure, SystemTable, Table};
 use lisp_nonces::Pair;
 use lisp_store::Writer;
-use sqlite::{Alter, Connection, Error, File, FileStore};
+use sqlite::{Alter, Connection, Error, ErrorCode, File, FileStore};
 use sqlite_disk::Disk;
+use sqlite_trees::error::StoreError;
 
 /// SQLite's connection, as the table of a node's database: its calls are the functions of this crate.
 #[derive(Drop)]
@@ -89,13 +90,23 @@ fn told<V: Drop>(answer: Result<V, Error>) -> Result<V, Failure>
     }
 }
 
+// Why a log wasn't moved.
+fn unmoved(error: StoreError) -> ErrorCode {
+    match error {
+        StoreError::OutOfMemory => ErrorCode::OutOfMemory,
+        StoreError::Corrupt => ErrorCode::DatabaseCorrupt,
+        StoreError::Full => ErrorCode::DiskFull,
+        StoreError::Io | StoreError::Broken | StoreError::Unstorable => ErrorCode::SystemIoFailure,
+    }
+}
+
 /// A store of the system's, over which SQLite opens databases by a path.
 pub trait SystemStore: Alter + Drop {
     /// Opens the database at `path`, or an empty one where nothing is there.
     fn open(rt: &HostRuntime, path: &str) -> Result<Connection<Self>, Error>;
 
     /// Moves what its log has into the file, syncs both, and closes them.
-    fn close(connection: Connection<Self>) -> Result<(), Error>;
+    fn close(self) -> Result<(), Error>;
 }
 
 impl<S: SystemStore> SystemTable for SqliteTable<S> {
@@ -105,7 +116,7 @@ impl<S: SystemStore> SystemTable for SqliteTable<S> {
     }
 
     fn close(self) -> Result<(), Failure> {
-        told(S::close(self.connection))
+        told(self.connection.into_store().close())
     }
 }
 
@@ -120,8 +131,11 @@ impl<D: SystemDisk> SystemStore for FileStore<D> {
         D::open(rt, path)
     }
 
-    fn close(connection: Connection<FileStore<D>>) -> Result<(), Error> {
-        connection.close()
+    fn close(mut self) -> Result<(), Error> {
+        match self.checkpoint() {
+            Ok(()) => Ok(()),
+            Err(error) => Err(Error::SqliteFailure(unmoved(error))),
+        }
     }
 }
 

@@ -72,6 +72,7 @@ pub trait SystemTable: Table {
     /// where it is no database.
     fn open(rt: &HostRuntime, path: &str) -> Result<Self, Failure>;
 
-    /// Moves what its log has into the file, syncs both, and closes them. `Device` where that fails.
+    /// Moves what its log has into the file, syncs both, and closes them. `Device` where that fails, `Damaged` where the log is found
+    /// damaged.
     fn close(self) -> Result<(), Failure>;
 }
