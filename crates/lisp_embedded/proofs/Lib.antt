@@ -1,3 +1,5 @@
 pub mod Ends
 pub mod Host
 pub mod Routers
+pub mod Sending
+pub mod Steps

@@ -2,3 +2,4 @@ pub mod Host
 pub mod Receiving
 pub mod Notices
 pub mod Routers
+pub mod Held

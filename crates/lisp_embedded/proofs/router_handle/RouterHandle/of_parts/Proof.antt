@@ -19,8 +19,8 @@ use denote.Steps.{nothing}
 use denote.Triple.Walked.{Stays, stay_dropped, walk_of, Goes-dropped}
 use Rattle.std.specs.contracts.impls.GlobalAllocator.TheImpl.{ghosts}
 use Rattle.std.proofs.raw_atomic.Walks.{proved_at, leaves}
-use Rattle.lisp_handle.specs.contracts.parts.BoxParts as parts
-use Rattle.lisp_handle.proofs.Steps.{Global-row, fields, word, word_good, ptr_good, fields_out, fields_in, boxed}
+use Rattle.lisp_embedded.specs.contracts.parts.BoxParts as parts
+use Rattle.lisp_embedded.proofs.Steps.{Global-row, fields, word, word_good, ptr_good, fields_out, fields_in, boxed}
 use Rattle.lisp_embedded.specs.contracts.hosted_router.HostedRouter.{the_row as core_row}
 use Rattle.lisp_embedded.specs.contracts.router_handle.RouterHandle.{the_row}
 use Rattle.lisp_embedded.specs.contracts.router_handle.RouterHandle.of_parts as f

@@ -21,9 +21,9 @@ use denote.Triple.Walked.{Stays, stay_dropped, walk_of, Goes-dropped}
 use Rattle.std.specs.contracts.impls.GlobalAllocator.TheImpl.{ghosts}
 use Rattle.std.proofs.option.Made.{Some-of, none_of}
 use Rattle.std.proofs.raw_atomic.Walks.{proved_at, leaves}
-use Rattle.lisp_handle.specs.Held.{held}
-use Rattle.lisp_handle.specs.contracts.parts.BoxParts as parts
-use Rattle.lisp_handle.proofs.Steps.{Global-row, fields, word, word_good, ptr_good, some_good, fields_out, fields_in, held_cases}
+use Rattle.lisp_embedded.specs.Held.{held}
+use Rattle.lisp_embedded.specs.contracts.parts.BoxParts as parts
+use Rattle.lisp_embedded.proofs.Steps.{Global-row, fields, word, word_good, ptr_good, some_good, fields_out, fields_in, held_cases}
 use Rattle.lisp_embedded.specs.contracts.hosted_server.HostedServer.{the_row as core_row}
 use Rattle.lisp_embedded.specs.contracts.server_handle.ServerHandle.{the_row}
 use Rattle.lisp_embedded.specs.contracts.server_handle.ServerHandle.into_parts as f

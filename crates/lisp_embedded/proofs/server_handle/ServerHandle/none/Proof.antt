@@ -19,7 +19,7 @@ use denote.Steps.{nothing}
 use denote.Triple.Walked.{Stays, stay_dropped, walk_of, Goes-dropped}
 use Rattle.std.proofs.alloc.Calls.{handle_tells}
 use Rattle.std.proofs.raw_atomic.Walks.{proved_at, leaves}
-use Rattle.lisp_handle.proofs.Steps.{Global-row, global, fields, word, word_good, fields_in}
+use Rattle.lisp_embedded.proofs.Steps.{Global-row, global, fields, word, word_good, fields_in}
 use Rattle.lisp_embedded.specs.contracts.server_handle.ServerHandle.{the_row}
 use Rattle.lisp_embedded.specs.contracts.server_handle.ServerHandle.none as f
 use Rattle.lisp_embedded.proofs.server_handle.ServerHandle.none.Statement.{statement}

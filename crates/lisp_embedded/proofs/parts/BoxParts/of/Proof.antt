@@ -33,11 +33,11 @@ use Rattle.std.proofs.BoxSteps.Form.{Bx, R, P, B, τ, word, box_typed}
 use Rattle.std.proofs.BoxSteps.Steps.{box_out, box_in}
 use Rattle.std.specs.contracts.boxed.Box.into_raw_with_allocator as callee
 use Rattle.std.proofs.boxed.Box.into_raw_with_allocator.Met.{met}
-use Rattle.lisp_handle.specs.contracts.parts.BoxParts as parts
-use Rattle.lisp_handle.specs.contracts.parts.BoxParts.of as f
-use Rattle.lisp_handle.specs.contracts.parts.BoxParts.of.Key.{name as #f}
-use Rattle.lisp_handle.proofs.parts.BoxParts.of.Statement.{statement}
-use Rattle.lisp_handle.proofs.parts.BoxParts.of.Code as code
+use Rattle.lisp_embedded.specs.contracts.parts.BoxParts as parts
+use Rattle.lisp_embedded.specs.contracts.parts.BoxParts.of as f
+use Rattle.lisp_embedded.specs.contracts.parts.BoxParts.of.Key.{name as #f}
+use Rattle.lisp_embedded.proofs.parts.BoxParts.of.Statement.{statement}
+use Rattle.lisp_embedded.proofs.parts.BoxParts.of.Code as code
 
 pub of_spec : {M : Type 1} → statement M
 of_spec 𝓤 𝓛 𝓜 𝓡 wired T A LT LA g d dx dd allocator drops_value drops_handle =

@@ -32,11 +32,11 @@ use Rattle.std.proofs.BoxSteps.Form.{Bx, D, R, P, B, box_ty, word, box_typed}
 use Rattle.std.proofs.BoxSteps.Steps.{box_out, box_in}
 use Rattle.std.specs.contracts.boxed.Box.from_raw as callee
 use Rattle.std.proofs.boxed.Box.from_raw.Met.{met}
-use Rattle.lisp_handle.specs.contracts.parts.BoxParts as parts
-use Rattle.lisp_handle.specs.contracts.parts.BoxParts.into_box as f
-use Rattle.lisp_handle.specs.contracts.parts.BoxParts.into_box.Key.{name as #f}
-use Rattle.lisp_handle.proofs.parts.BoxParts.into_box.Statement.{statement}
-use Rattle.lisp_handle.proofs.parts.BoxParts.into_box.Code as code
+use Rattle.lisp_embedded.specs.contracts.parts.BoxParts as parts
+use Rattle.lisp_embedded.specs.contracts.parts.BoxParts.into_box as f
+use Rattle.lisp_embedded.specs.contracts.parts.BoxParts.into_box.Key.{name as #f}
+use Rattle.lisp_embedded.proofs.parts.BoxParts.into_box.Statement.{statement}
+use Rattle.lisp_embedded.proofs.parts.BoxParts.into_box.Code as code
 
 -- the code behind the block
 abbrev rest : Body

@@ -11,7 +11,7 @@ use Rattle.std.specs.declared.alloc.Global.{Global}
 use Rattle.std.specs.declared.option.Option.{Option}
 use Rattle.std.specs.declared.option.Option.TheVariants.{None, Some}
 use Rattle.std.proofs.Crossing.{frees}
-use Rattle.lisp_handle.specs.Held.{held}
+use Rattle.lisp_embedded.specs.Held.{held}
 
 pub held_sends : (R : RattleType) → IsSend R → (a : Global) (p : Ptr) (x : Option R.Denot) → Keyless (held R a p x)
 held_sends R sends a (block_ptr b o) (Some x) = (part_keyless R sends full_share x b o, frees.frees a (raw (lone R.mir)) (block_ptr b o))

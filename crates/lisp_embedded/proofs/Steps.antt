@@ -32,7 +32,7 @@ use Rattle.std.specs.contracts.impls.GlobalAllocator.TheImpl.{ghosts}
 use Rattle.std.proofs.alloc.Global.TheLaws as heap_laws
 use Rattle.std.proofs.alloc.Calls.{Al, Fits, handle_tells}
 use Rattle.std.proofs.GlobalToken.{dealloc_token-Testable}
-use Rattle.lisp_handle.specs.Held.{held}
+use Rattle.lisp_embedded.specs.Held.{held}
 
 abbrev pub Global-row : RattleType
 Global-row = heap.the_row
