@@ -1,3 +1,5 @@
+//! A box in its two parts, so that a program in C can keep the pointer.
+
 ghost use Rattle.std.specs.Prelude.{◌≡◌};
 ghost use Rattle.std.specs.Box.Ownership.{box_owns};
 
