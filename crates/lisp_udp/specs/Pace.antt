@@ -2,15 +2,15 @@
 use Rattle.std.specs.Prelude.{ℕ, Bool, false, ◌+◌, ◌-◌, ◌*◌, ◌^◌, ◌==◌, ◌||◌, ◌&&◌, nat_le, min}
 use Rattle.lisp_udp.specs.declared.pace.Pace.{Pace}
 
--- so many us of the turns that take datagrams weigh as much as one us of rest
+-- so many us of the turns that take datagrams are worth one us of rest
 abbrev pub work_per_rest : ℕ
 work_per_rest = 8
 
--- datagrams between which it rests no longer, in us, follow each other closely
+-- a datagram comes closely after another where it rests for no more than so many us between them
 abbrev pub most_between : ℕ
 most_between = 1000
 
--- it owes nothing, and no datagram came lately
+-- nobody asked lately: it owes nothing
 abbrev pub cleared : Pace
 cleared = record { rest_left = 0; work_left = 0; rested = 0; is_close = false }
 

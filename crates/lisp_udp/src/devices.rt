@@ -33,10 +33,10 @@ use std::time::{Duration, Instant};
 /// How long a turn of a node waits for a datagram, in ms.
 const RECEIVE_TIMEOUT_MS: u64 = 100;
 
-/// How long while somebody asks, where the next datagram is to follow soon: the system rounds it up to some ms.
+/// How long it waits, while somebody asks, for a datagram that is to follow soon: the system rounds it up to some ms.
 const BUSY_TIMEOUT_MS: u64 = 1;
 
-/// How long it rests where none is, in us.
+/// How long it rests, while somebody asks, where none is: in us.
 const BUSY_REST_US: u64 = 200;
 
 const US_PER_MS: u64 = 1_000;
@@ -118,7 +118,7 @@ impl<R: std::time::Clock, T: SystemTable, P: Printer> Devices<'_, R, T, P> {
         }
     }
 
-    // The next datagram while somebody asks, once what the last turn took is taken off.
+    // The next datagram while somebody asks. The time of the last turn's work, and of a rest, is taken off what the node owes.
     fn receive_paced(&mut self, buffer: &mut [u8]) -> Received
         ensures seen { ⟦<Self as Outside>⟧.seen self.new ≡ ⟦<Self as Outside>⟧.seen self.old }
         ensures within { FitsBuffer result buffer.new }

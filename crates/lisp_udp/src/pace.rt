@@ -3,10 +3,10 @@
 ghost use Rattle.std.specs.Prelude.{◌≡◌};
 ghost use Rattle.lisp_udp.specs.Pace.{answered_for, answers, awaits_next, cleared, heard, rested_for, worked_for};
 
-/// So many us of the turns that take datagrams weigh as much as one us of rest.
+/// So many us of the turns that take datagrams are worth one us of rest.
 const WORK_PER_REST: u64 = 8;
 
-/// Datagrams between which the node rests no longer follow each other closely, in us.
+/// A datagram comes closely after another where the node rests for no more than so many us between them.
 const MOST_BETWEEN_US: u64 = 1_000;
 
 /// What a node owes since it answered: it answers again once it rested as long as it answered, or once it took datagrams for eight times
