@@ -307,6 +307,7 @@ int main(int argc, char **argv)
     faults_of_reading();
     faults_of_writing();
     faults_of_pointers();
+    requests();
     servers();
     held_rows();
     notices();

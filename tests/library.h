@@ -60,6 +60,9 @@ void faults_of_reading(void);
 void faults_of_writing(void);
 void faults_of_pointers(void);
 
+/* Tests the calls for Map-Requests, Map-Replies and encapsulated Map-Requests. */
+void requests(void);
+
 /* Starts a Map-Server of the configuration; and makes it take a worked message that came from an address at a time. */
 void start(struct lisp_server *server);
 void takes(struct lisp_server *server, int message, const struct lisp_address *from, uint64_t at);
