@@ -1,5 +1,5 @@
-//! The structs, numbers and functions of liblisp_registration.a: LISP registration messages (RFC 9301), read and written, and the
-//! cores of a Map-Server and of a router.
+//! The structs, numbers and functions of liblisp_registration.a: LISP registration messages, Map-Requests and Map-Replies (RFC 9301),
+//! read and written, and the cores of a Map-Server and of a router.
 //!
 //! Names are those of `include/lisp_registration.h`, which says what each function does and in what order its faults come.
 //! The crate `lisp-registration` is a safe layer over this one.
@@ -102,13 +102,45 @@ pub const LISP_LENGTH: u16 = 101;
 pub const LISP_ROOM: u16 = 102;
 /// A field has no place in a message.
 pub const LISP_FIELD: u16 = 103;
-/// More than 255 records, or not as many locators as the records count.
+/// So many records, locators, ITR-RLOCs or EID-Prefixes have no place in a message.
 pub const LISP_COUNTS: u16 = 104;
 /// `malloc` or `realloc` gave no memory. So say 24 of a configuration, 48 of a router, 58 of a datagram for a Map-Server, and 66 of a
 /// notice.
 pub const LISP_OUT_OF_MEMORY: u16 = 105;
 /// No router of the configuration has the name.
 pub const LISP_NO_ROUTER: u16 = 106;
+/// The bytes end before the Map-Request, the Map-Reply or a part of it does.
+pub const LISP_REQUEST_SHORT: u16 = 110;
+/// Another type than the one that is read: 1, 2 or 8.
+pub const LISP_REQUEST_KIND: u16 = 111;
+/// An encapsulated message with an authentication header (S).
+pub const LISP_SECURITY: u16 = 112;
+/// An inner IP header of another version than 4 and 6.
+pub const LISP_IP_VERSION: u16 = 113;
+/// An inner IPv4 header of fewer than 20 bytes.
+pub const LISP_IP_HEADER_LENGTH: u16 = 114;
+/// An inner IP length that its header doesn't fit, or above what is there.
+pub const LISP_IP_LENGTH: u16 = 115;
+/// An inner IP datagram that is a fragment.
+pub const LISP_FRAGMENT: u16 = 116;
+/// An inner IP datagram that carries no UDP.
+pub const LISP_PROTOCOL: u16 = 117;
+/// An inner IPv4 header with a wrong checksum.
+pub const LISP_IP_CHECKSUM: u16 = 118;
+/// An inner UDP destination port other than 4342.
+pub const LISP_PORT: u16 = 119;
+/// An inner UDP length below 8, or more than what is there.
+pub const LISP_UDP_LENGTH: u16 = 120;
+/// An inner UDP datagram with a wrong checksum; over IPv6 also with none.
+pub const LISP_UDP_CHECKSUM: u16 = 121;
+/// A Map-Request without a record.
+pub const LISP_NO_RECORD: u16 = 122;
+/// An address family that is neither IPv4 nor IPv6, nor 0 for the Source EID.
+pub const LISP_REQUEST_AFI: u16 = 123;
+/// An EID mask longer than its address.
+pub const LISP_REQUEST_MASK: u16 = 124;
+/// Bytes after the records of a Map-Reply.
+pub const LISP_REQUEST_TRAILING: u16 = 125;
 
 /// Type of a Map-Register (RFC 9301 section 5.6).
 pub const LISP_MAP_REGISTER: u8 = 3;
@@ -124,6 +156,13 @@ pub const LISP_IPV6: u16 = 2;
 
 /// Where the first record of each message begins.
 pub const LISP_RECORDS_AT: usize = 32;
+/// Where the first record of a Map-Reply begins.
+pub const LISP_REPLY_RECORDS_AT: usize = 12;
+
+/// The most ITR-RLOCs of a Map-Request (RFC 9301 section 5.2).
+pub const LISP_ITR_RLOCS: usize = 32;
+/// The most EID-Prefixes of a Map-Request (RFC 9301 section 5.2).
+pub const LISP_EIDS: usize = 255;
 
 /// Room for the locators of any record.
 pub const LISP_LOCATORS: usize = 255;
@@ -229,6 +268,84 @@ pub struct lisp_message {
     pub records_at: usize,
     /// Read only: where the last record ends.
     pub records_end: usize,
+}
+
+/// An EID-Prefix that is asked for (RFC 9301 section 5.2).
+#[repr(C)]
+#[derive(Clone, Copy, Debug, Default, PartialEq, Eq)]
+pub struct lisp_prefix {
+    /// The EID mask-len, 0 to 32 or 128.
+    pub mask_len: u8,
+    /// Bits past the mask are 0, and are cleared where one is written.
+    pub address: lisp_address,
+}
+
+/// A Map-Request but its ITR-RLOCs and EID-Prefixes (RFC 9301 section 5.2).
+#[repr(C)]
+#[derive(Clone, Copy, Debug, Default, PartialEq, Eq)]
+pub struct lisp_request {
+    /// The nonce.
+    pub nonce: u64,
+    /// A, 1 or 0: an authoritative answer is wanted, from the site itself.
+    pub authoritative: u8,
+    /// P, 1 or 0: the ITR probes whether a locator is reached.
+    pub probe: u8,
+    /// S, 1 or 0: a Solicit-Map-Request, which asks the receiver to ask again.
+    pub smr: u8,
+    /// p, 1 or 0: a PITR sends it.
+    pub pitr: u8,
+    /// s, 1 or 0: a Solicit-Map-Request was the reason for it.
+    pub smr_invoked: u8,
+    /// L, 1 or 0: it comes from an xTR of the same site.
+    pub local: u8,
+    /// D, 1 or 0: no Map-Reply is wanted.
+    pub no_reply: u8,
+    /// Read only: how many ITR-RLOCs it has, 1 to [`LISP_ITR_RLOCS`].
+    pub itr_rloc_count: u8,
+    /// Read only: how many EID-Prefixes it has, 1 to [`LISP_EIDS`].
+    pub eid_count: u8,
+    /// The Source EID; of family 0 where there is none.
+    pub source: lisp_address,
+    /// Read only: where the first ITR-RLOC begins.
+    pub itr_rlocs_at: usize,
+    /// Read only: where the record of the first EID-Prefix begins.
+    pub eids_at: usize,
+    /// Read only: where the last record ends.
+    pub end: usize,
+}
+
+/// A Map-Reply but its records (RFC 9301 sections 5.4 and 5.5).
+#[repr(C)]
+#[derive(Clone, Copy, Debug, Default, PartialEq, Eq)]
+pub struct lisp_reply {
+    /// The nonce of the Map-Request that it answers.
+    pub nonce: u64,
+    /// P, 1 or 0: it answers a probe.
+    pub probe: u8,
+    /// E, 1 or 0: the sender is capable of echoing nonces.
+    pub echo_nonce: u8,
+    /// S, 1 or 0: the sender is capable of LISP-SEC.
+    pub sec: u8,
+    /// Read only: how many records it has.
+    pub record_count: u8,
+    /// Read only: where the first record begins, which is [`LISP_REPLY_RECORDS_AT`].
+    pub records_at: usize,
+}
+
+/// What stands around an encapsulated Map-Request (RFC 9301 section 5.8).
+#[repr(C)]
+#[derive(Clone, Copy, Debug, Default, PartialEq, Eq)]
+pub struct lisp_encapsulated {
+    /// The inner source address.
+    pub source: lisp_address,
+    /// The inner destination address, of the same family: an EID that is asked for.
+    pub destination: lisp_address,
+    /// The inner UDP source port, to which the Map-Reply goes.
+    pub port: u16,
+    /// Read only: where the control message begins.
+    pub message_at: usize,
+    /// Read only: how many bytes it has.
+    pub message_length: usize,
 }
 
 /// A Map-Server that the library keeps, or none. It stays on the thread that started it, and is never copied.
@@ -456,6 +573,80 @@ extern "C" {
         locator_count: usize,
         secret: *const u8,
         secret_length: usize,
+        buffer: *mut u8,
+        room: usize,
+        length: *mut usize,
+    ) -> u16;
+
+    /// Reads a Map-Request: what it says but its ITR-RLOCs and EID-Prefixes, and where these are (RFC 9301 section 5.2).
+    pub fn lisp_registration_read_request(
+        bytes: *const u8,
+        length: usize,
+        request: *mut lisp_request,
+    ) -> u16;
+
+    /// Reads the ITR-RLOC that begins at byte `at` of a Map-Request, and tells where it ends (RFC 9301 section 5.2).
+    pub fn lisp_registration_read_itr_rloc(
+        bytes: *const u8,
+        length: usize,
+        at: usize,
+        itr_rloc: *mut lisp_address,
+        end: *mut usize,
+    ) -> u16;
+
+    /// Reads the EID-Prefix of the record that begins at byte `at` of a Map-Request, and tells where that ends (RFC 9301 section
+    /// 5.2).
+    pub fn lisp_registration_read_eid(
+        bytes: *const u8,
+        length: usize,
+        at: usize,
+        eid: *mut lisp_prefix,
+        end: *mut usize,
+    ) -> u16;
+
+    /// Reads a Map-Reply: what it says but its records, and where these are (RFC 9301 sections 5.4 and 5.5).
+    pub fn lisp_registration_read_reply(
+        bytes: *const u8,
+        length: usize,
+        reply: *mut lisp_reply,
+    ) -> u16;
+
+    /// Reads what stands around an encapsulated control message, and tells where that message is (RFC 9301 section 5.8).
+    pub fn lisp_registration_read_encapsulated(
+        bytes: *const u8,
+        length: usize,
+        encapsulated: *mut lisp_encapsulated,
+    ) -> u16;
+
+    /// Writes a Map-Request of these ITR-RLOCs and EID-Prefixes (RFC 9301 section 5.2).
+    pub fn lisp_registration_write_request(
+        request: *const lisp_request,
+        itr_rlocs: *const lisp_address,
+        itr_rloc_count: usize,
+        eids: *const lisp_prefix,
+        eid_count: usize,
+        buffer: *mut u8,
+        room: usize,
+        length: *mut usize,
+    ) -> u16;
+
+    /// Writes a Map-Reply of these records (RFC 9301 sections 5.4 and 5.5).
+    pub fn lisp_registration_write_reply(
+        reply: *const lisp_reply,
+        records: *const lisp_record,
+        record_count: usize,
+        locators: *const lisp_locator,
+        locator_count: usize,
+        buffer: *mut u8,
+        room: usize,
+        length: *mut usize,
+    ) -> u16;
+
+    /// Writes a control message after the headers of an encapsulated one (RFC 9301 section 5.8).
+    pub fn lisp_registration_write_encapsulated(
+        encapsulated: *const lisp_encapsulated,
+        message: *const u8,
+        message_length: usize,
         buffer: *mut u8,
         room: usize,
         length: *mut usize,

@@ -30,6 +30,7 @@ macro_rules! structs {
 
 types! { (): "void", bool: "bool", u8: "uint8_t", u16: "uint16_t", u64: "uint64_t", usize: "size_t", }
 structs!(lisp_address, lisp_locator, lisp_record, lisp_message, lisp_server, lisp_pair, lisp_nonce);
+structs!(lisp_prefix, lisp_request, lisp_reply, lisp_encapsulated);
 structs!(lisp_received, lisp_row, lisp_answer, lisp_router_id, lisp_notice);
 structs!(lisp_router, lisp_due, lisp_sent, lisp_seen);
 
@@ -82,6 +83,14 @@ fn the_header_agrees() {
         lisp_registration_authentic(_, _, _, _)
         lisp_registration_sign(_, _, _, _)
         lisp_registration_write_message(_, _, _, _, _, _, _, _, _, _)
+        lisp_registration_read_request(_, _, _)
+        lisp_registration_read_itr_rloc(_, _, _, _, _)
+        lisp_registration_read_eid(_, _, _, _, _)
+        lisp_registration_read_reply(_, _, _)
+        lisp_registration_read_encapsulated(_, _, _)
+        lisp_registration_write_request(_, _, _, _, _, _, _, _)
+        lisp_registration_write_reply(_, _, _, _, _, _, _, _)
+        lisp_registration_write_encapsulated(_, _, _, _, _, _)
         lisp_registration_server_start(_, _, _)
         lisp_registration_server_stop(_)
         lisp_registration_server_restart(_)

@@ -32,6 +32,13 @@ fn claims() -> Vec<String> {
             nonce, site, xtr, kind, key_id, proxy, sec, eid_notify, use_ttl, merge, want_notify,
             record_count, records_at, records_end
         }
+        lisp_prefix { mask_len, address }
+        lisp_request {
+            nonce, authoritative, probe, smr, pitr, smr_invoked, local, no_reply, itr_rloc_count, eid_count,
+            source, itr_rlocs_at, eids_at, end
+        }
+        lisp_reply { nonce, probe, echo_nonce, sec, record_count, records_at }
+        lisp_encapsulated { source, destination, port, message_at, message_length }
         lisp_server { core }
         lisp_pair { site, xtr, key_id, is_there }
         lisp_nonce { nonce, is_there }
@@ -90,12 +97,31 @@ fn claims() -> Vec<String> {
         LISP_COUNTS,
         LISP_OUT_OF_MEMORY,
         LISP_NO_ROUTER,
+        LISP_REQUEST_SHORT,
+        LISP_REQUEST_KIND,
+        LISP_SECURITY,
+        LISP_IP_VERSION,
+        LISP_IP_HEADER_LENGTH,
+        LISP_IP_LENGTH,
+        LISP_FRAGMENT,
+        LISP_PROTOCOL,
+        LISP_IP_CHECKSUM,
+        LISP_PORT,
+        LISP_UDP_LENGTH,
+        LISP_UDP_CHECKSUM,
+        LISP_NO_RECORD,
+        LISP_REQUEST_AFI,
+        LISP_REQUEST_MASK,
+        LISP_REQUEST_TRAILING,
         LISP_MAP_REGISTER,
         LISP_MAP_NOTIFY,
         LISP_MAP_NOTIFY_ACK,
         LISP_IPV4,
         LISP_IPV6,
         LISP_RECORDS_AT,
+        LISP_REPLY_RECORDS_AT,
+        LISP_ITR_RLOCS,
+        LISP_EIDS,
         LISP_LOCATORS,
         LISP_MESSAGE_ROOM,
         LISP_ANSWER_NO_SITE,
@@ -120,6 +146,10 @@ fn sizes_and_alignments() {
         (size_of::<lisp_locator>(), align_of::<lisp_locator>()),
         (size_of::<lisp_record>(), align_of::<lisp_record>()),
         (size_of::<lisp_message>(), align_of::<lisp_message>()),
+        (size_of::<lisp_prefix>(), align_of::<lisp_prefix>()),
+        (size_of::<lisp_request>(), align_of::<lisp_request>()),
+        (size_of::<lisp_reply>(), align_of::<lisp_reply>()),
+        (size_of::<lisp_encapsulated>(), align_of::<lisp_encapsulated>()),
         (size_of::<lisp_server>(), align_of::<lisp_server>()),
         (size_of::<lisp_pair>(), align_of::<lisp_pair>()),
         (size_of::<lisp_nonce>(), align_of::<lisp_nonce>()),
@@ -134,11 +164,13 @@ fn sizes_and_alignments() {
         (size_of::<lisp_seen>(), align_of::<lisp_seen>()),
     ];
     let messages = [(18, 2), (40, 8), (48, 8), (64, 8)];
+    let requests = [(20, 2), (64, 8), (24, 8), (56, 8)];
     let servers = [(8, 8), (32, 8), (16, 8), (48, 8), (120, 8), (72, 8), (32, 8), (40, 8)];
     let routers = [(8, 8), (24, 8), (40, 8), (40, 8)];
     assert_eq!(found[..4], messages);
-    assert_eq!(found[4..12], servers);
-    assert_eq!(found[12..], routers);
+    assert_eq!(found[4..8], requests);
+    assert_eq!(found[8..16], servers);
+    assert_eq!(found[16..], routers);
     assert_eq!(offset_of!(lisp_received, reply_length), 40);
     assert_eq!(offset_of!(lisp_locator, address), 8);
     assert_eq!(offset_of!(lisp_record, eid), 10);
