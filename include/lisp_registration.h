@@ -682,7 +682,7 @@ static inline uint16_t lisp_write_reply(const struct lisp_reply *reply, const st
  * At LISP_DONE the first `*length` bytes of the buffer are the whole, and those behind them are as they were. At
  * LISP_ROOM `*length` is how many bytes it needs, and the buffer is as it was. The faults come in this order:
  * LISP_FIELD (of the source address, of the destination address, two families, a message of more than 65,507 bytes),
- * LISP_ROOM. LISP_OUT_OF_MEMORY may come in place of LISP_ROOM and of LISP_DONE.
+ * LISP_ROOM. LISP_OUT_OF_MEMORY may come in place of any of these.
  */
 static inline uint16_t lisp_write_encapsulated(const struct lisp_encapsulated *encapsulated, const uint8_t *message,
                                                size_t message_length, uint8_t *buffer, size_t room, size_t *length)
