@@ -286,8 +286,12 @@ module _ (A : Type 0) (config : ConfigValue) (number places : ℕ) (old new : No
   commits : (acts : List TurnAct) (taken done : Bool) → any acts ≡ any heard → commit_calls (acts_of number (intake_of acts taken)) done ≡ to_commit (has_acts heard outcome) done
   commits acts taken done same = taken_commits A config number now takes.between new takes.order outcome takes.obeys taken heard acts done same
 
-  pub loses : (after : OutsideState) → has_acts heard outcome ≡ true → Logs s after (Commits false) → TakesIn A config number places old new now first receives receives before after false
-  loses after has logs =
+  abbrev Takes : (left sends sends_left : Pause) (after : OutsideState) (done : Bool) → Type 0
+  Takes left sends sends_left after done =
+      TakesIn A config number places (record { node = old; receives = receives; sends = sends; outside = before }) (record { node = new; receives = left; sends = sends_left; outside = after }) now first done
+
+  pub loses : (sends sends_left : Pause) (after : OutsideState) → has_acts heard outcome ≡ true → Logs s after (Commits false) → Takes receives sends sends_left after false
+  loses sends sends_left after has logs =
       let all = untold A config number now received heard old takes.between takes.hears.hears in
       let committed = commits all.acts false false all.any_acts ∙ ap (λ (b : Bool). to_commit b false) has in
       record {
@@ -298,10 +302,10 @@ module _ (A : Type 0) (config : ConfigValue) (number places : ℕ) (old new : No
         asked = asks_then before s after asked_first (commit_calls (acts_of number (intake_of all.acts false)) false) listened (subst (λ (l : List Call). Asks s after l) (sym committed) (asks_one s after (Commits false) logs));
       }
 
-  pub takes_in : (committed failed told after : OutsideState) (left : Pause) → Asks s committed (to_commit (has_acts heard outcome) true) → left ≡ receives_after first receives now
+  pub takes_in : (sends sends_left : Pause) (committed failed told after : OutsideState) (left : Pause) → Asks s committed (to_commit (has_acts heard outcome) true) → left ≡ receives_after first receives now
       → Asks committed failed (failure_calls first receives now) → TellsAll heard outcome failed told → Logs told after (Answers (core_of new) now (answer_of outcome))
-      → TakesIn A config number places old new now first receives left before after true
-  takes_in committed failed told after left commits_asked left_is failure tells answers =
+      → Takes left sends sends_left after true
+  takes_in sends sends_left committed failed told after left commits_asked left_is failure tells answers =
       let all = acted A config number now received heard old takes.between failed tells.0 takes.hears.hears tells.1 in
       let last = taken_told A config number now takes.between new takes.order outcome takes.obeys all.acts failed tells.0 told all.asked tells.2 in
       let intake = intake_of all.acts last.0 in

@@ -5,7 +5,7 @@ use Rattle.lisp_policy.specs.Configuration.{ConfigValue}
 use Rattle.lisp_turns.specs.Acts.{acts_calls}
 use Rattle.lisp_turns.specs.Node.{NodeState, Passes}
 use Rattle.lisp_turns.specs.Outside.{Reception, Call, Receives, Polls, Reads, Listens, OutsideState, Logs, ReadsClock, logged}
-use Rattle.lisp_turns.specs.Pause.{no_pause}
+use Rattle.lisp_turns.specs.Pause.{may_try, no_pause}
 use Rattle.lisp_turns.specs.Turn.{TurnState, acts_of, IsHearing, IsTurn, IsLostTurn, Turns, UncutTurns, IsUncut, LosesTurn, commit_calls, telling_calls, expired_calls, rest_calls, hearing_calls, turn_calls}
 use Rattle.lisp_turns.specs.Stretch.{Asks, Expires, told_calls, TakesIn, ServesDue, beginning, StartsTurns}
 use Rattle.lisp_turns.specs.declared.pause.Pause.{Pause}
@@ -22,9 +22,10 @@ regroup : (rest due told commit others dead first : List Call) → (rest ++ (due
 regroup rest due told commit others dead first = simp append_assoc
 
 module _ (A : Type 0) (config : ConfigValue) (number places : ℕ) where
-  module _ (node passed between : NodeState) (receives receives_left sends : Pause) (s asked_once begun expired heard : OutsideState) (reception : Reception) (now : ℕ) (done : Bool)
+  module _ (node passed between : NodeState) (receives receives_left sends sends_between : Pause) (s asked_once begun expired heard : OutsideState) (reception : Reception) (now : ℕ) (done : Bool)
       (logs : Logs s asked_once (Receives reception)) (reads : ReadsClock asked_once begun now) (expires : Expires node passed now begun expired)
-      (takes : TakesIn A config number places passed between now reception receives receives_left expired heard done) where
+      (takes : TakesIn A config number places (record { node = passed; receives = receives; sends = sends; outside = expired })
+      (record { node = between; receives = receives_left; sends = sends_between; outside = heard }) now reception done) where
     abbrev old : TurnState
     old = record { node = node; receives = receives; sends = sends; outside = s }
 
@@ -78,8 +79,11 @@ module _ (A : Type 0) (config : ConfigValue) (number places : ℕ) where
         }
 
     -- or goes on
-    module _ (swept left : NodeState) (sends_left : Pause) (served after : OutsideState) (is : done ≡ true)
-        (withdrawn : Passes between swept now) (serves : ServesDue A config number swept left now sends sends_left heard served) (rests : Asks served after (rest_calls reception)) where
+    module _ (swept left : NodeState) (receives_before receives_served sends_left : Pause) (served after : OutsideState) (is : done ≡ true)
+        (withdrawn : Passes between swept now)
+        (serves : ServesDue A config number (record { node = swept; receives = receives_before; sends = sends; outside = heard })
+        (record { node = left; receives = receives_served; sends = sends_left; outside = served }) now (may_try sends now))
+        (rests : Asks served after (rest_calls reception)) where
       -- what was asked then
       abbrev later_calls : List Call
       later_calls = rest_calls reception ++ (acts_calls serves.served ++ asked_in true) ++ expired_calls expires.dead

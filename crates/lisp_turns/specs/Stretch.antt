@@ -11,7 +11,7 @@ use Rattle.lisp_turns.specs.Due.{IsDuty, IsSend, IsResend, SendsDue, ResendsDue}
 use Rattle.lisp_turns.specs.Node.{NodeState, TellsDead}
 use Rattle.lisp_turns.specs.Outside.{Reception, Call, Polls, Listens, Prints, OutsideState, logged}
 use Rattle.lisp_turns.specs.Pause.{no_pause}
-use Rattle.lisp_turns.specs.Turn.{TurnState, Intake, acts_of, IsTakenIn, commit_calls, telling_calls, expired_calls, receives_after, IsDone, DoesDuties, Serves, IsTurn, IsLostTurn, TakesTurns, LosesTurn}
+use Rattle.lisp_turns.specs.Turn.{TurnState, Intake, acts_of, IsTakenIn, commit_calls, telling_calls, expired_calls, receives_after, IsDone, ServesIf, IsTurn, IsLostTurn, TakesTurns, LosesTurn}
 use Rattle.lisp_turns.specs.declared.outside.Printed.{Printed}
 use Rattle.lisp_turns.specs.declared.pause.Pause.{Pause}
 use Rattle.lisp_turns.specs.declared.turn.Uncommitted.{Uncommitted}
@@ -42,13 +42,13 @@ told_calls number true first receives now intake node = telling_calls number fir
 told_calls number false first receives now intake node = []
 
 -- behind what was received first, a node took in what waited at a moment; the commit of it was done or not; and what is told then was told
-pub record TakesIn (A : Type 0) (config : ConfigValue) (number places : ℕ) (old new : NodeState) (now : ℕ) (first : Reception)
-    (receives left : Pause) (before after : OutsideState) (done : Bool) : Type 0 where
+pub record TakesIn (A : Type 0) (config : ConfigValue) (number places : ℕ) (old new : TurnState) (now : ℕ) (first : Reception)
+    (done : Bool) : Type 0 where
   pub intake : Intake
-  pub takes : IsTakenIn A config number places old new now first intake
+  pub takes : IsTakenIn A config number places old.node new.node now first intake
   pub some : done ≡ false → acts_of number intake ≢ []
-  pub left_is : done ≡ true → left ≡ receives_after first receives now
-  pub asked : Asks before after (told_calls number done first receives now intake new ++ commit_calls (acts_of number intake) done ++ Listens intake.order ∷ map Polls intake.others)
+  pub left_is : done ≡ true → new.receives ≡ receives_after first old.receives now
+  pub asked : Asks old.outside new.outside (told_calls number done first old.receives now intake new.node ++ commit_calls (acts_of number intake) done ++ Listens intake.order ∷ map Polls intake.others)
 
 -- a node did what was due at a moment, until so many acts were done and told, of which none is due any more, and no other became due
 pub record HasServed (A : Type 0) (config : ConfigValue) (number : ℕ) (old new : NodeState) (now count : ℕ)
@@ -66,21 +66,12 @@ pub record HasServed (A : Type 0) (config : ConfigValue) (number : ℕ) (old new
   pub done : AllByRecursion IsDone served
   pub asked : Asks before after (acts_calls served)
 
--- a node did all that was due at a moment, and it was told
-pub record ServesAll (A : Type 0) (config : ConfigValue) (number : ℕ) (old new : NodeState) (now : ℕ) (pause left : Pause)
-    (before after : OutsideState) : Type 0 where
+-- a node did all that was due at a moment, where it tries that, and it was told
+pub record ServesDue (A : Type 0) (config : ConfigValue) (number : ℕ) (old new : TurnState) (now : ℕ) (tries : Bool) : Type 0 where
   pub served : List TurnAct
-  pub did : DoesAll A config number old new now served
-  pub duties : DoesDuties config number old new now pause left served
-  pub asked : Asks before after (acts_calls served)
-
--- the same, where it may be tried
-pub record ServesDue (A : Type 0) (config : ConfigValue) (number : ℕ) (old new : NodeState) (now : ℕ) (pause left : Pause)
-    (before after : OutsideState) : Type 0 where
-  pub served : List TurnAct
-  pub did : DoesAll A config number old new now served
-  pub serves : Serves config number old new now pause left served
-  pub asked : Asks before after (acts_calls served)
+  pub did : DoesAll A config number old.node new.node now served
+  pub serves : ServesIf config tries number old.node new.node now old.sends new.sends served
+  pub asked : Asks old.outside new.outside (acts_calls served)
 
 -- a turn was taken, or was lost
 abbrev pub EndsTurn : Type 0 → ConfigValue → (number places : ℕ) → (old new : TurnState) → (done : Bool) → Type 0

@@ -1,12 +1,13 @@
 //! The turns of a node.
 
-ghost use Rattle.std.specs.Prelude.{◌≡◌, ◌≤◌, ℕ, List};
+ghost use Rattle.std.specs.Prelude.{◌≡◌, ◌≤◌, ℕ, List, true};
 ghost use Rattle.lisp_records.specs.Moment.{max_moment};
 ghost use Rattle.lisp_turns.specs.Node.{IsPlaced, Passes};
 ghost use Rattle.lisp_turns.specs.Outside.{FitsBuffer, reception};
+ghost use Rattle.lisp_turns.specs.Pause.{may_try};
 ghost use Rattle.lisp_turns.specs.Beginning.{RunsAsPart};
 ghost use Rattle.lisp_turns.specs.Turn.{failure_calls, receives_after, rest_calls};
-ghost use Rattle.lisp_turns.specs.Stretch.{Asks, Expires, TakesIn, ServesAll, ServesDue, EndsTurn, EndsTurns, at_station};
+ghost use Rattle.lisp_turns.specs.Stretch.{Asks, Expires, TakesIn, ServesDue, EndsTurn, EndsTurns, at_station};
 
 use crate::intake::Intake;
 use crate::node::Node;
@@ -147,9 +148,9 @@ fn take_in<N: Node, O: Endpoint + Commit + Lines + Control>(
     requires placed { IsPlaced station.old.place.config.now station.old.place.number
         (N.state node.old) }
     ensures takes { TakesIn Global station.old.place.config.now station.old.place.number
-        station.old.places (N.state node.old) (N.state node.new) now
-        (reception received buffer.old) station.old.receives station.new.receives
-        (O.seen outside.old) (O.seen outside.new) result }
+        station.old.places (at_station (N.state node.old) station.old (O.seen outside.old))
+        (at_station (N.state node.new) station.new (O.seen outside.new)) now
+        (reception received buffer.old) result }
     ensures placed { IsPlaced station.old.place.config.now station.old.place.number
         (N.state node.new) }
     ensures place { station.new.place ≡ station.old.place }
@@ -195,8 +196,9 @@ fn serve_due<N: Node, O: Endpoint + Lines>(
     requires placed { IsPlaced station.old.place.config.now station.old.place.number
         (N.state node.old) }
     ensures serves { ServesDue Global station.old.place.config.now station.old.place.number
-        (N.state node.old) (N.state node.new) now station.old.sends station.new.sends
-        (O.seen outside.old) (O.seen outside.new) }
+        (at_station (N.state node.old) station.old (O.seen outside.old))
+        (at_station (N.state node.new) station.new (O.seen outside.new)) now
+        (may_try station.old.sends now) }
     ensures placed { IsPlaced station.old.place.config.now station.old.place.number
         (N.state node.new) }
     ensures place { station.new.place ≡ station.old.place }
@@ -218,9 +220,9 @@ fn serve_all<N: Node, O: Endpoint + Lines>(
     requires bound { now ≤ max_moment }
     requires placed { IsPlaced station.old.place.config.now station.old.place.number
         (N.state node.old) }
-    ensures serves { ServesAll Global station.old.place.config.now station.old.place.number
-        (N.state node.old) (N.state node.new) now station.old.sends station.new.sends
-        (O.seen outside.old) (O.seen outside.new) }
+    ensures serves { ServesDue Global station.old.place.config.now station.old.place.number
+        (at_station (N.state node.old) station.old (O.seen outside.old))
+        (at_station (N.state node.new) station.new (O.seen outside.new)) now true }
     ensures placed { IsPlaced station.old.place.config.now station.old.place.number
         (N.state node.new) }
     ensures place { station.new.place ≡ station.old.place }
