@@ -13,9 +13,10 @@ use std::rt::Files;
 /// The bytes of a page.
 const PAGE: usize = 4_096;
 
-/// How many bytes name the format of a file, and where `application_id` stands.
+/// How many bytes name the format of a file.
 const FORMAT: usize = 16;
 
+/// Where `application_id` stands, which tells whose a database is.
 const MARK: usize = 68;
 
 /// How the one page of an empty database begins; the rest of it is 0.
@@ -91,6 +92,7 @@ fn is_front(bytes: &[u8]) -> bool
     are_same(bytes, FRONT.as_slice())
 }
 
+// Whether both are the same bytes: an array as a slice, so that the contract compares two lists.
 fn are_same(bytes: &[u8], others: &[u8]) -> bool
     ensures { IsTrue result ↔ (bytes.now ≡ others.now) }
 {

@@ -1,4 +1,4 @@
-//! Files and streams that programs read and write, and what is told where one fails: which it is, what
+//! Files and streams that programs read and write, and what a program prints where one fails: which it is, what
 //! was tried, and the system's error. The configuration and the script of a file; why a program on
 //! sockets and files ended.
 //!

@@ -1,5 +1,5 @@
-//! What an event makes of a network of Map-Servers and site routers, that a network which takes such events stands for
-//! a legal trace, and what its nodes tell then (RFC 9301 sections 5.6, 5.7, 8.2 and 8.3).
+//! What an event makes of a network of Map-Servers and site routers, that a network which handles such events matches a
+//! legal trace, and what queries of its nodes return then (RFC 9301 sections 5.6, 5.7, 8.2 and 8.3).
 //!
 //! # Decisions
 //!
