@@ -1,23 +1,26 @@
 -- The best of the rows of one prefix, and of all rows, the longest prefix first.
-use Rattle.std.proofs.Common.{◌≡◌, ◌≢◌, ◌⊎◌, inl, inr, ℕ, ◌+◌, ◌<◌, ◌≤◌, ◌==◌, Bool, true, false, cond, nat_lt, List, length, slice_index, slice_index_or, Option, Some, None, refl, sym, ap, ◌∙◌, subst, true≢false, arith}
+use Rattle.std.proofs.Common.{◌≡◌, ◌≢◌, ◌⊎◌, inl, inr, ℕ, ◌+◌, ◌<◌, ◌≤◌, ◌==◌, Bool, true, false, cond, nat_lt, nat_le, List, length, slice_index, slice_index_or, Option, Some, None, refl, sym, ap, ◌∙◌, subst, true≢false, arith}
 use Rattle.std.specs.List.{All, Contains, filter}
 use Rattle.std.specs.Option.{option_map, is_some}
 use Rattle.std.specs.Ordering.{is_lt, nat_cmp, bool_cmp, ordering_then}
 use Rattle.std.specs.declared.cmp.Ordering.{Ordering}
 use Rattle.std.specs.declared.cmp.Ordering.TheVariants.{Less, Equal, Greater}
-use Rattle.std.proofs.lemmas.Bool.{cases_eq, and_parts, and_from}
+use Rattle.std.proofs.lemmas.Bool.{cases_eq, and_parts, and_from, le-leb, leb-true}
 use Rattle.std.proofs.lemmas.Bool.Decides.{Decides-ltb, Decides-eqb}
 use Rattle.std.proofs.lemmas.List.{get_or_read}
 use Rattle.std.proofs.lemmas.List.Elements.{All-contains}
 use Rattle.lisp_records.proofs.DatabaseLaws.{block_eq-Decides}
 use Rattle.lisp_records.specs.declared.address.Addr.{Addr}
 use Rattle.lisp_records.specs.declared.address.Addr.TheVariants.{V4, V6}
-use Rattle.lisp_records.specs.Address.{PrefixValue, IsPrefix, addr_eq, prefix_eq, prefix_cmp, holds, cleared, max_len}
+use Rattle.lisp_records.specs.Address.{PrefixValue, IsPrefix, IsWhole, addr_eq, prefix_eq, prefix_cmp, holds, covers, cleared, max_len}
 use Rattle.lisp_records.specs.Router.{router_cmp}
 use Rattle.lisp_records.specs.Row.{RowValue, is_alive}
 use Rattle.lisp_lookup.specs.declared.probe.Probe.TheVariants.{Prefix}
 use Rattle.lisp_lookup.specs.Answer.{may_answer, rank_cmp, IsBest, NoneAnswers, IsBestOf}
 use Rattle.lisp_lookup.specs.Index.{row_prefix_cmp, row_at_place, IsBound, IsIndex}
+use Rattle.lisp_lookup.specs.Covering.{may_answer_for, IsBestFor, IsBestForOf, AnswersAlike, alone}
+use Rattle.lisp_policy.proofs.Found.{not_true}
+use Rattle.lisp_lookup.proofs.Blocks.{cleared-whole}
 use Rattle.lisp_lookup.proofs.AnswerLaws.{less, BestIn, best_of_all}
 use Rattle.lisp_lookup.proofs.IndexLaws.{number_at, itself}
 use Rattle.lisp_lookup.proofs.Orders.{block_total, same_block}
@@ -107,7 +110,7 @@ its_block h addr now may =
     let length = h.mapping.eid.mask_len in
     (block_eq-Decides (block_of addr length) h.mapping.eid).0 (and_from (addr_eq (cleared addr length) h.mapping.eid.addr) (length == length) both.1 ((Decides-eqb length length).1 refl))
 
-same_family : (addr : Addr) (mask_len : ℕ) → max_len (cleared addr mask_len) ≡ max_len addr
+pub same_family : (addr : Addr) (mask_len : ℕ) → max_len (cleared addr mask_len) ≡ max_len addr
 same_family (V4 bytes) mask_len = refl
 same_family (V6 bytes) mask_len = refl
 
@@ -120,42 +123,58 @@ rank_case true one two three rest is above = absurd cc
 rank_case false one two three rest is above = absurd (true≢false (sym is))
 
 -- a row of a shorter prefix is the less
-shorter_below : (a b : RowValue) → a.mapping.eid.mask_len < b.mapping.eid.mask_len → rank_cmp a b ≢ Greater
+pub shorter_below : (a b : RowValue) → a.mapping.eid.mask_len < b.mapping.eid.mask_len → rank_cmp a b ≢ Greater
 shorter_below a b lt = rank_case (nat_lt a.mapping.eid.mask_len b.mapping.eid.mask_len) (bool_cmp a.proxy b.proxy) (nat_cmp a.accepted b.accepted) (router_cmp a.router b.router) (cond (a.mapping.eid.mask_len == b.mapping.eid.mask_len) Equal Greater) ((Decides-ltb a.mapping.eid.mask_len b.mapping.eid.mask_len).1 lt)
 
+-- a row that may answer for a prefix may do so for its address
+pub for_address : (h : RowValue) (asked : PrefixValue) (now : ℕ) → may_answer_for asked now h ≡ true → may_answer asked.addr now h ≡ true
+for_address h asked now may =
+    let both = and_parts (is_alive h now) (covers h.mapping.eid asked) may in
+    let covered = and_parts (nat_le h.mapping.eid.mask_len asked.mask_len) (holds h.mapping.eid asked.addr) both.1 in
+    and_from (is_alive h now) (holds h.mapping.eid asked.addr) both.0 covered.1
+
+-- and has no longer one
+pub for_length : (h : RowValue) (asked : PrefixValue) (now : ℕ) → may_answer_for asked now h ≡ true → h.mapping.eid.mask_len ≤ asked.mask_len
+for_length h asked now may =
+    let both = and_parts (is_alive h now) (covers h.mapping.eid asked) may in
+    leb-true h.mapping.eid.mask_len asked.mask_len (and_parts (nat_le h.mapping.eid.mask_len asked.mask_len) (holds h.mapping.eid asked.addr) both.1).0
+
+-- one that may do so for the address and has no longer one may do so for the prefix
+pub for_prefix : (h : RowValue) (asked : PrefixValue) (now : ℕ) → may_answer asked.addr now h ≡ true → h.mapping.eid.mask_len ≤ asked.mask_len → may_answer_for asked now h ≡ true
+for_prefix h asked now may short =
+    let both = and_parts (is_alive h now) (holds h.mapping.eid asked.addr) may in
+    and_from (is_alive h now) (covers h.mapping.eid asked) both.0 (and_from (nat_le h.mapping.eid.mask_len asked.mask_len) (holds h.mapping.eid asked.addr) (le-leb h.mapping.eid.mask_len asked.mask_len short) both.1)
+
 -- no row with a longer mask may answer
-abbrev pub NoneLonger : List RowValue → Addr → ℕ → ℕ → Type 0
-NoneLonger rows addr now longest = (h : RowValue) → Contains rows h → may_answer addr now h ≡ true → h.mapping.eid.mask_len ≤ longest
+abbrev pub NoneLonger : List RowValue → PrefixValue → ℕ → ℕ → Type 0
+NoneLonger rows asked now longest = (h : RowValue) → Contains rows h → may_answer_for asked now h ≡ true → h.mapping.eid.mask_len ≤ longest
 
-pub none_longer : (rows : List RowValue) (addr : Addr) (now : ℕ) → All (λ h. IsPrefix h.mapping.eid) rows → NoneLonger rows addr now (max_len addr)
-none_longer rows addr now blocks h held may = its_length h addr now may (All-contains (λ h. IsPrefix h.mapping.eid) rows h blocks held)
-
-module _ (rows : List RowValue) (addr : Addr) (now mask_len : ℕ) (longest : NoneLonger rows addr now mask_len) where
-  in_prefix : (h : RowValue) → Contains rows h → may_answer addr now h ≡ true → h.mapping.eid.mask_len ≡ mask_len → Contains (of_prefix rows (block_of addr mask_len)) h
-  in_prefix h held may long = filter_holds (λ x. prefix_eq x.mapping.eid (block_of addr mask_len)) rows h held ((block_eq-Decides h.mapping.eid (block_of addr mask_len)).1 (sym (its_block h addr now may) ∙ ap (block_of addr) long))
+module _ (rows : List RowValue) (asked : PrefixValue) (now mask_len : ℕ) (within : mask_len ≤ asked.mask_len) (longest : NoneLonger rows asked now mask_len) where
+  in_prefix : (h : RowValue) → Contains rows h → may_answer_for asked now h ≡ true → h.mapping.eid.mask_len ≡ mask_len → Contains (of_prefix rows (block_of asked.addr mask_len)) h
+  in_prefix h held may long = filter_holds (λ x. prefix_eq x.mapping.eid (block_of asked.addr mask_len)) rows h held ((block_eq-Decides h.mapping.eid (block_of asked.addr mask_len)).1 (sym (its_block h asked.addr now (for_address h asked now may)) ∙ ap (block_of asked.addr) long))
 
   -- the best of the rows of the longest prefix that may answer is the best
-  pub best_longest : (h : RowValue) → IsBest (of_prefix rows (block_of addr mask_len)) addr now h → IsBest rows addr now h
+  pub best_longest : (h : RowValue) → IsBest (of_prefix rows (block_of asked.addr mask_len)) asked.addr now h → IsBestFor rows asked now h
   best_longest h is = record {
     held = was.0;
-    may = is.may;
+    may = for_prefix h asked now is.may (omega (arith, long, within));
     most = λ other held may. either other held may (cases_eq other.mapping.eid.mask_len mask_len);
   }
     where
-      was : Contains rows h × (prefix_eq h.mapping.eid (block_of addr mask_len) ≡ true)
-      was = filtered_holds (λ x. prefix_eq x.mapping.eid (block_of addr mask_len)) rows h is.held
+      was : Contains rows h × (prefix_eq h.mapping.eid (block_of asked.addr mask_len) ≡ true)
+      was = filtered_holds (λ x. prefix_eq x.mapping.eid (block_of asked.addr mask_len)) rows h is.held
 
       long : h.mapping.eid.mask_len ≡ mask_len
-      long = ap (λ (b : PrefixValue). b.mask_len) ((block_eq-Decides h.mapping.eid (block_of addr mask_len)).0 was.1)
+      long = ap (λ (b : PrefixValue). b.mask_len) ((block_eq-Decides h.mapping.eid (block_of asked.addr mask_len)).0 was.1)
 
-      either : (other : RowValue) → Contains rows other → may_answer addr now other ≡ true → (other.mapping.eid.mask_len ≡ mask_len) ⊎ (other.mapping.eid.mask_len ≢ mask_len) → rank_cmp other h ≢ Greater
-      either other held may (inl same) = is.most other (in_prefix other held may same) may
+      either : (other : RowValue) → Contains rows other → may_answer_for asked now other ≡ true → (other.mapping.eid.mask_len ≡ mask_len) ⊎ (other.mapping.eid.mask_len ≢ mask_len) → rank_cmp other h ≢ Greater
+      either other held may (inl same) = is.most other (in_prefix other held may same) (for_address other asked now may)
       either other held may (inr off) = shorter_below other h (omega (arith, long, off, longest other held may))
 
   -- where none of them may answer, no row with a mask of their length may
-  pub none_longest : NoneAnswers (of_prefix rows (block_of addr mask_len)) addr now → (h : RowValue) → Contains rows h → may_answer addr now h ≡ true → h.mapping.eid.mask_len < mask_len
+  pub none_longest : NoneAnswers (of_prefix rows (block_of asked.addr mask_len)) asked.addr now → (h : RowValue) → Contains rows h → may_answer_for asked now h ≡ true → h.mapping.eid.mask_len < mask_len
   none_longest none h held may =
-      let other : h.mapping.eid.mask_len ≢ mask_len = λ same. true≢false (sym may ∙ none h (in_prefix h held may same)) in
+      let other : h.mapping.eid.mask_len ≢ mask_len = λ same. true≢false (sym (for_address h asked now may) ∙ none h (in_prefix h held may same)) in
       omega (arith, other, longest h held may)
 
 -- one place more was looked at
@@ -172,16 +191,45 @@ seen_splits rows numbers first place x read h (k, low, lt, is) = either (cases_e
     either (inl at) = inr (read h ∙ ap (λ (j : ℕ). row_at_place rows numbers j h) (sym at) ∙ is)
     either (inr off) = inl (k, low, omega (arith, lt, off), is)
 
-module _ {R : Type 0} (view : R → RowValue) (rows : List RowValue) (addr : Addr) (now mask_len : ℕ) (longest : NoneLonger rows addr now mask_len) (eid : PrefixValue) (named : eid ≡ block_of addr mask_len) where
+module _ {R : Type 0} (view : R → RowValue) (rows : List RowValue) (asked : PrefixValue) (now mask_len : ℕ) (within : mask_len ≤ asked.mask_len) (longest : NoneLonger rows asked now mask_len) (addr : Addr) (own : addr ≡ asked.addr) (eid : PrefixValue) (named : eid ≡ block_of addr mask_len) where
+  found_by : (found : Option R) → IsBestOf (of_prefix rows eid) addr now (option_map view found) → IsBestOf (of_prefix rows (block_of asked.addr mask_len)) asked.addr now (option_map view found)
+  found_by found is =
+      let known = subst (λ (a : Addr). IsBestOf (of_prefix rows eid) a now (option_map view found)) own is in
+      subst (λ (b : PrefixValue). IsBestOf (of_prefix rows b) asked.addr now (option_map view found)) (named ∙ ap (λ (a : Addr). block_of a mask_len) own) known
+
   -- what was found of the longest prefix is the best
-  pub found_longest : (found : Option R) → IsBestOf (of_prefix rows eid) addr now (option_map view found) → is_some found ≡ true → IsBestOf rows addr now (option_map view found)
+  pub found_longest : (found : Option R) → IsBestOf (of_prefix rows eid) addr now (option_map view found) → is_some found ≡ true → IsBestForOf rows asked now (option_map view found)
   found_longest None is some = absurd cc
-  found_longest (Some x) is some = best_longest rows addr now mask_len longest (view x) (subst (λ (b : PrefixValue). IsBest (of_prefix rows b) addr now (view x)) named is)
+  found_longest (Some x) is some = best_longest rows asked now mask_len within longest (view x) (found_by (Some x) is)
 
   -- where nothing was found, the masks of those that may answer are shorter
-  pub missed_longest : (found : Option R) → IsBestOf (of_prefix rows eid) addr now (option_map view found) → is_some found ≡ false → (h : RowValue) → Contains rows h → may_answer addr now h ≡ true → h.mapping.eid.mask_len < mask_len
-  missed_longest None is none = none_longest rows addr now mask_len longest (subst (λ (b : PrefixValue). NoneAnswers (of_prefix rows b) addr now) named is)
+  pub missed_longest : (found : Option R) → IsBestOf (of_prefix rows eid) addr now (option_map view found) → is_some found ≡ false → (h : RowValue) → Contains rows h → may_answer_for asked now h ≡ true → h.mapping.eid.mask_len < mask_len
+  missed_longest None is none = none_longest rows asked now mask_len within longest (found_by None is)
   missed_longest (Some x) is none = absurd cc
+
+-- ---- for the prefix of one address answers who answers for the address
+
+module _ (rows : List RowValue) (blocks : All (λ h. IsPrefix h.mapping.eid) rows) (addr : Addr) (whole : IsWhole addr) (now : ℕ) where
+  its_own : cleared addr (max_len addr) ≡ addr
+  its_own = cleared-whole addr whole
+
+  -- a row may answer for one as for the other
+  may_for : (h : RowValue) → may_answer_for (alone addr) now h ≡ true → may_answer addr now h ≡ true
+  may_for h may = subst (λ (a : Addr). may_answer a now h ≡ true) its_own (for_address h (alone addr) now may)
+
+  may_alone : (h : RowValue) → Contains rows h → may_answer addr now h ≡ true → may_answer_for (alone addr) now h ≡ true
+  may_alone h held may = for_prefix h (alone addr) now (subst (λ (a : Addr). may_answer a now h ≡ true) (sym its_own) may) (its_length h addr now may (All-contains (λ h. IsPrefix h.mapping.eid) rows h blocks held))
+
+  pub alone_best : (best : Option RowValue) → IsBestForOf rows (alone addr) now best → IsBestOf rows addr now best
+  alone_best None none = λ h held. not_true (may_answer addr now h) (λ may. true≢false (sym (may_alone h held may) ∙ none h held))
+  alone_best (Some h) is = record { held = is.held; may = may_for h is.may; most = λ other held may. is.most other held (may_alone other held may) }
+
+  pub best_alone : (best : Option RowValue) → IsBestOf rows addr now best → IsBestForOf rows (alone addr) now best
+  best_alone None none = λ h held. not_true (may_answer_for (alone addr) now h) (λ may. true≢false (sym (may_for h may) ∙ none h held))
+  best_alone (Some h) is = record { held = is.held; may = may_alone h is.held is.may; most = λ other held may. is.most other held (may_for other may) }
+
+pub answers_alike : (rows : List RowValue) → AnswersAlike rows
+answers_alike rows blocks addr whole now best = (alone_best rows blocks addr whole now best, best_alone rows blocks addr whole now best)
 
 -- each row that was looked at is of the prefix, and so is the next one
 pub same_more : (rows : List RowValue) (numbers : List ℕ) (eid : PrefixValue) (first place : ℕ) (x : RowValue) → ((d : RowValue) → x ≡ row_at_place rows numbers place d) → prefix_eq x.mapping.eid eid ≡ true → ((k : ℕ) (d : RowValue) → first ≤ k → k < place → (row_at_place rows numbers k d).mapping.eid ≡ eid) → (k : ℕ) (d : RowValue) → first ≤ k → k < place + 1 → (row_at_place rows numbers k d).mapping.eid ≡ eid

@@ -1,4 +1,5 @@
 pub mod Apart
+pub mod Blocks
 pub mod Orders
 pub mod FindLaws
 pub mod LiveFrom
@@ -11,5 +12,9 @@ pub mod DeadlineLaws
 pub mod PutLaws
 pub mod CountLaws
 pub mod BestLaws
+pub mod InsideLaws
+pub mod SitesLaws
+pub mod HoleLaws
+pub mod CachedLaws
 pub mod RoomLaws
 pub mod OneAnswerLaws

@@ -4,3 +4,7 @@ pub mod Records
 pub mod Answer
 pub mod Index
 pub mod OneAnswer
+pub mod Covering
+pub mod Inside
+pub mod Hole
+pub mod Replies

@@ -6,6 +6,7 @@ ghost use Rattle.std.specs.Option.{option_map};
 ghost use Rattle.lisp_records.specs.Address.{IsPrefix, prefix_eq};
 ghost use Rattle.lisp_lookup.specs.Index.{row_prefix_cmp, IsIndex};
 ghost use Rattle.lisp_lookup.specs.Answer.{may_answer, rank_cmp, greater, IsBestOf, IsBestOfPrefix};
+ghost use Rattle.lisp_lookup.specs.Covering.{IsBestForOf};
 
 use crate::find::place;
 use crate::probe::Probe;
@@ -15,7 +16,7 @@ use std::cmp::Ordering;
 use std::collections::VecDeque;
 
 /// Of the rows that are alive at a moment, in ms, and whose prefix has the address, the one that answers;
-/// `None` where none does. The prefixes that have the address are sought one by one, the longest first.
+/// `None` where none does.
 pub(crate) fn best<'a, A: Allocator>(
     rows: &'a [Row<A>],
     by_prefix: &VecDeque<usize, A>,
@@ -26,10 +27,28 @@ pub(crate) fn best<'a, A: Allocator>(
     requires index { IsIndex row_prefix_cmp rows.now by_prefix.now.items }
     ensures { IsBestOf rows.now addr.now now (option_map (λ row. row.now) result) }
 {
-    let longest = addr.family().max_mask_len();
+    // A proof learns here that the address is whole.
+    let _octets = addr.octets();
+    let alone = Prefix::new(*addr, addr.family().max_mask_len())?;
+    best_for(rows, by_prefix, &alone, now)
+}
+
+/// Of the rows that are alive at a moment, in ms, and whose prefix covers the one that is asked for, the one that answers;
+/// `None` where none does. The prefixes that cover it are sought one by one, the longest first.
+pub(crate) fn best_for<'a, A: Allocator>(
+    rows: &'a [Row<A>],
+    by_prefix: &VecDeque<usize, A>,
+    asked: &Prefix,
+    now: u64,
+) -> Option<&'a Row<A>>
+    requires index { IsIndex row_prefix_cmp rows.now by_prefix.now.items }
+    ensures { IsBestForOf rows.now asked.now now (option_map (λ row. row.now) result) }
+{
+    let addr = asked.addr();
+    let longest = asked.mask_len();
     for shorter in 0..longest + 1 {
-        let prefix = Prefix::new(*addr, longest - shorter)?;
-        let best = best_of(rows, by_prefix, &prefix, addr, now);
+        let prefix = Prefix::new(addr, longest - shorter)?;
+        let best = best_of(rows, by_prefix, &prefix, &addr, now);
         if best.is_some() {
             return best;
         }
@@ -37,8 +56,8 @@ pub(crate) fn best<'a, A: Allocator>(
     None
 }
 
-// Of the rows of a prefix the one that answers.
-fn best_of<'a, A: Allocator>(
+/// Of the rows of a prefix the one that answers for an address.
+pub(crate) fn best_of<'a, A: Allocator>(
     rows: &'a [Row<A>],
     by_prefix: &VecDeque<usize, A>,
     prefix: &Prefix,

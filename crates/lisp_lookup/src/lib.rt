@@ -25,11 +25,14 @@ mod best;
 mod counted_rows;
 mod edits;
 mod find;
+mod hole;
 mod index;
+mod inside;
 pub mod laws;
 mod live;
 mod order;
 mod probe;
+mod sites;
 mod steps;
 mod table;
 

@@ -7,13 +7,18 @@ ghost use Rattle.lisp_records.specs.Moment.{max_moment};
 ghost use Rattle.lisp_records.specs.Row.{is_alive};
 ghost use Rattle.lisp_lookup.specs.Table.{OneEach, Sets, Expires, DropsDead, row_key, row_cmp, IsHeld, IsNextLive, count_lesser, live_from};
 ghost use Rattle.lisp_lookup.specs.Answer.{Answers};
+ghost use Rattle.lisp_lookup.specs.Covering.{IsBestForOf};
+ghost use Rattle.lisp_lookup.specs.Hole.{IsHoleOf};
+ghost use Rattle.lisp_lookup.specs.Inside.{IsNextInsideOf};
 ghost use Rattle.lisp_lookup.specs.Records.{live_of, live_count, live_fit, ListsLive};
 
 use crate::answer::Answer;
-use crate::best::best;
+use crate::best::{best, best_for};
 use crate::counted_rows::CountedRows;
 use crate::find::find;
+use crate::hole::hole;
 use crate::index::Near;
+use crate::inside::next_inside;
 use crate::live::{copy_live, count_live};
 use crate::probe::Probe;
 use crate::steps::Steps;
@@ -170,6 +175,33 @@ impl<A: Allocator + Copy> Table<A> {
             None if sites.configured(addr) => Answer::NotRegistered,
             None => Answer::NoSite,
         }
+    }
+
+    /// Who answers for an EID-Prefix at a moment, in ms: of the live rows whose prefix covers it the best, in the order of `answer`;
+    /// `None` where none does. Takes no memory (RFC 9301 section 8.3).
+    pub fn best_for(&self, asked: &Prefix, now: u64) -> Option<&Row<A>>
+        ensures best { IsBestForOf self.now.rows asked.now now (option_map (λ row. row.now) result) }
+    {
+        best_for(&self.items, &self.by_prefix, asked, now)
+    }
+
+    /// Of the longer prefixes inside `outer` that stand behind `after` in their order and have a row that is alive at a moment, in ms,
+    /// the first one's best row; `None` where there is none. From `outer` itself on, each time behind the last one's prefix, this
+    /// gives the best row of every prefix inside once. Takes no memory (RFC 9301 section 5.5).
+    pub fn next_inside(&self, outer: &Prefix, after: &Prefix, now: u64) -> Option<&Row<A>>
+        ensures next { IsNextInsideOf self.now.rows outer.now after.now now
+            (option_map (λ row. row.now) result) }
+    {
+        next_inside(&self.items, &self.by_prefix, outer, after, now)
+    }
+
+    /// The widest prefix around an address in which nobody is there at a moment, in ms, which a negative Map-Reply for the address has:
+    /// no live row has a prefix in it or over it, it leaves no prefix of a site that has the address, and where no site has it, no prefix
+    /// of a site lies in it. `None` where a live row has the address. Takes no memory (RFC 9301 section 8.4).
+    pub fn hole<B: Allocator>(&self, sites: &Sites<B>, addr: &Addr, now: u64) -> Option<Prefix>
+        ensures hole { IsHoleOf self.now.rows sites.now addr.now now result }
+    {
+        hole(&self.items, &self.by_prefix, sites, addr, now)
     }
 }
 

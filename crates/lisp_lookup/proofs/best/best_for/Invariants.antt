@@ -1,9 +1,9 @@
 use Rattle.std.proofs.Common.{◌≡◌, ◌+◌, ◌≤◌, true}
 use Rattle.std.specs.List.{Contains}
 use Rattle.lisp_records.specs.Row.{RowValue}
-use Rattle.lisp_lookup.specs.Answer.{may_answer}
-use Rattle.lisp_lookup.proofs.best.best.Given as goal
+use Rattle.lisp_lookup.specs.Covering.{may_answer_for}
+use Rattle.lisp_lookup.proofs.best.best_for.Given as goal
 
 -- the masks of the rows that may answer are shorter than those that were tried
 abbrev pub invariant-loop-shorter : goal.invariant-loop-shorter
-invariant-loop-shorter g l = (h : RowValue) → Contains l.rows h → may_answer l.addr l.now h ≡ true → h.mapping.eid.mask_len + l.shorter ≤ l.longest
+invariant-loop-shorter g l = (h : RowValue) → Contains l.rows h → may_answer_for l.asked l.now h ≡ true → h.mapping.eid.mask_len + l.shorter ≤ l.longest

@@ -1,0 +1,305 @@
+-- The rows of the prefixes inside a prefix, in the order by prefix.
+use Rattle.std.proofs.Common.{◌≡◌, ◌≢◌, ◌⊎◌, inl, inr, ℕ, ◌+◌, ◌<◌, ◌≤◌, Bool, true, false, ◌&&◌, cond, nat_lt, nat_le, List, length, slice_index, slice_index_or, Option, Some, None, refl, sym, ap, ◌∙◌, subst, true≢false, arith}
+use Rattle.std.specs.List.{Contains}
+use Rattle.std.specs.Cmp.{IsTotalOrder}
+use Rattle.std.specs.Ordering.{is_lt, nat_cmp, ordering_reverse, ordering_then}
+use Rattle.std.specs.declared.cmp.Ordering.{Ordering}
+use Rattle.std.specs.declared.cmp.Ordering.TheVariants.{Less, Equal, Greater}
+use Rattle.std.proofs.lemmas.Bool.{cases_eq, cases_lt, and_parts, and_from, leb-true}
+use Rattle.lisp_records.proofs.DatabaseLaws.{block_eq-Decides}
+use Rattle.lisp_records.specs.Address.{PrefixValue, IsPrefix, IsWhole, addr_cmp, cleared, covers, holds, prefix_cmp, prefix_eq}
+use Rattle.lisp_records.specs.Router.{router_cmp}
+use Rattle.lisp_records.specs.Row.{RowValue, is_alive}
+use Rattle.lisp_policy.proofs.Found.{not_true}
+use Rattle.lisp_lookup.specs.declared.probe.Probe.TheVariants.{Prefix}
+use Rattle.lisp_lookup.specs.Answer.{may_answer, IsBestOfPrefix}
+use Rattle.lisp_lookup.specs.Index.{row_prefix_cmp, row_at_place, IsBound, IsIndex}
+use Rattle.lisp_lookup.specs.Hole.{IsEmptyIn}
+use Rattle.lisp_lookup.specs.Inside.{is_inside, is_live_inside, later, NoneInside, IsNextInsideOf}
+use Rattle.lisp_lookup.proofs.AnswerLaws.{less}
+use Rattle.lisp_lookup.proofs.BestLaws.{of_prefix}
+use Rattle.lisp_lookup.proofs.Blocks.{addr_is, at_most_cleared, at_most_first, cleared-between, is_addr}
+use Rattle.lisp_lookup.proofs.IndexLaws.{itself, number_at}
+use Rattle.lisp_lookup.proofs.Orders.{block_total}
+use Rattle.lisp_lookup.proofs.TableLaws.{filtered_holds, filter_holds}
+
+-- a live row of a prefix inside, behind a given prefix
+abbrev pub is_hit : PrefixValue → PrefixValue → ℕ → RowValue → Bool
+is_hit outer after now h = is_live_inside outer now h && is_lt (prefix_cmp after h.mapping.eid)
+
+-- ---- what stands not before what
+
+module _ {K : Type 0} {R : K → K → Ordering} (total : IsTotalOrder R) where
+  at_most_case : (x y z : K) (one two : Ordering) → R x y ≡ one → R y z ≡ two → one ≢ Greater → two ≢ Greater → R x z ≢ Greater
+  at_most_case x y z Less Less first second low high above = absurd (let is = total.trans x y z first second in cc)
+  at_most_case x y z Less Equal first second low high above =
+      let tied : R z y ≡ Equal = total.antisymm z y ∙ ap ordering_reverse second in
+      let turned : R z x ≡ Greater = total.congr z y x tied ∙ total.antisymm y x ∙ ap ordering_reverse first in
+      absurd (let is : R x z ≡ Less = total.antisymm x z ∙ ap ordering_reverse turned in cc)
+  at_most_case x y z Less Greater first second low high above = absurd (high refl)
+  at_most_case x y z Equal two first second low high above = high (sym second ∙ sym (total.congr x y z first) ∙ above)
+  at_most_case x y z Greater two first second low high above = absurd (low refl)
+
+  pub at_most : (x y z : K) → R x y ≢ Greater → R y z ≢ Greater → R x z ≢ Greater
+  at_most x y z low high = at_most_case x y z (R x y) (R y z) refl refl low high
+
+  not_less_case : (x y : K) (o : Ordering) → R x y ≡ o → is_lt o ≡ false → R y x ≢ Greater
+  not_less_case x y Less is low above = absurd cc
+  not_less_case x y Equal is low above = absurd (let turned : R y x ≡ Equal = total.antisymm y x ∙ ap ordering_reverse is in cc)
+  not_less_case x y Greater is low above = absurd (let turned : R y x ≡ Less = total.antisymm y x ∙ ap ordering_reverse is in cc)
+
+  -- what doesn't stand before something has it before itself, or ties with it
+  pub not_less : (x y : K) → is_lt (R x y) ≡ false → R y x ≢ Greater
+  not_less x y low = not_less_case x y (R x y) refl low
+
+  -- of two, not each stands before the other
+  pub not_both : (x y : K) → R x y ≡ Less → R y x ≡ Less → ⊥
+  not_both x y one other = absurd (let turned : R y x ≡ Greater = total.antisymm y x ∙ ap ordering_reverse one in cc)
+
+less_equal : (o : Ordering) → o ≡ Equal → o ≢ Greater
+less_equal Less is above = absurd cc
+less_equal Equal is above = absurd cc
+less_equal Greater is above = absurd cc
+
+less_is : (o : Ordering) → o ≡ Less → o ≢ Greater
+less_is Less is above = absurd cc
+less_is Equal is above = absurd cc
+less_is Greater is above = absurd cc
+
+first_of : (one rest : Ordering) → ordering_then one rest ≢ Greater → one ≢ Greater
+first_of Less rest above is = absurd cc
+first_of Equal rest above is = absurd cc
+first_of Greater rest above is = above refl
+
+by_length : (one rest : Ordering) → one ≢ Greater → rest ≡ Less → ordering_then one rest ≡ Less
+by_length Less rest low is = refl
+by_length Equal rest low is = is
+by_length Greater rest low is = absurd (low refl)
+
+lengths : (a b : ℕ) → nat_lt a b ≡ true → nat_cmp a b ≡ Less
+lengths a b is = lengths_case (nat_lt a b) _ is
+  where
+    lengths_case : (less : Bool) (rest : Ordering) → less ≡ true → cond less Less rest ≡ Less
+    lengths_case true rest is = refl
+    lengths_case false rest is = absurd (true≢false (sym is))
+
+-- what lies inside a prefix stands behind it
+pub inside_behind : (outer eid : PrefixValue) → is_inside outer eid ≡ true → prefix_cmp outer eid ≡ Less
+inside_behind outer eid inside =
+    let parts = and_parts (covers outer eid) (nat_lt outer.mask_len eid.mask_len) inside in
+    let held = and_parts (nat_le outer.mask_len eid.mask_len) (holds outer eid.addr) parts.0 in
+    by_length (addr_cmp outer.addr eid.addr) (nat_cmp outer.mask_len eid.mask_len) (at_most_cleared eid.addr outer.addr outer.mask_len (addr_is (cleared eid.addr outer.mask_len) outer.addr held.1)) (lengths outer.mask_len eid.mask_len parts.1)
+
+-- ---- the run
+
+later_case : (outer after : PrefixValue) (o : Ordering) → prefix_cmp outer after ≡ o → (prefix_cmp outer (cond (is_lt o) after outer) ≢ Greater) × ((x : PrefixValue) → prefix_cmp x (cond (is_lt o) after outer) ≡ Less → prefix_cmp outer x ≡ Less → prefix_cmp after x ≡ Less → ⊥)
+later_case outer after Less is = (less_is (prefix_cmp outer after) is, λ x before in_outer behind. not_both block_total x after before behind)
+later_case outer after Equal is = (less_equal (prefix_cmp outer outer) (itself prefix_cmp block_total outer), λ x before in_outer behind. not_both block_total x outer before in_outer)
+later_case outer after Greater is = (less_equal (prefix_cmp outer outer) (itself prefix_cmp block_total outer), λ x before in_outer behind. not_both block_total x outer before in_outer)
+
+later_is : (outer after : PrefixValue) → (prefix_cmp outer (later outer after) ≢ Greater) × ((x : PrefixValue) → prefix_cmp x (later outer after) ≡ Less → prefix_cmp outer x ≡ Less → prefix_cmp after x ≡ Less → ⊥)
+later_is outer after = later_case outer after (prefix_cmp outer after) refl
+
+hit_parts : (outer after : PrefixValue) (now : ℕ) (h : RowValue) → is_hit outer after now h ≡ true → (is_alive h now ≡ true) × ((is_inside outer h.mapping.eid ≡ true) × (prefix_cmp after h.mapping.eid ≡ Less))
+hit_parts outer after now h hit =
+    let parts = and_parts (is_live_inside outer now h) (is_lt (prefix_cmp after h.mapping.eid)) hit in
+    let live = and_parts (is_alive h now) (is_inside outer h.mapping.eid) parts.0 in
+    (live.0, (live.1, less (prefix_cmp after h.mapping.eid) parts.1))
+
+is_hit_from : (outer after : PrefixValue) (now : ℕ) (h : RowValue) → is_live_inside outer now h ≡ true → prefix_cmp after h.mapping.eid ≡ Less → is_hit outer after now h ≡ true
+is_hit_from outer after now h live behind = and_from (is_live_inside outer now h) (is_lt (prefix_cmp after h.mapping.eid)) live (ap is_lt behind)
+
+row_rise : (a b : PrefixValue) (rest : Ordering) → ordering_then (prefix_cmp a b) rest ≡ Less → prefix_cmp a b ≢ Greater
+row_rise a b rest rise = first_of (prefix_cmp a b) rest (less_is (ordering_then (prefix_cmp a b) rest) rise)
+
+-- ---- rows that are sought among those whose address a prefix has, from a place on before which none is
+
+pub record IsRun (rows : List RowValue) (numbers : List ℕ) (sought : RowValue → Bool) (outer from : PrefixValue) (first : ℕ) : Type 0 where
+  pub index : IsIndex row_prefix_cmp rows numbers
+  pub low : prefix_cmp outer from ≢ Greater
+  pub has : (h : RowValue) → sought h ≡ true → holds outer h.mapping.eid.addr ≡ true
+  pub before : (h : RowValue) → prefix_cmp h.mapping.eid from ≡ Less → sought h ≡ false
+  pub earlier : (i : ℕ) (d : RowValue) → i < first → is_lt (prefix_cmp (row_at_place rows numbers i d).mapping.eid from) ≡ true
+  pub onward : (i : ℕ) (d : RowValue) → first ≤ i → i < length numbers → is_lt (prefix_cmp (row_at_place rows numbers i d).mapping.eid from) ≡ false
+
+module _ (rows : List RowValue) (numbers : List ℕ) (sought : RowValue → Bool) (outer from : PrefixValue) (first : ℕ) (run : IsRun rows numbers sought outer from first) where
+  -- no row before the first is sought
+  pub before_first : (k : ℕ) (d : RowValue) → k < first → sought (row_at_place rows numbers k d) ≡ false
+  before_first k d lt = run.before (row_at_place rows numbers k d) (less (prefix_cmp (row_at_place rows numbers k d).mapping.eid from) (run.earlier k d lt))
+
+  -- what was looked at isn't sought
+  abbrev pub NoneSought : ℕ → Type 0
+  NoneSought upto = (k : ℕ) (d : RowValue) → first ≤ k → k < upto → sought (row_at_place rows numbers k d) ≡ false
+
+  -- where nothing is sought at any place none of the rows is
+  pub none_sought : NoneSought (length numbers) → (h : RowValue) → Contains rows h → sought h ≡ false
+  none_sought none h (n, lt, is) =
+      let (k, lt_k, at) = run.index.each n lt in
+      let here : row_at_place rows numbers k h ≡ h = ap (λ (m : ℕ). slice_index_or rows m h) (number_at numbers k n lt_k at) ∙ is in
+      ap sought (sym here) ∙ either k lt_k (cases_lt k first)
+    where
+      either : (k : ℕ) → k < length numbers → (k < first) ⊎ (first ≤ k) → sought (row_at_place rows numbers k h) ≡ false
+      either k lt (inl sooner) = before_first k h sooner
+      either k lt (inr later) = none k h later lt
+
+  -- one place more was looked at
+  pub one_more : (p : ℕ) (x : RowValue) → ((d : RowValue) → x ≡ row_at_place rows numbers p d) → sought x ≡ false → NoneSought p → NoneSought (p + 1)
+  one_more p x known miss none k d low lt = either (cases_eq k p)
+    where
+      either : (k ≡ p) ⊎ (k ≢ p) → sought (row_at_place rows numbers k d) ≡ false
+      either (inl at) = ap (λ (j : ℕ). sought (row_at_place rows numbers j d)) at ∙ ap sought (sym (known d)) ∙ miss
+      either (inr off) = none k d low (omega (arith, lt, off))
+
+  -- behind a row whose address is outside none is sought
+  module _ (whole : IsWhole outer.addr) (p : ℕ) (x : RowValue) (le : first ≤ p) (within : p < length numbers) (known : (d : RowValue) → x ≡ row_at_place rows numbers p d) (x_whole : IsWhole x.mapping.eid.addr) (outside : holds outer x.mapping.eid.addr ≡ false) where
+    behind_outer : prefix_cmp outer x.mapping.eid ≢ Greater
+    behind_outer =
+        let after_from : is_lt (prefix_cmp x.mapping.eid from) ≡ false = ap (λ (h : RowValue). is_lt (prefix_cmp h.mapping.eid from)) (known x) ∙ run.onward p x le within in
+        at_most block_total outer from x.mapping.eid run.low (not_less block_total x.mapping.eid from after_from)
+
+    not_in : (y : RowValue) → addr_cmp x.mapping.eid.addr y.mapping.eid.addr ≢ Greater → holds outer y.mapping.eid.addr ≡ true → ⊥
+    not_in y high held =
+        let block = addr_is (cleared y.mapping.eid.addr outer.mask_len) outer.addr held in
+        let under = first_of (addr_cmp outer.addr x.mapping.eid.addr) (nat_cmp outer.mask_len x.mapping.eid.mask_len) behind_outer in
+        let same = cleared-between outer.addr x.mapping.eid.addr y.mapping.eid.addr outer.mask_len whole x_whole block under high in
+        true≢false (sym (is_addr (cleared x.mapping.eid.addr outer.mask_len) outer.addr same) ∙ outside)
+
+    stops : (k : ℕ) (d : RowValue) → p ≤ k → k < length numbers → sought (row_at_place rows numbers k d) ≡ false
+    stops k d le lt = not_true (sought y) (λ is. either (cases_eq k p) (run.has y is))
+      where
+        y : RowValue
+        y = row_at_place rows numbers k d
+
+        either : (k ≡ p) ⊎ (k ≢ p) → holds outer y.mapping.eid.addr ≡ true → ⊥
+        either (inl same) held = true≢false (sym held ∙ ap (λ (j : ℕ). holds outer (row_at_place rows numbers j d).mapping.eid.addr) same ∙ ap (λ (h : RowValue). holds outer h.mapping.eid.addr) (sym (known d)) ∙ outside)
+        either (inr other) held =
+            let rise = run.index.rises.rising p k d (omega (arith, le, other)) lt in
+            let step = row_rise (row_at_place rows numbers p d).mapping.eid y.mapping.eid (router_cmp (row_at_place rows numbers p d).router y.router) rise in
+            let own : prefix_cmp x.mapping.eid y.mapping.eid ≢ Greater = subst (λ (h : RowValue). prefix_cmp h.mapping.eid y.mapping.eid ≢ Greater) (sym (known d)) step in
+            not_in y (first_of (addr_cmp x.mapping.eid.addr y.mapping.eid.addr) (nat_cmp x.mapping.eid.mask_len y.mapping.eid.mask_len) own) held
+
+    -- so none is where none was before
+    pub stopped : NoneSought p → (h : RowValue) → Contains rows h → sought h ≡ false
+    stopped none = none_sought (λ k d low lt. either k d low lt (cases_lt k p))
+      where
+        either : (k : ℕ) (d : RowValue) → first ≤ k → k < length numbers → (k < p) ⊎ (p ≤ k) → sought (row_at_place rows numbers k d) ≡ false
+        either k d low lt (inl sooner) = none k d low sooner
+        either k d low lt (inr later) = stops k d later lt
+
+-- ---- the prefixes inside, behind one of them
+
+hit_has : (outer after : PrefixValue) (now : ℕ) (h : RowValue) → is_hit outer after now h ≡ true → holds outer h.mapping.eid.addr ≡ true
+hit_has outer after now h hit = (and_parts (nat_le outer.mask_len h.mapping.eid.mask_len) (holds outer h.mapping.eid.addr) (and_parts (covers outer h.mapping.eid) (nat_lt outer.mask_len h.mapping.eid.mask_len) (hit_parts outer after now h hit).1.0).0).1
+
+hit_before : (outer after from : PrefixValue) (now : ℕ) → from ≡ later outer after → (h : RowValue) → prefix_cmp h.mapping.eid from ≡ Less → is_hit outer after now h ≡ false
+hit_before outer after from now from_is h low = not_true (is_hit outer after now h) (λ hit.
+    (let parts = hit_parts outer after now h hit in
+    (later_is outer after).1 h.mapping.eid (ap (prefix_cmp h.mapping.eid) (sym from_is) ∙ low) (inside_behind outer h.mapping.eid parts.1.0) parts.1.1))
+
+pub inside_run : {A : Type 0} (rows : List RowValue) (numbers : List ℕ) (outer after from : PrefixValue) (now first : ℕ) → IsIndex row_prefix_cmp rows numbers → from ≡ later outer after → IsBound {A = A} (Prefix from) rows numbers first → IsRun rows numbers (is_hit outer after now) outer from first
+inside_run rows numbers outer after from now first index from_is bound = record {
+  index = index;
+  low = subst (λ (b : PrefixValue). prefix_cmp outer b ≢ Greater) (sym from_is) (later_is outer after).0;
+  has = hit_has outer after now;
+  before = hit_before outer after from now from_is;
+  earlier = bound.before;
+  onward = bound.after;
+}
+
+pub none_hit : (rows : List RowValue) (outer after : PrefixValue) (now : ℕ) → ((h : RowValue) → Contains rows h → is_hit outer after now h ≡ false) → NoneInside rows outer after now
+none_hit rows outer after now none h held live behind = true≢false (sym (is_hit_from outer after now h live behind) ∙ none h held)
+
+-- the first that is sought
+module _ (rows : List RowValue) (numbers : List ℕ) (outer after from : PrefixValue) (now first : ℕ) (run : IsRun rows numbers (is_hit outer after now) outer from first) where
+  module _ (p : ℕ) (x : RowValue) (le : first ≤ p) (within : p < length numbers) (known : (d : RowValue) → x ≡ row_at_place rows numbers p d) (none : (k : ℕ) (d : RowValue) → first ≤ k → k < p → is_hit outer after now (row_at_place rows numbers k d) ≡ false) (block : IsPrefix x.mapping.eid) (hit : is_hit outer after now x ≡ true) where
+    its : (is_alive x now ≡ true) × ((is_inside outer x.mapping.eid ≡ true) × (prefix_cmp after x.mapping.eid ≡ Less))
+    its = hit_parts outer after now x hit
+
+    may : (h : RowValue) → h.mapping.eid ≡ x.mapping.eid → is_alive h now ≡ true → may_answer x.mapping.eid.addr now h ≡ true
+    may h own alive = and_from (is_alive h now) (holds h.mapping.eid x.mapping.eid.addr) alive (ap (λ (b : PrefixValue). holds b x.mapping.eid.addr) own ∙ is_addr (cleared x.mapping.eid.addr x.mapping.eid.mask_len) x.mapping.eid.addr block.1)
+
+    in_own : (h : RowValue) → Contains rows h → h.mapping.eid ≡ x.mapping.eid → Contains (of_prefix rows x.mapping.eid) h
+    in_own h held own = filter_holds (λ z. prefix_eq z.mapping.eid x.mapping.eid) rows h held ((block_eq-Decides h.mapping.eid x.mapping.eid).1 own)
+
+    held_x : Contains rows x
+    held_x = (slice_index numbers p, run.index.rises.below p within, sym (known x))
+
+    not_before : (other : RowValue) → Contains rows other → is_live_inside outer now other ≡ true → prefix_cmp after other.mapping.eid ≡ Less → prefix_cmp x.mapping.eid other.mapping.eid ≢ Greater
+    not_before other (n, lt, is) live behind =
+        let (k, lt_k, at) = run.index.each n lt in
+        let here : row_at_place rows numbers k other ≡ other = ap (λ (m : ℕ). slice_index_or rows m other) (number_at numbers k n lt_k at) ∙ is in
+        subst (λ (h : RowValue). prefix_cmp x.mapping.eid h.mapping.eid ≢ Greater) here (place k lt_k (ap (is_hit outer after now) here ∙ is_hit_from outer after now other live behind) (cases_lt k p))
+      where
+        at_p : (k : ℕ) → k < length numbers → p ≤ k → (k ≡ p) ⊎ (k ≢ p) → prefix_cmp x.mapping.eid (row_at_place rows numbers k other).mapping.eid ≢ Greater
+        at_p k lt low (inl same) = subst (λ (h : RowValue). prefix_cmp x.mapping.eid h.mapping.eid ≢ Greater) (known other ∙ ap (λ (j : ℕ). row_at_place rows numbers j other) (sym same)) (less_equal (prefix_cmp x.mapping.eid x.mapping.eid) (itself prefix_cmp block_total x.mapping.eid))
+        at_p k lt low (inr off) =
+            let rise = run.index.rises.rising p k other (omega (arith, low, off)) lt in
+            subst (λ (h : RowValue). prefix_cmp h.mapping.eid (row_at_place rows numbers k other).mapping.eid ≢ Greater) (sym (known other)) (row_rise (row_at_place rows numbers p other).mapping.eid (row_at_place rows numbers k other).mapping.eid (router_cmp (row_at_place rows numbers p other).router (row_at_place rows numbers k other).router) rise)
+
+        unsought : (k : ℕ) → k < p → (k < first) ⊎ (first ≤ k) → is_hit outer after now (row_at_place rows numbers k other) ≡ false
+        unsought k lt (inl sooner) = before_first rows numbers (is_hit outer after now) outer from first run k other sooner
+        unsought k lt (inr later) = none k other later lt
+
+        place : (k : ℕ) → k < length numbers → is_hit outer after now (row_at_place rows numbers k other) ≡ true → (k < p) ⊎ (p ≤ k) → prefix_cmp x.mapping.eid (row_at_place rows numbers k other).mapping.eid ≢ Greater
+        place k lt sought (inl sooner) = absurd (true≢false (sym sought ∙ unsought k sooner (cases_lt k first)))
+        place k lt sought (inr later) = at_p k lt later (cases_eq k p)
+
+    pub found_inside : (best : Option RowValue) → IsBestOfPrefix rows x.mapping.eid x.mapping.eid.addr now best → IsNextInsideOf rows outer after now best
+    found_inside None is = absurd (true≢false (sym (may x refl its.0) ∙ is x (in_own x held_x refl)))
+    found_inside (Some h) is =
+        let was = filtered_holds (λ z. prefix_eq z.mapping.eid x.mapping.eid) rows h is.held in
+        let own : h.mapping.eid ≡ x.mapping.eid = (block_eq-Decides h.mapping.eid x.mapping.eid).0 was.1 in
+        record {
+          best = record {
+            held = was.0;
+            alive = (and_parts (is_alive h now) (holds h.mapping.eid x.mapping.eid.addr) is.may).0;
+            most = λ other held alive same. is.most other (in_own other held (same ∙ own)) (may other (same ∙ own) alive);
+          };
+          inside = ap (is_inside outer) own ∙ its.1.0;
+          behind = ap (prefix_cmp after) own ∙ its.1.1;
+          first = λ other held live behind. subst (λ (b : PrefixValue). prefix_cmp b other.mapping.eid ≢ Greater) (sym own) (not_before other held live behind);
+        }
+
+-- ---- the live rows of the prefixes that one covers
+
+abbrev pub is_live_in : PrefixValue → ℕ → RowValue → Bool
+is_live_in eid now h = is_alive h now && covers eid h.mapping.eid
+
+in_has : (eid : PrefixValue) (now : ℕ) (h : RowValue) → is_live_in eid now h ≡ true → holds eid h.mapping.eid.addr ≡ true
+in_has eid now h live = (and_parts (nat_le eid.mask_len h.mapping.eid.mask_len) (holds eid h.mapping.eid.addr) (and_parts (is_alive h now) (covers eid h.mapping.eid) live).1).1
+
+-- what a prefix covers doesn't stand before it
+both_at_most : (one two : Ordering) → one ≢ Greater → two ≢ Greater → ordering_then one two ≢ Greater
+both_at_most Less two low high above = absurd cc
+both_at_most Equal two low high above = high above
+both_at_most Greater two low high above = low refl
+
+covered_behind : (eid other : PrefixValue) → covers eid other ≡ true → prefix_cmp eid other ≢ Greater
+covered_behind eid other covered =
+    let parts = and_parts (nat_le eid.mask_len other.mask_len) (holds eid other.addr) covered in
+    let low = at_most_cleared other.addr eid.addr eid.mask_len (addr_is (cleared other.addr eid.mask_len) eid.addr parts.1) in
+    let short = first_of (nat_cmp eid.mask_len other.mask_len) Less (at_most_first eid.mask_len other.mask_len Less (leb-true eid.mask_len other.mask_len parts.0) (less_is Less refl)) in
+    both_at_most (addr_cmp eid.addr other.addr) (nat_cmp eid.mask_len other.mask_len) low short
+
+in_before : (eid : PrefixValue) (now : ℕ) (h : RowValue) → prefix_cmp h.mapping.eid eid ≡ Less → is_live_in eid now h ≡ false
+in_before eid now h low = not_true (is_live_in eid now h) (λ live.
+    (let covered = (and_parts (is_alive h now) (covers eid h.mapping.eid) live).1 in
+    covered_behind eid h.mapping.eid covered (block_total.antisymm eid h.mapping.eid ∙ ap ordering_reverse low)))
+
+pub in_run : {A : Type 0} (rows : List RowValue) (numbers : List ℕ) (eid : PrefixValue) (now first : ℕ) → IsIndex row_prefix_cmp rows numbers → IsBound {A = A} (Prefix eid) rows numbers first → IsRun rows numbers (is_live_in eid now) eid eid first
+in_run rows numbers eid now first index bound = record {
+  index = index;
+  low = less_equal (prefix_cmp eid eid) (itself prefix_cmp block_total eid);
+  has = in_has eid now;
+  before = in_before eid now;
+  earlier = bound.before;
+  onward = bound.after;
+}
+
+pub empty_in : (rows : List RowValue) (eid : PrefixValue) (now : ℕ) → ((h : RowValue) → Contains rows h → is_live_in eid now h ≡ false) → IsEmptyIn rows eid now
+empty_in rows eid now none h held alive = not_true (covers eid h.mapping.eid) (λ covered. true≢false (sym (and_from (is_alive h now) (covers eid h.mapping.eid) alive covered) ∙ none h held))
+
+pub not_empty_in : (rows : List RowValue) (eid : PrefixValue) (now : ℕ) (h : RowValue) → Contains rows h → is_live_in eid now h ≡ true → IsEmptyIn rows eid now → ⊥
+not_empty_in rows eid now h held live empty =
+    let parts = and_parts (is_alive h now) (covers eid h.mapping.eid) live in
+    true≢false (sym parts.1 ∙ empty h held parts.0)
