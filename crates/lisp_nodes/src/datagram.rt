@@ -3,7 +3,7 @@
 ghost use Rattle.std.specs.Prelude.{◌≡◌, ◌<◌, ◌++◌, ◌∷◌, []};
 ghost use Rattle.std.specs.Vec.{vec_len, vec_capacity};
 
-use lisp_memory::{FallibleVec, Memory};
+use lisp_memory::Memory;
 use lisp_records::{Addr, Bytes};
 use std::alloc::{Allocator, Global};
 use std::marker::Model;
@@ -33,5 +33,5 @@ pub(crate) fn post<A: Memory>(bag: &mut Vec<Datagram<A>, A>, datagram: Datagram<
     requires { vec_len bag.old < vec_capacity bag.old }
     ensures { bag.new.items ≡ bag.old.items ++ datagram ∷ [] }
 {
-    let _ = bag.try_push(datagram);
+    bag.push_reserved(datagram);
 }

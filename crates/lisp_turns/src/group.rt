@@ -107,7 +107,7 @@ fn hear_others<N: Node, O: Endpoint>(
         let Some(next) = hear_next(node, place, buffer, now, outside) else {
             break;
         };
-        let _ = others.try_push(next);
+        others.push_reserved(next);
     }
     others
 }

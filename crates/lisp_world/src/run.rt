@@ -1,7 +1,6 @@
 //! A network takes events, one after another.
 
-ghost use Rattle.std.specs.Prelude.{◌≡◌, ◌<◌, ◌++◌, ◌∷◌, [], IfErr};
-ghost use Rattle.std.specs.Vec.{vec_len, vec_capacity};
+ghost use Rattle.std.specs.Prelude.{◌≡◌, IfErr};
 ghost use Rattle.lisp_world.specs.Quiet.{AllCalm, stores_of};
 ghost use Rattle.lisp_world.specs.Runs.{Runs};
 ghost use Rattle.lisp_model.specs.declared.world_fault.WorldFault.TheVariants.{OutOfMemory};
@@ -33,18 +32,10 @@ impl<S: WorldStore, A: Memory + Copy> World<S, A> {
                 return Err((i, WorldFault::OutOfMemory));
             }
             match self.step(event) {
-                Ok(line) => add(lines, line),
+                Ok(line) => lines.push_reserved(line),
                 Err(fault) => return Err((i, fault)),
             }
         }
         Ok(())
     }
-}
-
-// A line goes to the end, where there is room.
-fn add<A: Memory>(lines: &mut Vec<Line, A>, line: Line)
-    requires { vec_len lines.old < vec_capacity lines.old }
-    ensures { lines.new.items ≡ lines.old.items ++ line ∷ [] }
-{
-    let _ = lines.try_push(line);
 }

@@ -4,7 +4,7 @@ use Rattle.lisp_turns.proofs.group.hear_others.Goals as goal
 
 pub loop-preserved : goal.loop-preserved
 loop-preserved g c =
-    let pushed : c.try_push.new.self.items ≡ c.loop.others.items ++ c.in-Some.next ∷ [] = search rules in
+    let pushed : c.push_reserved.new.self.items ≡ c.loop.others.items ++ c.in-Some.next ∷ [] = search rules in
     record { placed = c.hear_next.ensures.placed; heard = rw pushed (heard_more c.loop.invariant.heard c.loop-test.true c.in-Some.ensures.hears) }
 
 pub returns-after-loop-clause-hears : goal.returns-after-loop-clause-hears

@@ -21,8 +21,8 @@ returns-then-is_err-clause-memory g c _ = at_error c.make_room.result (sym c.is_
 pub returns-then-is_err-clause-calm : goal.returns-then-is_err-clause-calm
 returns-then-is_err-clause-calm g c = c.loop-i.invariant.1
 
-pub add-requires : goal.add-requires
-add-requires g c =
+pub push_reserved-requires : goal.push_reserved-requires
+push_reserved-requires g c =
     let room = at_value c.make_room.result (sym c.is_err.ensures.value ∙ c.if-is_err.false) c.make_room.ensures.ok in
     omega (arith, room)
 
@@ -43,7 +43,7 @@ returns-in-Err-clause-calm g c calm = c.step.ensures.calm.calm (c.loop-i.invaria
 pub loop-i-preserved : goal.loop-i-preserved
 loop-i-preserved g c =
     let there = event_there c.args.events.now c.loop-i.i c.index-events-i.result c.loop-i-test.true c.index-events-i.is in (
-      runs_next _ _ _ _ (map event_value c.args.events.now) _ _ _ _ _ c.make_room.ensures.items there c.loop-i.invariant.0 _ _ _ c.add.ensures (record { possible = possible_of _ _ c.in-Ok.ensures.fault; stands = c.in-Ok.ensures.stands; calm = c.in-Ok.ensures.calm; tells = c.in-Ok.ensures.tells }),
+      runs_next _ _ _ _ (map event_value c.args.events.now) _ _ _ _ _ c.make_room.ensures.items there c.loop-i.invariant.0 _ _ _ c.push_reserved.ensures.items (record { possible = possible_of _ _ c.in-Ok.ensures.fault; stands = c.in-Ok.ensures.stands; calm = c.in-Ok.ensures.calm; tells = c.in-Ok.ensures.tells }),
       λ calm. c.step.ensures.calm.calm (c.loop-i.invariant.1 calm),
     )
 
