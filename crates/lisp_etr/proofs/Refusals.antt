@@ -21,6 +21,15 @@ kind (Err NoPart) = 5
 pub apart : {X P : Type 0} (one other : Result X SendFault) → kind one ≢ kind other → one ≡ other → P
 apart one other differ same = absurd (differ (ap kind same))
 
+-- the fault in an answer
+refused_for : {X : Type 0} → SendFault → Result X SendFault → SendFault
+refused_for none (Err fault) = fault
+refused_for none _ = none
+
+pub send_fault : {X : Type 0} {a b : SendFault} → ◌≡◌ {A = Result X SendFault} (Err a) (Err b) → a ≡ b
+unfolding refused_for
+send_fault {a = a} same = ap (refused_for a) same
+
 -- the store's fault in an answer
 stored : {X : Type 0} → StoreFault → Result X SendFault → StoreFault
 stored none (Err (Store fault)) = fault

@@ -1,14 +1,16 @@
 -- What a send makes of a router's store: what it keeps for the router's pair, and for the others (RFC 9301 section 5.6).
-use Rattle.std.specs.Prelude.{◌≡◌, ◌≢◌, ℕ, ◌+◌, ◌<◌, List, [], ◌∷◌, length, Option, Some, Result, IsTrue, IsOk, IfOk, OnOk, OnErr, IsErrOf}
+use Rattle.std.specs.Prelude.{◌≡◌, ◌≢◌, ℕ, ◌+◌, ◌<◌, ◌≤◌, List, [], ◌∷◌, length, Option, Some, Result, Err, IsTrue, IsOk, IfOk, IfErr, OnOk, OnErr, IsErrOf}
 use Rattle.lisp_records.specs.Parts.{part_count}
 use Rattle.lisp_nonces.specs.Kept.{kept_at, with_value, NoneBelow}
-use Rattle.lisp_nonces.specs.Store.{StoreState, Rose}
+use Rattle.lisp_nonces.specs.declared.fault.StoreFault.TheVariants as stores
+use Rattle.lisp_nonces.specs.Store.{StoreState, Rose, Proceeds, MaySave, MayFailSave}
 use Rattle.lisp_nonces.specs.Promises.{KeepsOthersIfHonest}
 use Rattle.lisp_etr.specs.Config.{EtrConfigValue, sent_pair}
 use Rattle.lisp_etr.specs.Etr.{EtrState}
 use Rattle.lisp_etr.specs.Faults.{device_failed}
 use Rattle.lisp_etr.specs.Sending.{last_nonce, block_end, Settles, LeavesPair}
 use Rattle.lisp_etr.specs.declared.send_fault.SendFault.{SendFault}
+use Rattle.lisp_etr.specs.declared.send_fault.SendFault.TheVariants as sends
 
 -- the values that may be kept for the router's pair
 abbrev pub kept_for : EtrConfigValue → StoreState → List (Option ℕ)
@@ -70,6 +72,28 @@ NeedsSave e = e.safe < e.last + 1
 -- the store is as it was, unless its device failed
 abbrev pub SameUnlessDevice : StoreState → StoreState → SendFault → Type 0
 SameUnlessDevice before after fault = fault ≢ device_failed → after ≡ before
+
+-- what a send saves, and how it uses and leaves the router's store
+pub record SendSaves {X : Type 0} (old new : EtrState) (before after : StoreState) (answer : Result X SendFault) : Type 0 where
+  -- no lower nonce comes back from the store: not after a send, nor after one that failed
+  pub safe : OnOk answer (old.last + 1 ≤ new.safe)
+  pub keeps_safe : SafeIfHonest old new before after
+  pub settles : SettlesIfHonest old before after answer
+  pub leaves : LeavesIfHonest old before after answer
+  pub others : KeepsOtherPairs old.config before after
+  -- a nonce that is safe is sent without a save
+  pub unasked : old.last + 1 ≤ old.safe → after ≡ before
+  -- for any other the end of its block is kept, and nothing else
+  pub saved : SavesBlockIfHonest old before after answer
+  -- an obedient store fails where it is armed to, and keeps the end of the block too then
+  pub saves : NeedsSave old → OnOk answer (MaySave before)
+  pub save_fails : IsErrOf answer device_failed → MayFailSave before
+  pub doubted : KeepsEndIfObedient old before after answer
+  -- only a device that failed leaves the store in doubt
+  pub refused : IfErr answer (SameUnlessDevice before after)
+  pub cause : IsErrOf answer device_failed → Rose before after
+  pub sound : answer ≢ Err (sends.Store stores.Damaged)
+  pub proceeds : Proceeds before after
 
 -- a Map-Register of a part to a Map-Server goes out while a nonce is left, unless a device failed in between
 abbrev pub SendsUnlessFailed : {X E : Type 0} → EtrState → ℕ → ℕ → StoreState → StoreState → Result X E → Type 0

@@ -1,15 +1,14 @@
 //! The site router.
 
-ghost use Rattle.std.specs.Prelude.{◌≡◌, ◌≢◌, ◌↔◌, ◌≤◌, ◌<◌, ◌+◌, ℕ, List, Ok, Err, IfOk, IfErr, IfSome, OnOk, OnErr, IsErrOf, length};
-ghost use Rattle.lisp_nonces.specs.Store.{Rose, Proceeds, MayLoad, MaySave, MayFailSave};
-ghost use Rattle.lisp_nonces.specs.declared.fault.StoreFault.{StoreFault};
+ghost use Rattle.std.specs.Prelude.{◌≡◌, ◌↔◌, ◌≤◌, ◌<◌, ℕ, List, Ok, Err, IfOk, IfErr, IfSome, OnOk, OnErr, IsErrOf, length};
+ghost use Rattle.lisp_nonces.specs.Store.{Proceeds, MayLoad};
 ghost use Rattle.lisp_messages.specs.Message.{IsMapRegister};
 ghost use Rattle.lisp_etr.specs.Config.{EtrConfigValue};
 ghost use Rattle.lisp_records.specs.Database.{database_of};
 ghost use Rattle.lisp_records.specs.Moment.{max_moment};
 ghost use Rattle.lisp_records.specs.Parts.{part_count};
 ghost use Rattle.lisp_etr.specs.Rounds.{acked_at};
-ghost use Rattle.lisp_etr.specs.Faults.{store_out_of_memory, device_failed};
+ghost use Rattle.lisp_etr.specs.Faults.{store_out_of_memory};
 ghost use Rattle.lisp_etr.specs.Etr.{etr_started, etr_changed, due_at};
 ghost use Rattle.lisp_etr.specs.Rotating.{RotatesTo, GoesOnIfHonest, RefusesSameKey, IsOfFullStore as IsOfFullStoreToRotate, SameIfFull as SameIfFullToRotate, FailsAsArmed as FailsToRotateAsArmed, FailsByDevice as FailsToRotateByDevice};
 ghost use Rattle.lisp_etr.specs.Sending.{EtrSends, next_datagram, next_register, NoServerAt, NoPartFor, NoNonceFor};
@@ -19,7 +18,7 @@ ghost use Rattle.lisp_etr.specs.declared.send_fault.SendFault.{SendFault};
 ghost use Rattle.lisp_etr.specs.declared.notify_fault.NotifyFault.{NotifyFault};
 ghost use Rattle.lisp_nonces.specs.Promises.{KeepsListsIfHonest};
 ghost use Rattle.lisp_etr.specs.Starting.{StartsIfHonest, UnaskedIfNoMemory, IsOfFullStore, SameIfFull, FailsAsArmed, FailsByDevice};
-ghost use Rattle.lisp_etr.specs.Saving.{SafeIfHonest, SettlesIfHonest, LeavesIfHonest, KeepsOtherPairs, SavesBlockIfHonest, NeedsSave, KeepsEndIfObedient, SameUnlessDevice};
+ghost use Rattle.lisp_etr.specs.Saving.{SendSaves};
 
 use crate::config::EtrConfig;
 use crate::hearing::hear;
@@ -192,9 +191,8 @@ impl<A: Memory + Copy> Etr<A> {
     /// database, from 0 on, under the nonce after the last (RFC 9301 sections 5.6 and 8.2). Before that it saves the end of a
     /// block of nonces which begins with this one, unless it did so with an earlier nonce of the block.
     ///
-    /// It refuses in this order: `NoServer`, `NoPart`, `NonceSpent` (the last nonce is 2^63 - 1 or more),
-    /// `OutOfMemory`, `Store`. A refusal changes nothing here; at `Store(Device)` it is open whether the store
-    /// keeps the end of the block.
+    /// It refuses in this order: `NoServer`, `NoPart`, `NonceSpent` (the last nonce is 2^63 - 1 or more), `OutOfMemory`,
+    /// `Store`. A refusal changes nothing here; at `Store(Device)` it is open whether the store keeps the end of the block.
     pub fn send<S: NonceStore>(
         &mut self,
         store: &mut S,
@@ -207,6 +205,7 @@ impl<A: Memory + Copy> Etr<A> {
         ensures known { OnOk result (IsMapRegister (next_register self.old part)) }
         ensures fits { OnOk result (database_of self.old.database ≡ Ok self.old.database) }
         ensures sends { OnOk result (EtrSends self.old self.new server part now) }
+        ensures store { SendSaves self.old self.new (S.seen store.old) (S.seen store.new) result }
 
         // The refusals, in their order.
         ensures no_server { (result ≡ Err SendFault.NoServer) ↔ NoServerAt self.old server }
@@ -215,30 +214,6 @@ impl<A: Memory + Copy> Etr<A> {
         ensures memory { IsErrOf result SendFault.OutOfMemory → A.may_refuse }
         ensures store_memory { IsErrOf result store_out_of_memory → S.may_refuse }
         ensures err { OnErr result (self.new ≡ self.old) }
-
-        // No lower nonce comes back from the store: not after a send, nor after one that failed.
-        ensures safe { OnOk result (self.old.last + 1 ≤ self.new.safe) }
-        ensures keeps_safe { SafeIfHonest self.old self.new (S.seen store.old) (S.seen store.new) }
-        ensures settles { SettlesIfHonest self.old (S.seen store.old) (S.seen store.new) result }
-        ensures leaves { LeavesIfHonest self.old (S.seen store.old) (S.seen store.new) result }
-        ensures others { KeepsOtherPairs self.old.config (S.seen store.old) (S.seen store.new) }
-
-        // A nonce that is safe is sent without a save.
-        ensures unasked { self.old.last + 1 ≤ self.old.safe → S.seen store.new ≡ S.seen store.old }
-
-        // For any other the end of its block is kept, and nothing else.
-        ensures saved { SavesBlockIfHonest self.old (S.seen store.old) (S.seen store.new) result }
-
-        // An obedient store fails where it is armed to, and keeps the end of the block too then.
-        ensures saves { NeedsSave self.old → OnOk result (MaySave (S.seen store.old)) }
-        ensures save_fails { IsErrOf result device_failed → MayFailSave (S.seen store.old) }
-        ensures doubted { KeepsEndIfObedient self.old (S.seen store.old) (S.seen store.new) result }
-
-        // Only a device that failed leaves the store in doubt.
-        ensures refused { IfErr result (SameUnlessDevice (S.seen store.old) (S.seen store.new)) }
-        ensures cause { IsErrOf result device_failed → Rose (S.seen store.old) (S.seen store.new) }
-        ensures sound { result ≢ Err (SendFault.Store StoreFault.Damaged) }
-        ensures proceeds { Proceeds (S.seen store.old) (S.seen store.new) }
     {
         if server >= self.rounds.len() {
             return Err(SendFault::NoServer);

@@ -12,7 +12,7 @@ use Rattle.lisp_embedded.proofs.router_send.send_kept.Goals.{then-safe-before, e
 pub returns-clause-sends : goal.returns-clause-sends
 returns-clause-sends g c =
     let is : c.safe-safe.result ≡ safe_after c.args.router.now.safe (c.args.router.now.last + 1) c.args.router.now.config.nonce_block = c.safe-safe.ensures ∙ c.in-Ok.ensures.sends.safe in
-    let above : c.args.router.now.last + 1 ≤ c.safe-safe.result = rw c.safe-safe.ensures c.in-Ok.ensures.safe in
+    let above : c.args.router.now.last + 1 ≤ c.safe-safe.result = rw c.safe-safe.ensures c.in-Ok.ensures.store.safe in
     let servers : c.as_slice.result.now ≡ c.args.router.now.config.servers = c.as_slice.ensures ∙ ap (λ (s : EtrConfigValue). s.servers) (c.behind-router.view_is ∙ c.config.ensures ∙ c.in-Ok.ensures.sends.config) in
     let there : c.args.server < length c.as_slice.result.now = rw servers (has_server c.args.router.now c.args.server c.in-Ok.bytes c.in-Ok.ensures.no_server) in
     record {

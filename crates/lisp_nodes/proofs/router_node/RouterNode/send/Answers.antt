@@ -20,7 +20,7 @@ returns-clause-up g c =
       call = record {
         armed = g.S.NonceStore.seen c.arm.new.store;
         called = g.S.NonceStore.seen c.send-answer.new.store;
-        uses = record { arms = c.arm.ensures; proceeds = c.send-answer.ensures.proceeds; disarms = c.arm-2.ensures };
+        uses = record { arms = c.arm.ensures; proceeds = c.send-answer.ensures.store.proceeds; disarms = c.arm-2.ensures };
         call = subst (λ (place : ℕ). CoreAnswersSend c.in-Up.etr c.send-answer.new.self (g.S.NonceStore.seen c.arm.new.store) (g.S.NonceStore.seen c.send-answer.new.store) place c.args.part c.args.now c.match-answer.result)
             (c.place_of-place.ensures ∙ ap (λ (listed : List ℕ). place_of listed c.args.server) c.as_slice.ensures)
             (elim c.match-answer.branch [
@@ -34,24 +34,24 @@ returns-clause-up g c =
                     datagram = w.from_vec.ensures ∙ w.in-Ok.ensures.datagram;
                     known = w.in-Ok.ensures.known;
                     sends = w.in-Ok.ensures.sends;
-                    safe = w.in-Ok.ensures.safe;
-                    keeps_safe = c.send-answer.ensures.keeps_safe;
-                    settles = w.in-Ok.ensures.settles;
-                    unasked = c.send-answer.ensures.unasked;
-                    saves = w.in-Ok.ensures.saves;
-                    others = c.send-answer.ensures.others;
+                    safe = w.in-Ok.ensures.store.safe;
+                    keeps_safe = c.send-answer.ensures.store.keeps_safe;
+                    settles = w.in-Ok.ensures.store.settles;
+                    unasked = c.send-answer.ensures.store.unasked;
+                    saves = w.in-Ok.ensures.store.saves;
+                    others = c.send-answer.ensures.store.others;
                   })
               | in-Err w ↦ rw w.result-is (record {
                 why = why_not_sent _ c.in-Up.etr c.place_of-place.result c.args.part _ w.in-Err.ensures.no_server w.in-Err.ensures.no_part w.in-Err.ensures.spent;
                 err = w.in-Err.ensures.err;
-                keeps_safe = λ honest none. subst (λ (e : EtrState). NoneBelow e.safe (kept_at (g.S.NonceStore.seen c.send-answer.new.store).kept (sent_pair c.in-Up.etr.config))) w.in-Err.ensures.err (c.send-answer.ensures.keeps_safe honest none);
-                leaves = w.in-Err.ensures.leaves;
-                others = c.send-answer.ensures.others;
-                refused = w.in-Err.ensures.refused;
-                cause = λ e. w.in-Err.ensures.cause (ap Err e);
-                sound = λ e. w.in-Err.ensures.sound (ap Err e);
-                save_fails = λ e. w.in-Err.ensures.save_fails (ap Err e);
-                doubted = λ e. w.in-Err.ensures.doubted (ap Err e);
+                keeps_safe = λ honest none. subst (λ (e : EtrState). NoneBelow e.safe (kept_at (g.S.NonceStore.seen c.send-answer.new.store).kept (sent_pair c.in-Up.etr.config))) w.in-Err.ensures.err (c.send-answer.ensures.store.keeps_safe honest none);
+                leaves = w.in-Err.ensures.store.leaves;
+                others = c.send-answer.ensures.store.others;
+                refused = w.in-Err.ensures.store.refused;
+                cause = λ e. w.in-Err.ensures.store.cause (ap Err e);
+                sound = λ e. w.in-Err.ensures.store.sound (ap Err e);
+                save_fails = λ e. w.in-Err.ensures.store.save_fails (ap Err e);
+                doubted = λ e. w.in-Err.ensures.store.doubted (ap Err e);
               })
             ]);
       };
