@@ -1,5 +1,5 @@
-//! The rows that a Map-Server holds, one for each router and EID-Prefix, and who answers for an address
-//! by them (RFC 9301 sections 8.2 and 8.3).
+//! The rows that a Map-Server holds, one for each router and EID-Prefix, and who answers for an address or a prefix
+//! by them (RFC 9301 sections 8.2 and 8.3); what a Map-Reply says that an ITR may keep (sections 5.5 and 8.4).
 //!
 //! # Decisions
 //!
@@ -18,6 +18,11 @@
 //! - `Steps`, by which the looks of a search are counted, has no bytes and is in no program. The ledger is part of the type
 //!   `CountedRows`, so that a search can't use one of its own.
 //! - `Answer` borrows the record from the table, so that an answer takes no memory.
+//! - The prefixes inside another are a run in the order by prefix. `next_inside` finds its place there anew each time, by halving: it needs
+//!   no place in a table that may have changed.
+//! - The prefix of a negative Map-Reply is found by halving over its length. Whether a row has a prefix in it is seen at the first live row of
+//!   the run that would be inside: rows that died and weren't taken out yet are passed one by one.
+//! - The prefixes of sites are looked at one by one for it, as for whether a site has an address: they are few beside rows.
 #![tactic(auto)]
 
 mod answer;
