@@ -6,7 +6,7 @@ use crate::row::{HEADER, Row, STATUS_HEADER, Section};
 pub(crate) const CONFIGURATION_FAULTS: Section = Section {
     title: "Faults of a configuration",
     introduction: "What is wrong in the configuration of `lispd play`, or in the file CONFIG: the first fault. [CONFIGURATION](CONFIGURATION.md)
-has the fields and the order of the checks. Where a fault is told in words, the field is named too; `lispd check` has its line, its
+has the fields and the order of the checks. Where a fault is printed in words, the field is named too; `lispd check` has its line, its
 entry and the value, and up to 20 further faults after it. 25 is of `lispd check` alone.",
     header: STATUS_HEADER,
     rows: &[

@@ -108,7 +108,7 @@ fn explain_row<W: Write>(section: &Section, row: &Row, writer: &mut W) -> Result
     write_texts(&texts_behind_number(section, row), writer)
 }
 
-// What is told of a row behind its number.
+// What is printed of a row after its number.
 #[tactic(auto, unfolding(crate::specs::Table::row_text))]
 fn texts_behind_number(section: &Section, row: &Row) -> [&'static str; 13]
     ensures { decimal row.now.number ++ joined result ≡ row_text section.now row.now }

@@ -78,7 +78,7 @@ and `lispd router`, and for callers of the libraries: the names in a script are 
             number: 76,
             carried: "",
             name: "Start",
-            meaning: "a router doesn't start, for 35 or 36; on a terminal its number and the reason are told",
+            meaning: "a router doesn't start, for 35 or 36; on a terminal its number and the reason are printed",
             status: "1",
             remedy: "`lispd explain 35` and `lispd explain 36` say what to do",
         },

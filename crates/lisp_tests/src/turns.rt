@@ -1,5 +1,5 @@
 //! A Map-Server that takes turns: it answers a Map-Register, and sends a notice again until that is acknowledged (RFC 9301
-//! sections 5.7 and 8.2); and it tells of a group of datagrams when that is committed. Its messages were worked by hand; the tags
+//! sections 5.7 and 8.2); and of a group of datagrams it prints and sends what comes once that is committed. Its messages were worked by hand; the tags
 //! are from Python's `hmac`.
 
 ghost use Rattle.std.specs.Prelude.{None, false};

@@ -1,4 +1,4 @@
-//! The datagrams of a turn: the node hears one after the other, and tells of them when what it saved is committed.
+//! The datagrams of a turn: the node takes one after the other, and prints and sends what comes of them once its saves are committed.
 
 ghost use Rattle.std.specs.Prelude.{◌≡◌, ◌≤◌, ◌++◌, reverse};
 ghost use Rattle.std.specs.Option.{option_to_list};
