@@ -180,7 +180,8 @@ impl<A: Allocator + Copy> Table<A> {
     /// Who answers for an EID-Prefix at a moment, in ms: of the live rows whose prefix covers it the best, in the order of `answer`;
     /// `None` where none does. Takes no memory (RFC 9301 section 8.3).
     pub fn best_for(&self, asked: &Prefix, now: u64) -> Option<&Row<A>>
-        ensures best { IsBestForOf self.now.rows asked.now now (option_map (λ row. row.now) result) }
+        ensures best { IsBestForOf self.now.rows asked.now now
+            (option_map (λ row. row.now) result) }
     {
         best_for(&self.items, &self.by_prefix, asked, now)
     }
