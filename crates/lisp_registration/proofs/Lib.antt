@@ -1,6 +1,5 @@
 pub mod Asking
 pub mod Datagrams
-pub mod Encapsulating
 pub mod Replying
 pub mod Holding
 pub mod Lengths

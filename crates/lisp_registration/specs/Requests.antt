@@ -1,13 +1,12 @@
 -- Map-Requests, Map-Replies and encapsulated Map-Requests in plain numbers, and what reading them leaves.
-use Rattle.std.specs.Prelude.{◌≡◌, ℕ, ◌+◌, ◌≤◌, List, [], length, take, drop, Option, Some, None, Result, Ok, IfOk}
+use Rattle.std.specs.Prelude.{◌≡◌, ℕ, ◌≤◌, List, [], length, drop, Option, Some, None, Result, Ok, IfOk}
 use Rattle.lisp_records.specs.declared.address.Addr.{Addr}
-use Rattle.lisp_records.specs.declared.address.Addr.TheVariants.{V4, V6}
 use Rattle.lisp_records.specs.Address.{PrefixValue}
 use Rattle.lisp_records.specs.Record.{bit}
 use Rattle.lisp_records.specs.Result.{◌>>=◌, Reads}
 use Rattle.lisp_requests.specs.declared.fault.RequestFault.{RequestFault}
 use Rattle.lisp_requests.specs.declared.layout.RequestLayout.{RequestLayout}
-use Rattle.lisp_requests.specs.Encapsulated.{EncapsulatedValue, header_len}
+use Rattle.lisp_requests.specs.Encapsulated.{EncapsulatedValue, message_place}
 use Rattle.lisp_requests.specs.Fault.{fault_number}
 use Rattle.lisp_requests.specs.Layout.{LaysOut}
 use Rattle.lisp_requests.specs.Reading.{items_at}
@@ -83,11 +82,6 @@ RecordsStand bytes told read = IfOk read (λ m. items_at reply_record_at told.re
 
 -- ---- encapsulated Map-Requests (section 5.8)
 
--- where the control message begins: after the LISP header, an IP header of this family, and a UDP header
-abbrev pub message_place : List ℕ → Addr → ℕ
-message_place bytes (V4 _) = 4 + header_len (drop 4 bytes) + 8
-message_place bytes (V6 _) = 4 + 40 + 8
-
 abbrev pub plain_encapsulated : List ℕ → EncapsulatedValue → PlainEncapsulated
 plain_encapsulated bytes m = record {
   source = plain_address m.source;
@@ -96,7 +90,3 @@ plain_encapsulated bytes m = record {
   message_at = message_place bytes m.source;
   message_length = length m.message;
 }
-
--- a part stands at a place among bytes
-abbrev pub StandsAt : List ℕ → ℕ → List ℕ → Type 0
-StandsAt bytes at part = (take (length part) (drop at bytes) ≡ part) × (at + length part ≤ length bytes)

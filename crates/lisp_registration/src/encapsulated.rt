@@ -1,29 +1,16 @@
 //! Encapsulated Map-Requests, as C has them.
 
-ghost use Rattle.std.specs.Prelude.{◌≡◌, ◌≤◌, length, IfOk, IsErrOf};
+ghost use Rattle.std.specs.Prelude.{◌≡◌, IfOk, IsErrOf};
 ghost use Rattle.lisp_records.specs.Result.{Reads};
-ghost use Rattle.lisp_requests.specs.Encapsulated.{FitsDatagram, SpellsEncapsulated};
+ghost use Rattle.lisp_requests.specs.Encapsulated.{FitsDatagram, SpellsEncapsulated, StandsAt};
 ghost use Rattle.lisp_requests.specs.Meaning.{encapsulated_value};
 ghost use Rattle.lisp_registration.specs.RequestMeaning.{encapsulated_in};
-ghost use Rattle.lisp_registration.specs.Requests.{StandsAt, message_place, plain_encapsulated};
+ghost use Rattle.lisp_registration.specs.Requests.{plain_encapsulated};
 ghost use Rattle.lisp_registration.specs.declared.fault.WriteFault.TheVariants.{OutOfMemory};
 
 use crate::address::PlainAddress;
 use crate::fault::WriteFault;
-use lisp_records::Addr;
-use lisp_requests::EncapsulatedRequest;
-
-// The bytes of the LISP header, of an IPv6 header, and of a UDP header.
-const LISP_LEN: usize = 4;
-
-const IPV6_LEN: usize = 40;
-
-const UDP_LEN: usize = 8;
-
-// The values of IHL, which counts words of so many bytes (RFC 791 section 3.1).
-const IHL_VALUES: u8 = 16;
-
-const WORD_LEN: usize = 4;
+use lisp_requests::{EncapsulatedRequest, message_place};
 
 // The most bytes of a message in a UDP datagram over IPv4: what 16 bits count, less both headers.
 const MAX_MESSAGE_LEN: usize = 65_507;
@@ -55,7 +42,7 @@ impl PlainEncapsulated {
             source: PlainAddress::of(request.source),
             destination: PlainAddress::of(request.destination),
             port: request.port,
-            message_at: message_place(bytes, request.source),
+            message_at: message_place(bytes, request),
             message_length: request.message.len(),
         }
     }
@@ -89,16 +76,4 @@ impl PlainEncapsulated {
             message,
         })
     }
-}
-
-// Where the control message begins: after the LISP header, an IP header of this family and a UDP header.
-fn message_place(bytes: &[u8], source: Addr) -> usize
-    requires { 5 ≤ length bytes.now }
-    ensures { result ≡ message_place bytes.now source }
-{
-    let header_len = match source {
-        Addr::V4(_) => usize::from(bytes[LISP_LEN] % IHL_VALUES) * WORD_LEN,
-        Addr::V6(_) => IPV6_LEN,
-    };
-    LISP_LEN + header_len + UDP_LEN
 }

@@ -1,10 +1,10 @@
 //! Reading Map-Requests, Map-Replies and encapsulated Map-Requests where their bytes lie.
 
 ghost use Rattle.std.specs.Prelude.{◌≡◌, IfOk};
-ghost use Rattle.lisp_requests.specs.Encapsulated.{encapsulated_at};
+ghost use Rattle.lisp_requests.specs.Encapsulated.{StandsAt, encapsulated_at};
 ghost use Rattle.lisp_requests.specs.Fault.{fault_number};
 ghost use Rattle.lisp_requests.specs.Reply.{reply_at};
-ghost use Rattle.lisp_registration.specs.Requests.{RecordsStand, StandsAt, TellsRequest, TellsRloc, TellsEid, plain_reply, plain_encapsulated};
+ghost use Rattle.lisp_registration.specs.Requests.{RecordsStand, TellsRequest, TellsRloc, TellsEid, plain_reply, plain_encapsulated};
 ghost use Rattle.lisp_registration.specs.Told.{told};
 
 use crate::address::PlainAddress;

@@ -15,3 +15,4 @@ pub mod EncapsulatedLaws
 pub mod SpelledLaws
 pub mod LayoutLemmas
 pub mod FitLaws
+pub mod PlaceLaws

@@ -182,6 +182,21 @@ encapsulated_at bytes = do
   datagram ← datagram_at rest
   udp_at datagram
 
+-- ---- where its message stands
+
+-- the bytes of an IP header with a source address of this family
+abbrev pub ip_header_len : List ℕ → Addr → ℕ
+ip_header_len bytes (V4 _) = header_len bytes
+ip_header_len bytes (V6 _) = 40
+
+-- where the control message begins: after the LISP header, an IP header of this family, and a UDP header
+abbrev pub message_place : List ℕ → Addr → ℕ
+message_place bytes source = 4 + ip_header_len (drop 4 bytes) source + 8
+
+-- a part stands at a place among bytes
+abbrev pub StandsAt : List ℕ → ℕ → List ℕ → Type 0
+StandsAt bytes at part = (take (length part) (drop at bytes) ≡ part) × (at + length part ≤ length bytes)
+
 -- ---- how it is written
 
 -- IPv4 before the addresses: version 4 and IHL 5, total length, no fragment, TTL 64, UDP and a checksum; all else 0

@@ -5,12 +5,12 @@ ghost use Rattle.lisp_records.specs.Address.{family};
 ghost use Rattle.lisp_records.specs.Result.{Reads};
 ghost use Rattle.lisp_records.specs.Spelling.{IsBytes};
 ghost use Rattle.lisp_requests.specs.Meaning.{encapsulated_value};
-ghost use Rattle.lisp_requests.specs.Encapsulated.{datagram_of, written_udp, EncapsulatedValue, IsEncapsulated, SpellsEncapsulated, FitsDatagram, ip_head, addresses, lisp_at, udp_at, encapsulated_at, is_summed, udp_header, summed_header, bare_sum, written_encapsulated};
+ghost use Rattle.lisp_requests.specs.Encapsulated.{datagram_of, written_udp, EncapsulatedValue, IsEncapsulated, SpellsEncapsulated, StandsAt, FitsDatagram, ip_head, addresses, lisp_at, udp_at, encapsulated_at, is_summed, message_place, udp_header, summed_header, bare_sum, written_encapsulated};
 
 use crate::checksum::{ALL_ONES, pseudo_sum, sum_from, udp_checksum, udp_sum};
 use crate::fault::RequestFault;
 use crate::head::{KIND_AT, number_at};
-use crate::inner::{put_ip_head, read_datagram};
+use crate::inner::{ip_header_len, put_ip_head, read_datagram};
 use lisp_memory::{FallibleCopies, Memory};
 use lisp_records::{Addr, is_set};
 use std::alloc::AllocError;
@@ -153,6 +153,17 @@ fn is_summed(source: Addr, destination: Addr, datagram: &[u8]) -> bool
         Addr::V4(_) => none || right,
         Addr::V6(_) => !none && right,
     }
+}
+
+/// Where the control message begins among the bytes that it was read from: after the LISP header, the IP header and the UDP
+/// header.
+pub fn message_place(bytes: &[u8], request: &EncapsulatedRequest<'_>) -> usize
+    requires { SpellsEncapsulated bytes.now (encapsulated_value request.now) }
+    ensures place { result ≡ message_place bytes.now request.now.source }
+    ensures stands { StandsAt bytes.now result request.now.message.now }
+{
+    let (_, datagram) = bytes.split_at(LISP_LEN);
+    LISP_LEN + ip_header_len(datagram, request.source) + UDP_LEN
 }
 
 /// The written spelling of an encapsulated message: IPv4 or IPv6 by its source address, both checksums, and all reserved

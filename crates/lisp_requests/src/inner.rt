@@ -4,7 +4,7 @@ ghost use Rattle.std.specs.Prelude.{◌≡◌, ◌+◌, ◌<◌, ◌≤◌, ◌+
 ghost use Rattle.lisp_records.specs.declared.address.Addr.TheVariants.{V4, V6};
 ghost use Rattle.lisp_records.specs.Address.{IsWhole};
 ghost use Rattle.lisp_records.specs.Result.{Reads};
-ghost use Rattle.lisp_requests.specs.Encapsulated.{datagram_of, ip_head, written_ip, ipv4_at, ipv4_head, ipv4_sum, ipv6_at, ipv6_head, datagram_at};
+ghost use Rattle.lisp_requests.specs.Encapsulated.{datagram_of, header_len, ip_head, ip_header_len, written_ip, ipv4_at, ipv4_head, ipv4_sum, ipv6_at, ipv6_head, datagram_at};
 
 use crate::checksum::{ALL_ONES, UDP, sum_from};
 use crate::fault::RequestFault;
@@ -73,7 +73,7 @@ fn read_ipv4(bytes: &[u8]) -> Result<(Addr, Addr, &[u8]), RequestFault>
     if bytes.len() < IPV4_LEN {
         return Err(RequestFault::Short);
     }
-    let header_len = bytes[VERSION_AT] as usize % 16 * 4;
+    let header_len = ipv4_header_len(bytes);
     let total_len = number_at(bytes, TOTAL_LEN_AT) as usize;
     if header_len < IPV4_LEN {
         return Err(RequestFault::IpHeaderLength);
@@ -117,6 +117,25 @@ fn read_ipv6(bytes: &[u8]) -> Result<(Addr, Addr, &[u8]), RequestFault>
     let source = ipv6_addr(bytes, IPV6_SOURCE_AT);
     let destination = ipv6_addr(bytes, IPV6_DESTINATION_AT);
     Ok((source, destination, payload))
+}
+
+/// The bytes of the IP header that begins there, by the family of its source address.
+pub(crate) fn ip_header_len(bytes: &[u8], source: Addr) -> usize
+    requires { 1 ≤ length bytes.now }
+    ensures { result ≡ ip_header_len bytes.now source }
+{
+    match source {
+        Addr::V4(_) => ipv4_header_len(bytes),
+        Addr::V6(_) => IPV6_LEN,
+    }
+}
+
+// The IHL counts words of 4 bytes.
+fn ipv4_header_len(bytes: &[u8]) -> usize
+    requires { 1 ≤ length bytes.now }
+    ensures { result ≡ header_len bytes.now }
+{
+    bytes[VERSION_AT] as usize % 16 * 4
 }
 
 // The IPv4 address that begins at a byte.

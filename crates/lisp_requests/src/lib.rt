@@ -15,7 +15,7 @@ mod request;
 #[cfg(test)]
 mod samples;
 
-pub use encapsulated::{EncapsulatedRequest, read_encapsulated, write_encapsulated};
+pub use encapsulated::{EncapsulatedRequest, message_place, read_encapsulated, write_encapsulated};
 pub use fault::RequestFault;
 pub use layout::{RequestLayout, eid_record_at, itr_rloc_at, request_layout};
 pub use reply::{MapReply, read_reply, write_reply};

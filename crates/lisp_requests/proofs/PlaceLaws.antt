@@ -3,8 +3,7 @@ use Rattle.std.proofs.Common.{◌≡◌, ℕ, ◌+◌, List, [], ◌∷◌, ◌+
 use Rattle.std.proofs.lemmas.List.{take_at, drop_at, length-append}
 use Rattle.lisp_records.specs.declared.address.Addr.{Addr}
 use Rattle.lisp_records.specs.declared.address.Addr.TheVariants.{V4, V6}
-use Rattle.lisp_requests.specs.Encapsulated.{EncapsulatedValue, SpellsEncapsulated, SpellsHeader, header_len, udp_header}
-use Rattle.lisp_registration.specs.Requests.{StandsAt, message_place}
+use Rattle.lisp_requests.specs.Encapsulated.{EncapsulatedValue, SpellsEncapsulated, SpellsHeader, StandsAt, header_len, message_place, udp_header}
 
 -- a part among others
 part_stands : (bytes front part back : List ℕ) (at : ℕ) → bytes ≡ front ++ (part ++ back) → length front ≡ at → StandsAt bytes at part
