@@ -1,5 +1,6 @@
 pub mod Ends
 pub mod Host
+pub mod Names
 pub mod Routers
 pub mod Sending
 pub mod Steps

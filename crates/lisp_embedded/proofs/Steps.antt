@@ -3,34 +3,17 @@
 --     Good, word_good        that value is of the struct's type;  ptr_good, some_good     so are the pointer, and `Some` of the struct
 --     fields_out, fields_in  the fields by value are the allocator's handle
 --     held_cases             what is held is nothing, at null, or what a box owns at a block that may be compared with null
-use Rattle.std.proofs.Common.{◌≡◌, List, [], ◌∷◌, ◌++◌, refl, ◌∙◌, lit<, ℕ}
+use Rattle.lisp_embedded.proofs.Names.{◌≡◌, List, [], ◌∷◌, ◌++◌, refl, ◌∙◌, lit<, ℕ, Holds, Ty, impl, tnil, tcons, dnil, ty_ptr, ty_struct, bare, Val, vstruct, vcons, vnil, of_list, has_ty, WT, via, never, never_e, fst∗, snd∗, guard_i, Fml, ftrue, Logic, sem, Item, Goal, Seq, Step, step, ‵, given, ◌$◌, move, drop, use1, learn, fsplit, fjoin, fpick, fpack, feq_i, feq_l, live, fact_use, RattleType, Valss, Ptr, RawPtr, block_ptr, null_ptr, ptr_val, Testable, nothing, layout, box_owns, ghosts, Al, Fits, handle_tells}
 use mathlib.Core.Bool.{Bool, true, false, ◌&&◌}
-use lib.Dec.{T}
 use seplogic.Ra.Ura.{Ura}
-use mir.Syntax.{Ty, impl, tnil, tcons, dnil, ty_ptr, ty_struct}
-use mir.Raw.{raw as bare}
-use mir.Val.{Val, vstruct, vcons, vnil, of_list, has_ty, WT}
-use base.Logic.{via, never, never_e, fst∗, snd∗, guard_i}
-use base.Fml.{Fml, ftrue}
-use types.Logic.{Logic, sem}
-use types.Kit.{Item, Goal, Seq, Step, step, ‵, given, ◌$◌, move, drop, use1, learn, fsplit, fjoin, fpick, fpack, feq_i, feq_l}
-use types.Match.{live}
-use contract.Monad.{fact_use}
-use denote.RattleType.{RattleType, Valss}
 use denote.Memory.{lone}
-use denote.RawPtr.{Ptr, RawPtr, block_ptr, null_ptr, ptr_val, Testable}
-use denote.Steps.{nothing}
-use denote.Param.{layout}
 use denote.Struct.Struct.{Struct, within}
-use Rattle.std.specs.Box.Ownership.{box_owns}
 use Rattle.std.specs.Ptr.{points_to}
 use Rattle.std.specs.declared.alloc.Global.{Global}
 use Rattle.std.specs.declared.option.Option.{Option}
 use Rattle.std.specs.declared.option.Option.TheVariants.{None, Some}
 use Rattle.std.specs.contracts.alloc.Global as heap
-use Rattle.std.specs.contracts.impls.GlobalAllocator.TheImpl.{ghosts}
 use Rattle.std.proofs.alloc.Global.TheLaws as heap_laws
-use Rattle.std.proofs.alloc.Calls.{Al, Fits, handle_tells}
 use Rattle.std.proofs.GlobalToken.{dealloc_token-Testable}
 use Rattle.lisp_embedded.specs.Held.{held}
 
@@ -46,7 +29,7 @@ fields = Struct (record { name = []; args = []; types = []; fields = RawPtr ∷ 
 abbrev pub word : Val → Val → Val
 word p h = vstruct (vcons p (vcons h vnil))
 
-alone : (y : Bool) → T y → T (y && true)
+alone : (y : Bool) → Holds y → Holds (y && true)
 alone true t = tt
 alone false t = absurd t
 
@@ -55,16 +38,16 @@ abbrev pub struct_ty : Ty
 struct_ty = ty_struct [] (tcons ty_ptr (tcons (layout Global-row) tnil))
 
 abbrev pub Good : Val → Type 0
-Good w = T (has_ty struct_ty w) × WT w
+Good w = Holds (has_ty struct_ty w) × WT w
 
 pub word_good : (p : Ptr) (h : Val) → Fits global h → Good (word (ptr_val p) h)
 word_good (block_ptr b o) h fits = (alone (has_ty (layout Global-row) h) fits.0, (tt, (fits.1, tt)))
 word_good null_ptr h fits = (alone (has_ty (layout Global-row) h) fits.0, (record { fits = lit< tt }, (fits.1, tt)))
 
-pub some_good : (w : Val) → Good w → T (has_ty struct_ty w && true) × WT (live 1 (vcons w vnil))
+pub some_good : (w : Val) → Good w → Holds (has_ty struct_ty w && true) × WT (live 1 (vcons w vnil))
 some_good w good = (alone (has_ty struct_ty w) good.0, (record { fits = lit< tt }, (good.1, tt)))
 
-pub ptr_good : (p : Ptr) → T (has_ty ty_ptr (ptr_val p)) × WT (ptr_val p)
+pub ptr_good : (p : Ptr) → Holds (has_ty ty_ptr (ptr_val p)) × WT (ptr_val p)
 ptr_good (block_ptr b o) = (tt, tt)
 ptr_good null_ptr = (tt, record { fits = lit< tt })
 

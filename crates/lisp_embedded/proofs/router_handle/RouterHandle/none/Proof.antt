@@ -1,24 +1,6 @@
 -- `none` puts null and the allocator side by side.
 -- A step's comment shows what is owned after it, from entry 0 on.
-use Rattle.std.proofs.Common.{◌≡◌, List, [], ◌∷◌, ◌++◌, refl, sym, subst, None}
-use mir.Val.{Val}
-use base.Logic.{SProp, ent, emp, id⊢}
-use base.Fml.{ftrue}
-use prog.Wp.{WpFn}
-use types.Kit.{‵, raw, ◌⊛◌, ◌$◌, ◌∵◌, !, qed, by, move, keep, use0, use1, split, fsplit, fjoin, suffices}
-use types.Part.{agg}
-use types.Run.{lit, no_more, and_then, returns, enter}
-use types.ByLocal.{alloc_all, pass_all, free_all, look_at, get, sets}
-use contract.Monad.{fact, fact_i}
-use contract.Running.{tables}
-use denote.Exit.{yes}
-use denote.RattleType.{owns}
-use denote.RawPtr.{null_ptr, ptr_val}
-use denote.Signature.{types_at, plain}
-use denote.Steps.{nothing}
-use denote.Triple.Walked.{Stays, stay_dropped, walk_of, Goes-dropped}
-use Rattle.std.proofs.alloc.Calls.{handle_tells}
-use Rattle.std.proofs.raw_atomic.Walks.{proved_at, leaves}
+use Rattle.lisp_embedded.proofs.Names.{◌≡◌, List, [], ◌∷◌, ◌++◌, refl, sym, subst, None, Val, SProp, ent, emp, id⊢, ftrue, WpFn, ‵, raw, ◌⊛◌, ◌$◌, ◌∵◌, !, qed, by, move, keep, use0, use1, split, fsplit, fjoin, suffices, agg, lit, no_more, and_then, returns, enter, alloc_all, pass_all, free_all, look_at, get, sets, fact, fact_i, tables, yes, owns, null_ptr, ptr_val, types_at, plain, nothing, Stays, stay_dropped, walk_of, Goes-dropped, handle_tells, proved_at, leaves}
 use Rattle.lisp_embedded.proofs.Steps.{Global-row, global, fields, word, word_good, fields_in}
 use Rattle.lisp_embedded.specs.contracts.router_handle.RouterHandle.{the_row}
 use Rattle.lisp_embedded.specs.contracts.router_handle.RouterHandle.none as f
