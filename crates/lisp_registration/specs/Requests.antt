@@ -3,14 +3,15 @@ use Rattle.std.specs.Prelude.{◌≡◌, ℕ, ◌≤◌, List, [], length, drop,
 use Rattle.lisp_records.specs.declared.address.Addr.{Addr}
 use Rattle.lisp_records.specs.Address.{PrefixValue}
 use Rattle.lisp_records.specs.Record.{bit}
-use Rattle.lisp_records.specs.Result.{◌>>=◌, Reads}
+use Rattle.lisp_records.specs.Result.{Reads}
 use Rattle.lisp_requests.specs.declared.fault.RequestFault.{RequestFault}
 use Rattle.lisp_requests.specs.declared.layout.RequestLayout.{RequestLayout}
+use Rattle.lisp_requests.specs.declared.reply_parts.ReplyLayout.{ReplyLayout}
 use Rattle.lisp_requests.specs.Encapsulated.{EncapsulatedValue, message_place}
 use Rattle.lisp_requests.specs.Fault.{fault_number}
 use Rattle.lisp_requests.specs.Layout.{LaysOut}
 use Rattle.lisp_requests.specs.Reading.{items_at}
-use Rattle.lisp_requests.specs.Reply.{MapReplyValue, map_reply_of, reply_at, reply_head_at, reply_record_at}
+use Rattle.lisp_requests.specs.Reply.{MapReplyValue, reply_record_at}
 use Rattle.lisp_requests.specs.Request.{eid_at, rloc_at}
 use Rattle.lisp_registration.specs.declared.address.PlainAddress.{PlainAddress}
 use Rattle.lisp_registration.specs.declared.eid.PlainPrefix.{PlainPrefix}
@@ -69,12 +70,9 @@ TellsEid bytes at old old_end number new end = (answer : Result (PrefixValue × 
 abbrev pub plain_reply : MapReplyValue → PlainReply
 plain_reply m = record { nonce = m.nonce; probe = bit m.probe; echo_nonce = bit m.echo_nonce; sec = bit m.sec; record_count = length m.records; records_at = 12 }
 
-abbrev pub plain_reply_at : List ℕ → Result PlainReply RequestFault
-plain_reply_at bytes = reply_at bytes >>= λ m. Ok (plain_reply m)
-
--- what stands before the records
-abbrev pub plain_head_at : List ℕ → Result PlainReply RequestFault
-plain_head_at bytes = reply_head_at bytes >>= λ _. Ok (plain_reply (map_reply_of bytes []))
+-- the same of its layout
+abbrev pub plain_layout : ReplyLayout → PlainReply
+plain_layout layout = record { nonce = layout.nonce; probe = bit layout.probe; echo_nonce = bit layout.echo_nonce; sec = bit layout.sec; record_count = layout.record_count; records_at = layout.records_at }
 
 -- the records of the Map-Reply that is read stand where it is told that they do, to the end
 abbrev pub RecordsStand : List ℕ → PlainReply → Result MapReplyValue RequestFault → Type 0

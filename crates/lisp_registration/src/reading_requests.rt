@@ -12,7 +12,7 @@ use crate::eid::PlainPrefix;
 use crate::encapsulated::PlainEncapsulated;
 use crate::reply::PlainReply;
 use crate::request::PlainRequest;
-use lisp_requests::{eid_record_at, itr_rloc_at, read_encapsulated, request_layout};
+use lisp_requests::{eid_record_at, itr_rloc_at, read_encapsulated, reply_layout, request_layout};
 use std::alloc::Global;
 
 /// What the Map-Request that the bytes begin with says, and where its ITR-RLOCs and EID-Prefixes are; takes no memory. 0 is
@@ -86,9 +86,9 @@ pub extern "C" fn lisp_registration_read_reply(
         ≡ told plain_reply fault_number (reply_at bytes.now) reply.old }
     ensures stand { RecordsStand bytes.now reply.new (reply_at bytes.now) }
 {
-    match PlainReply::read(alloc, bytes) {
-        Ok(read) => {
-            *reply = read;
+    match reply_layout(alloc, bytes) {
+        Ok(layout) => {
+            *reply = PlainReply::of(&layout);
             0
         }
         Err(fault) => fault.number(),

@@ -16,3 +16,4 @@ pub mod SpelledLaws
 pub mod LayoutLemmas
 pub mod FitLaws
 pub mod PlaceLaws
+pub mod ReplyLayouts

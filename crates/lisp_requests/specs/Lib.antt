@@ -7,3 +7,4 @@ pub mod Reply
 pub mod Encapsulated
 pub mod Meaning
 pub mod Layout
+pub mod ReplyLayout

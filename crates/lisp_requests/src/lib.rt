@@ -11,6 +11,7 @@ mod inner;
 pub mod laws;
 mod layout;
 mod reply;
+mod reply_parts;
 mod request;
 #[cfg(test)]
 mod samples;
@@ -19,4 +20,5 @@ pub use encapsulated::{EncapsulatedRequest, message_place, read_encapsulated, wr
 pub use fault::RequestFault;
 pub use layout::{RequestLayout, eid_record_at, itr_rloc_at, request_layout};
 pub use reply::{MapReply, read_reply, write_reply};
+pub use reply_parts::{ReplyLayout, reply_layout};
 pub use request::{MapRequest, read_request, write_request};

@@ -1,6 +1,6 @@
 //! The Map-Reply.
 
-ghost use Rattle.std.specs.Prelude.{◌≡◌, ◌<◌, ◌≤◌, ◌++◌, ◌^◌, [], length, slice_index, Ok, IfOk, OnOk, OnErr};
+ghost use Rattle.std.specs.Prelude.{◌≡◌, ◌<◌, ◌≤◌, ◌++◌, ◌^◌, [], length, drop, slice_index, Ok, IfOk, OnOk, OnErr};
 ghost use Rattle.std.specs.List.{AllByRecursion};
 ghost use Rattle.lisp_records.specs.Record.{IsMapRecord};
 ghost use Rattle.lisp_records.specs.Result.{Reads, PassesFault};
@@ -18,11 +18,11 @@ use std::marker::Model;
 const MAP_REPLY: u8 = 2;
 
 // The flags in the first byte.
-const PROBE: u8 = 0x08;
+pub(crate) const PROBE: u8 = 0x08;
 
-const ECHO_NONCE: u8 = 0x04;
+pub(crate) const ECHO_NONCE: u8 = 0x04;
 
-const SEC: u8 = 0x02;
+pub(crate) const SEC: u8 = 0x02;
 
 /// A Map-Reply (RFC 9301 sections 5.4 and 5.5), type 2, with at most 255 records:
 ///
@@ -108,10 +108,11 @@ fn reply_of<A: Allocator>(head: &[u8], records: Vec<MapRecord<A>, A>) -> MapRepl
     }
 }
 
-// The bytes after the first 12, where these are as they must be.
+/// The bytes after the first 12, where these are as they must be.
 #[tactic(auto, unfolding(crate::specs::Reply::reply_head_at))]
-fn read_head(bytes: &[u8]) -> Result<&[u8], RequestFault>
+pub(crate) fn read_head(bytes: &[u8]) -> Result<&[u8], RequestFault>
     ensures rest { Reads (λ rest. rest.now) result (reply_head_at bytes.now) }
+    ensures skips { IfOk result (λ rest. rest.now ≡ drop 12 bytes.now) }
     ensures plain { IfOutOfMemory result ⊥ }
     ensures head { OnOk result (12 ≤ length bytes.now) }
 {
