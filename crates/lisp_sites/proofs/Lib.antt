@@ -1,5 +1,4 @@
 pub mod ConfigLaws
-pub mod Counts
 pub mod Databases
 pub mod Each
 pub mod Eids
@@ -8,7 +7,9 @@ pub mod Forms
 pub mod Found
 pub mod Keys
 pub mod Names
+pub mod NumberLaws
 pub mod NodeLaws
+pub mod Mapped
 pub mod Placed
 pub mod Readings
 pub mod RouterParts

@@ -1,6 +1,6 @@
 //! The configuration of a network: its sites, Map-Servers and routers.
 
-ghost use Rattle.std.specs.Prelude.{◌≡◌, ◌+◌, IfErr, length};
+ghost use Rattle.std.specs.Prelude.{◌≡◌, IfErr};
 ghost use Rattle.toml.specs.Parse.{parse_document};
 ghost use Rattle.toml.specs.View.{view};
 ghost use Rattle.lisp_policy.specs.Configuration.{IsConfig};
@@ -65,13 +65,6 @@ impl<A: Allocator> Config<A> {
         ensures configuration { IsConfig self.now }
     {
         &self.routers
-    }
-
-    /// How many nodes there are: the Map-Servers and the site routers.
-    pub fn node_count(&self) -> usize
-        ensures { result ≡ length self.now.servers + length self.now.routers }
-    {
-        self.servers().len() + self.routers().len()
     }
 }
 

@@ -20,7 +20,9 @@ mod fault;
 mod field;
 mod keyed;
 mod name;
+mod node;
 mod nodes;
+mod numbers;
 mod place;
 mod router;
 mod server;
@@ -36,6 +38,7 @@ pub use lisp_texts::{
     record_from_text, record_to_text, secret_from_text, site_id_from_text, xtr_from_text,
 };
 pub use name::Name;
+pub use node::ConfigNode;
 pub use place::{Entry, Place, PlacedFault};
 pub use router::RouterEntry;
 pub use server::ServerEntry;
