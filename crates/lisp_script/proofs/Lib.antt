@@ -1,7 +1,6 @@
 mod Faults
 mod Plain
 mod Filled
-mod Places
 mod Verbs
 mod Records
 mod Lines

@@ -317,7 +317,7 @@ fn restarted_with<A: Memory + Copy, E: Allocator>(
 fn given_to<E: Allocator>(config: &Config<E>, node: usize) -> Result<usize, ScriptWhat>
     ensures { result ≡ given_to config.now node }
 {
-    if node < config.servers().len() {
+    if config.is_server(node) {
         Err(ScriptWhat::Name)
     } else {
         Ok(node)

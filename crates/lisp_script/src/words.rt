@@ -1,15 +1,15 @@
 //! The words of a line, and what single words stand for.
 
-ghost use Rattle.std.specs.Prelude.{◌≡◌, ◌≢◌, [], position, IfOk, OnErr};
+ghost use Rattle.std.specs.Prelude.{◌≡◌, ◌≢◌, [], IfOk, OnErr};
 ghost use Rattle.lisp_script.specs.Fault.{Gives};
-ghost use Rattle.lisp_script.specs.Words.{texts, words_of, is_word, node_of, server_of, router_of, number_in, key_in, address_in, bytes_in, doubt_in, load_fails_in, fate_in, records_in, some_records, database_in};
+ghost use Rattle.lisp_script.specs.Words.{texts, words_of, node_of, server_of, router_of, number_in, key_in, address_in, bytes_in, doubt_in, load_fails_in, fate_in, records_in, some_records, database_in};
 ghost use Rattle.lisp_script.specs.declared.fault.ScriptWhat.TheVariants.{Memory};
 
 use crate::fault::ScriptWhat;
 use lisp_memory::{FallibleCopies, FallibleVec, Memory};
 use lisp_nonces::Fate;
 use lisp_records::{Addr, Bytes, Database, MapRecord};
-use lisp_sites::{Config, RouterEntry, ServerEntry};
+use lisp_sites::Config;
 use lisp_texts::{addr_from_text, number_from_text, record_from_text};
 use std::alloc::{AllocError, Allocator};
 
@@ -29,14 +29,11 @@ pub(crate) fn words<A: Memory>(alloc: A, line: &str) -> Result<Vec<&str, A>, All
 }
 
 /// The Map-Server or router with a name, by its number.
-#[tactic(auto, using(crate::proofs::Places::node_by_kind))]
+#[tactic(auto, unfolding(crate::specs::Words::node_of))]
 pub(crate) fn node<E: Allocator>(config: &Config<E>, word: &str) -> Result<usize, ScriptWhat>
     ensures { result ≡ node_of config.now word.now }
 {
-    match server(config, word) {
-        Ok(server) => Ok(server),
-        Err(_) => router(config, word),
-    }
+    config.number(word).ok_or(ScriptWhat::Name)
 }
 
 /// The Map-Server with a name.
@@ -44,33 +41,15 @@ pub(crate) fn node<E: Allocator>(config: &Config<E>, word: &str) -> Result<usize
 pub(crate) fn server<E: Allocator>(config: &Config<E>, word: &str) -> Result<usize, ScriptWhat>
     ensures { result ≡ server_of config.now word.now }
 {
-    server_place(config.servers(), word).ok_or(ScriptWhat::Name)
+    config.server_number(word).ok_or(ScriptWhat::Name)
 }
 
 /// The router with a name, by its number.
+#[tactic(auto, unfolding(crate::specs::Words::router_of))]
 pub(crate) fn router<E: Allocator>(config: &Config<E>, word: &str) -> Result<usize, ScriptWhat>
     ensures { result ≡ router_of config.now word.now }
 {
-    match router_place(config.routers(), word) {
-        Some(place) => Ok(config.servers().len() + place),
-        None => Err(ScriptWhat::Name),
-    }
-}
-
-fn server_place<E: Allocator>(servers: &[ServerEntry<E>], word: &str) -> Option<usize>
-    ensures { result ≡ position (λ s. is_word s.name word.now) servers.now }
-{
-    servers
-        .iter()
-        .position(|server| server.name.as_str() == word)
-}
-
-fn router_place<E: Allocator>(routers: &[RouterEntry<E>], word: &str) -> Option<usize>
-    ensures { result ≡ position (λ r. is_word r.name word.now) routers.now }
-{
-    routers
-        .iter()
-        .position(|router| router.name.as_str() == word)
+    config.router_number(word).ok_or(ScriptWhat::Name)
 }
 
 /// A decimal number.
