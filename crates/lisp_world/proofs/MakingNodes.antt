@@ -1,25 +1,15 @@
 -- The nodes of a network: made one after the other, each over its store, and then the routers started one after the other.
-use Rattle.std.proofs.Common.{◌≡◌, ◌⊎◌, inl, inr, ℕ, suc, zero, ◌+◌, ◌<◌, ◌≤◌, List, [], ◌∷◌, ◌++◌, length, map, get_or, take, drop, Some, refl, sym, ap, subst, ◌∙◌, add-one, arith, length-append, length-set, append-nil}
+use Rattle.std.proofs.Common.{◌≡◌, ◌⊎◌, inl, inr, ℕ, suc, zero, ◌+◌, ◌<◌, ◌≤◌, List, [], ◌∷◌, ◌++◌, length, get_or, take, drop, Some, refl, sym, ap, subst, ◌∙◌, arith, length-append, length-set, append-nil}
 use Rattle.std.specs.Prelude.{◌≢◌, slice_get, slice_set}
 use Rattle.std.specs.List.{AllByRecursion}
-use Rattle.std.proofs.Math.Seq.{take-suc, take-length}
+use Rattle.std.proofs.Math.Seq.{take-length}
 use Rattle.std.proofs.Math.ListN.{drop_of_length-le}
-use Rattle.std.proofs.lemmas.List.{map-append, append_assoc}
 use Rattle.std.proofs.lemmas.Option.{slice_get-get_or, slice_get_within}
 use Rattle.lisp_policy.specs.Configuration.{ConfigValue}
 use Rattle.lisp_nonces.specs.Store.{StoreState}
 use Rattle.lisp_refinement.specs.World.{ServerNodeState, RouterNodeState}
 use Rattle.lisp_world.specs.Making.{server_over, IsRouterOver, AddsNode, AreServers, AreRouters, AreNodes, HasStarted, HaveStarted, HaveStartedBefore}
 use Rattle.lisp_refinement.proofs.Gets.{none_is_some, same_some, get_set, get_before, get_within}
-
-module _ {X Y : Type 0} where
-  -- one more element is mapped behind others
-  pub more_mapped : (before : List Y) (f : X → Y) (xs : List X) (made next : List Y) (i : ℕ) (x : X) → i < length xs → x ≡ get_or xs i x
-      → made ≡ before ++ map f (take i xs) → next ≡ made ++ f x ∷ [] → next ≡ before ++ map f (take (i + 1) xs)
-  more_mapped before f xs made next i x low at so_far pushed =
-      let taken : take (i + 1) xs ≡ take i xs ++ x ∷ [] = ap (λ n. take n xs) (add-one i) ∙ take-suc xs i x low ∙ ap (λ (y : X). take i xs ++ y ∷ []) (sym at) in
-      let mapped : map f (take (i + 1) xs) ≡ map f (take i xs) ++ f x ∷ [] = ap (map f) taken ∙ map-append f (take i xs) (x ∷ []) in
-      pushed ∙ ap (λ (l : List Y). l ++ f x ∷ []) so_far ∙ append_assoc before (map f (take i xs)) (f x ∷ []) ∙ ap (λ (l : List Y). before ++ l) (sym mapped)
 
 -- what holds of each element holds of the one at a place
 pub each_at : {X : Type 0} (P : X → Type 0) (xs : List X) (i : ℕ) (d : X) → AllByRecursion P xs → i < length xs → P (get_or xs i d)

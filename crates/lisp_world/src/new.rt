@@ -60,7 +60,7 @@ impl<S: WorldStore, A: Memory + Copy> World<S, A> {
         if repeats(config) {
             return Err(WorldFault::Repeated);
         }
-        let addresses = addresses(alloc, config)?;
+        let addresses = config.addresses(alloc)?;
         let sites = config.sites().copy(alloc)?;
         let (servers, mut routers) = nodes(alloc, config, &addresses, stores)?;
         start_all(alloc, &mut routers, servers.len())?;
@@ -139,24 +139,6 @@ fn is_router<E: Allocator>(routers: &[RouterEntry<E>], me: RouterId) -> bool
     ensures { result ≡ list_any (λ r. router_eq me r.me) routers.now }
 {
     routers.iter().any(|router| me == router.me)
-}
-
-// The addresses of the nodes, in their order.
-fn addresses<A: Memory, E: Allocator>(
-    alloc: A,
-    config: &Config<E>,
-) -> Result<Vec<Addr, A>, AllocError>
-    ensures addresses { IfOk result (λ v. v.items ≡ addresses_of config.now) }
-    ensures memory { OnErr result A.may_refuse }
-{
-    let mut addresses = Vec::new(alloc);
-    for server in config.servers() {
-        addresses.try_push(server.address)?;
-    }
-    for router in config.routers() {
-        addresses.try_push(router.address)?;
-    }
-    Ok(addresses)
 }
 
 /// The Map-Servers and the routers of a network.
@@ -246,7 +228,7 @@ where
     ensures router { IfOk result (λ n. IsRouterOver config.now place (S.seen store) n) }
     ensures memory { OnErr result A.may_refuse }
 {
-    let addresses = addresses(alloc, config)?;
+    let addresses = config.addresses(alloc)?;
     router(alloc, config, &addresses, place, store)
 }
 
@@ -260,7 +242,7 @@ pub fn router_settings<A: Memory + Copy, E: Allocator>(
     ensures settings { IfOk result (λ s. IsConfiguredAt config.now place s) }
     ensures memory { OnErr result A.may_refuse }
 {
-    let addresses = addresses(alloc, config)?;
+    let addresses = config.addresses(alloc)?;
     settings(alloc, config, &addresses, entry_at(config, place))
 }
 
