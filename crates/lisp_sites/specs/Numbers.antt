@@ -16,6 +16,9 @@ abbrev pub IsNode : ConfigValue → ℕ → Type 0
 IsNode c number = number < node_count c
 
 -- and it is a Map-Server
+abbrev pub IsMapServer : ConfigValue → ℕ → Type 0
+IsMapServer c number = number < length c.servers
+
 abbrev pub is_server : ConfigValue → ℕ → Bool
 is_server c number = nat_lt number (length c.servers)
 

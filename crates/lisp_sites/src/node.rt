@@ -9,7 +9,7 @@ use lisp_records::Addr;
 use std::alloc::{Allocator, Global};
 
 /// A node of a configuration.
-#[derive(Debug)]
+#[derive(Debug, Drop)]
 pub enum ConfigNode<'c, A: Allocator = Global> {
     /// A Map-Server.
     Server(&'c ServerEntry<A>),
