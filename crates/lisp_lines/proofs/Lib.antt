@@ -2,8 +2,8 @@ pub mod Acks
 pub mod Appends
 mod Counting
 pub mod Fronts
+pub mod NodeNames
 pub mod OutputLemmas
 pub mod Parts
-pub mod Places
 mod Rows
 pub mod Walking

@@ -1,5 +1,5 @@
 -- What nodes are called in lines.
-use Rattle.std.specs.Prelude.{ℕ, List, codes, map, slice_index_or, Option, Some, None}
+use Rattle.std.specs.Prelude.{ℕ, List, codes, slice_index_or, Option, Some, None}
 use Rattle.std.specs.List.{find}
 use Rattle.lisp_records.specs.declared.router.RouterId.{RouterId}
 use Rattle.lisp_records.specs.Router.{router_eq}
@@ -8,10 +8,6 @@ use Rattle.lisp_policy.specs.Configuration.{ConfigValue, RouterEntryValue, names
 -- a node by its number; one that the configuration doesn't have is 'other'
 abbrev pub node_name : ConfigValue → ℕ → List ℕ
 node_name c node = slice_index_or (names c) node (codes "other")
-
--- a router by its place among the routers, likewise
-abbrev pub name_at : ConfigValue → ℕ → List ℕ
-name_at c place = slice_index_or (map (λ r. r.name) c.routers) place (codes "other")
 
 -- a router by its identity, likewise
 abbrev pub router_of : List RouterEntryValue → RouterId → Option RouterEntryValue

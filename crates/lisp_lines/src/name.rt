@@ -2,7 +2,7 @@
 
 ghost use Rattle.std.specs.Prelude.{◌≡◌};
 ghost use Rattle.std.specs.Option.{option_map};
-ghost use Rattle.lisp_lines.specs.Name.{node_name, name_at, router_of, router_name};
+ghost use Rattle.lisp_lines.specs.Name.{node_name, router_of, router_name};
 
 use lisp_records::RouterId;
 use lisp_sites::{Config, RouterEntry};
@@ -11,24 +11,12 @@ use std::alloc::Allocator;
 /// What a node is called that the configuration doesn't have.
 const OTHER: &str = "other";
 
-/// The name of the node with a number: Map-Servers, then routers, in the order of the configuration; `other` where it has no such
-/// node.
+/// The name of the node with a number; `other` where the configuration has no such node.
 pub fn node_name<E: Allocator>(config: &Config<E>, node: usize) -> &str
     ensures { result.now ≡ node_name config.now node }
 {
-    let servers = config.servers();
-    if let Some(server) = servers.get(node) {
-        return server.name.as_str();
-    }
-    name_at(config, node - servers.len())
-}
-
-// The name of the router with a place among the routers.
-fn name_at<E: Allocator>(config: &Config<E>, place: usize) -> &str
-    ensures { result.now ≡ name_at config.now place }
-{
-    match config.routers().get(place) {
-        Some(router) => router.name.as_str(),
+    match config.node(node) {
+        Some(node) => node.name(),
         None => OTHER,
     }
 }

@@ -1,17 +1,11 @@
-use Rattle.std.proofs.Common.{List, codes, get_or, map, sym, ap, ◌++◌, ◌∙◌}
-use Rattle.std.proofs.lemmas.Bool.{ltb-true, ltb-false}
-use Rattle.lisp_policy.specs.Configuration.{ServerEntryValue}
-use Rattle.lisp_lines.proofs.Places.{in_front, past_front}
+use Rattle.std.proofs.Common.{codes, sym, ap, ◌∙◌}
+use Rattle.std.specs.Option.{option_map}
+use Rattle.lisp_sites.specs.Numbers.{node_value}
+use Rattle.lisp_lines.proofs.NodeNames.{name_of_node, name_of_none}
 use Rattle.lisp_lines.proofs.name.node_name.Goals as goal
 
 pub returns-in-Some : goal.returns-in-Some
-returns-in-Some g c =
-    let found = c.in-Some.ensures.lookup in
-    c.as_str.ensures ∙ ap (λ (s : ServerEntryValue). s.name) c.server.view_is
-    ∙ in_front (λ (s : ServerEntryValue). s.name) c.servers-servers.result.now (map (λ r. r.name) c.args.config.now.routers) c.args.node c.in-Some.server.now (codes "other") (ltb-true _ _ (sym found.0)) found.1
-    ∙ ap (λ (servers : List ServerEntryValue). get_or (map (λ s. s.name) servers ++ map (λ r. r.name) c.args.config.now.routers) c.args.node (codes "other")) c.servers-servers.ensures
+returns-in-Some g c = c.name.ensures ∙ name_of_node c.args.config.now c.args.node (codes "other") c.in-Some.node (ap (option_map node_value) (sym c.in-Some.is) ∙ c.node.ensures)
 
-pub returns : goal.returns
-returns g c =
-    c.name_at.ensures ∙ past_front (λ (s : ServerEntryValue). s.name) c.servers-servers.result.now (map (λ r. r.name) c.args.config.now.routers) c.args.node (codes "other") (ltb-false _ _ (sym c.in_default.ensures.lookup.0))
-    ∙ ap (λ (servers : List ServerEntryValue). get_or (map (λ s. s.name) servers ++ map (λ r. r.name) c.args.config.now.routers) c.args.node (codes "other")) c.servers-servers.ensures
+pub returns-in-None : goal.returns-in-None
+returns-in-None g c = name_of_none c.args.config.now c.args.node (codes "other") (ap (option_map node_value) (sym c.in-None.is) ∙ c.node.ensures)
