@@ -54,15 +54,11 @@ impl<'a> Place<'a> {
         ensures me { IfOk result (λ me. me ≡ (router_at self.now.config.now router).me) }
         ensures fault { refusal_of result ≡ name_fault self.now.config.now router }
     {
-        if router >= self.config.node_count() {
-            return Err(WorldFault::NoNode);
+        match self.config.router(router) {
+            Some(entry) => Ok(entry.me),
+            None if self.config.is_server(router) => Err(WorldFault::WrongKind),
+            None => Err(WorldFault::NoNode),
         }
-        let servers = self.config.servers().len();
-        if router < servers {
-            return Err(WorldFault::WrongKind);
-        }
-        let entry = &self.config.routers()[router - servers];
-        Ok(entry.me)
     }
 
     /// The number of the router with an identity; one that no node has where it isn't configured.
