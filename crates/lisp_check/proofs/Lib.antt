@@ -1,5 +1,4 @@
 pub mod Added
-pub mod Mapped
 pub mod SiteWarnings
 pub mod AddressWarnings
 pub mod RouterWarnings

@@ -1,11 +1,13 @@
 -- Warnings in words.
-use Rattle.std.specs.Prelude.{◌≡◌, ℕ, ◌+◌, ◌-◌, ◌^◌, false, min, List, [], ◌++◌, codes, length, slice_get, Option, Some, None, Result, String, string_bytes, IfOk}
+use Rattle.std.specs.Prelude.{◌≡◌, ℕ, ◌+◌, ◌-◌, ◌^◌, false, min, List, [], ◌++◌, codes, length, slice_get, Option, Some, None, Result, String, string_bytes, IfOk, unwrap_or}
+use Rattle.std.specs.Option.{option_map}
 use Rattle.std.specs.Fmt.{decimal, digits, padded_integral, format_spec}
 use Rattle.lisp_records.specs.Record.{MapRecordValue}
 use Rattle.lisp_texts.specs.Written.{addr_text, prefix_text}
 use Rattle.lisp_policy.specs.declared.site.SitePrefix.{SitePrefix}
 use Rattle.lisp_policy.specs.Site.{SiteValue}
 use Rattle.lisp_policy.specs.Configuration.{ConfigValue, ServerEntryValue, RouterEntryValue}
+use Rattle.lisp_sites.specs.Numbers.{name_at, address_at}
 use Rattle.lisp_check.specs.declared.warning.Warning.{Warning}
 use Rattle.lisp_check.specs.declared.warning.Warning.TheVariants.{NoNodes, NoKeys, NoPrefixes, SamePrefix, Inside, NoUnicast, SameAddress, SameIdentity, NotAllowed, OtherFamily, SameKey, NoServers}
 
@@ -37,7 +39,7 @@ abbrev pub site_prefix_words : Option SiteValue → ℕ → List ℕ
 site_prefix_words (Some s) place = listed_words (slice_get s.prefixes place)
 site_prefix_words None place = []
 
--- what a node is, by its number: Map-Servers are counted first; and the names of routers and nodes
+-- what a node is, by its number; and the names of routers and nodes
 abbrev pub kind_words : Option ServerEntryValue → List ℕ
 kind_words (Some server) = codes "server"
 kind_words None = codes "router"
@@ -46,24 +48,16 @@ abbrev pub router_words : Option RouterEntryValue → List ℕ
 router_words (Some router) = router.name
 router_words None = []
 
-abbrev pub name_words : Option ServerEntryValue → Option RouterEntryValue → List ℕ
-name_words (Some server) router = server.name
-name_words None router = router_words router
-
 abbrev pub node_words : ConfigValue → ℕ → List ℕ
-node_words c node = name_words (slice_get c.servers node) (slice_get c.routers (node - length c.servers))
+node_words c node = unwrap_or (name_at c node) []
 
--- the address of a node by its number
+-- the address of a router, and of a node by its number
 abbrev pub router_address_words : Option RouterEntryValue → List ℕ
 router_address_words (Some router) = addr_text router.address
 router_address_words None = []
 
-abbrev pub address_words : Option ServerEntryValue → Option RouterEntryValue → List ℕ
-address_words (Some server) router = addr_text server.address
-address_words None router = router_address_words router
-
 abbrev pub addressed : ConfigValue → ℕ → List ℕ
-addressed c node = address_words (slice_get c.servers node) (slice_get c.routers (node - length c.servers))
+addressed c node = unwrap_or (option_map addr_text (address_at c node)) []
 
 -- the prefix of a router's record by its place, and the router's Site-ID
 abbrev pub record_words : Option MapRecordValue → List ℕ

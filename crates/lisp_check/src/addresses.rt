@@ -1,37 +1,17 @@
 //! Warnings of the addresses of nodes.
 
-ghost use Rattle.std.specs.Prelude.{◌≡◌, ◌↔◌, ◌==◌, length, IsTrue, IfOk, OnErr, position};
+ghost use Rattle.std.specs.Prelude.{◌≡◌, ◌↔◌, ◌==◌, length, IsTrue, OnErr, position};
 ghost use Rattle.std.specs.List.{list_all};
 ghost use Rattle.lisp_records.specs.Address.{addr_eq};
-ghost use Rattle.lisp_model.specs.Trace.{addresses as addresses_of};
 ghost use Rattle.lisp_check.specs.Warning.{HasNoUnicast, IsFirstAlike, is_no_unicast, of_node, of_nodes};
 ghost use Rattle.lisp_check.specs.Adding.{AddsAtAddresses, NamesFirst};
 
 use crate::adding::warn_if;
 use crate::place::at;
 use crate::warning::Warning;
-use lisp_memory::{FallibleVec, Memory};
+use lisp_memory::Memory;
 use lisp_records::Addr;
-use lisp_sites::Config;
-use std::alloc::{AllocError, Allocator};
-
-/// The addresses of the nodes: of the Map-Servers, then of the routers.
-pub(crate) fn addresses<M: Memory, A: Allocator>(
-    alloc: M,
-    config: &Config<A>,
-) -> Result<Vec<Addr, M>, AllocError>
-    ensures addresses { IfOk result (λ v. v.items ≡ addresses_of config.now) }
-    ensures memory { OnErr result M.may_refuse }
-{
-    let mut addresses = Vec::new(alloc);
-    for server in config.servers() {
-        addresses.try_push(server.address)?;
-    }
-    for router in config.routers() {
-        addresses.try_push(router.address)?;
-    }
-    Ok(addresses)
-}
+use std::alloc::AllocError;
 
 /// Adds the warnings of all addresses.
 pub(crate) fn warn_of_addresses<M: Memory>(

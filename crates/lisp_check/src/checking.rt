@@ -7,7 +7,7 @@ ghost use Rattle.lisp_check.specs.declared.warning.Warning.{Warning};
 ghost use Rattle.lisp_check.specs.declared.warning.Warning.TheVariants.{NoNodes};
 
 use crate::adding::warn_if;
-use crate::addresses::{addresses, warn_of_addresses};
+use crate::addresses::warn_of_addresses;
 use crate::routers::warn_of_routers;
 use crate::sites::warn_of_sites;
 use crate::warning::Warning;
@@ -30,7 +30,7 @@ pub fn warnings<M: Memory + Copy, A: Allocator>(
     ensures memory { OnErr result M.may_refuse }
 {
     let mut warnings = Vec::new(alloc);
-    let addresses = addresses(alloc, config)?;
+    let addresses = config.addresses(alloc)?;
     warn_if(&mut warnings, are_none(&addresses), Warning::NoNodes)?;
     warn_of_sites(&mut warnings, config)?;
     warn_of_addresses(&mut warnings, &addresses)?;

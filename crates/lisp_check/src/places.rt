@@ -34,9 +34,8 @@ pub fn secret_place(warning: SecretWarning) -> Place {
     part_place(site, Field::SiteKey, key)
 }
 
-// Map-Servers are counted first.
 fn node_place(config: &Config, node: usize) -> Place {
-    match node.checked_sub(config.servers().len()) {
+    match config.router_place(node) {
         Some(router) => entry_place(Field::Router, router),
         None => entry_place(Field::Server, node),
     }

@@ -344,7 +344,7 @@ fn record_eid(alloc: Global, router: &RouterEntry, place: usize) -> Result<Strin
     }
 }
 
-// What a node is: Map-Servers are counted first.
+// What a node is.
 fn node_kind(config: &Config, node: usize) -> &'static str
     ensures { result.now ≡ kind_words (slice_get config.now.servers node) }
 {
@@ -357,9 +357,9 @@ fn node_kind(config: &Config, node: usize) -> &'static str
 fn node_name(config: &Config, node: usize) -> &str
     ensures { result.now ≡ node_words config.now node }
 {
-    match config.servers().get(node) {
-        Some(server) => server.name.as_str(),
-        None => router_name(config, node.saturating_sub(config.servers().len())),
+    match config.node(node) {
+        Some(node) => node.name(),
+        None => "",
     }
 }
 
@@ -375,10 +375,10 @@ fn router_name(config: &Config, router: usize) -> &str
 fn node_address(alloc: Global, config: &Config, node: usize) -> Result<String, AllocError>
     ensures { GivesText result (addressed config.now node) }
 {
-    if let Some(server) = config.servers().get(node) {
-        return addr_to_text(alloc, &server.address);
+    match config.node(node) {
+        Some(node) => addr_to_text(alloc, node.address()),
+        None => String::try_from_str(alloc, ""),
     }
-    router_address(alloc, config, node.saturating_sub(config.servers().len()))
 }
 
 fn router_address(alloc: Global, config: &Config, router: usize) -> Result<String, AllocError>
