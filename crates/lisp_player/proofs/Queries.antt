@@ -1,10 +1,10 @@
 -- What is asked of a node of a network that stands for a trace.
-use Rattle.std.proofs.Common.{Bor, ◌≡◌, ℕ, ◌+◌, ◌-◌, ◌<◌, ◌≤◌, nat_lt, Bool, true, false, List, length, Option, Some, None, refl, sym, ap, subst, ◌∙◌, arith}
+use Rattle.std.proofs.Common.{Bor, ◌≡◌, ℕ, ◌+◌, ◌-◌, ◌<◌, ◌≤◌, nat_lt, Bool, true, false, List, length, Option, Some, None, inl, inr, refl, sym, ap, subst, ◌∙◌, arith}
 use Rattle.std.specs.Prelude.{is_some, slice_get, slice_index_or, if◌then◌else◌}
 use Rattle.std.specs.List.{flat_map}
 use Rattle.std.specs.Option.{option_map, option_and_then, unwrap_or}
-use Rattle.std.proofs.lemmas.Bool.{ltb-true, ltb-false, lt-ltb, le-ltb}
-use Rattle.std.proofs.lemmas.Option.{slice_get_within}
+use Rattle.std.proofs.lemmas.Bool.{ltb-true, ltb-false, lt-ltb, le-ltb, cases_lt}
+use Rattle.std.proofs.lemmas.Option.{slice_get_within, get_or_from_slice_get}
 use Rattle.lisp_records.specs.declared.address.Addr.{Addr}
 use Rattle.lisp_records.specs.declared.router.RouterId.{RouterId}
 use Rattle.lisp_records.specs.Row.{RowValue}
@@ -26,7 +26,8 @@ use Rattle.lisp_refinement.proofs.Gets.{none_is_some, same_some, get_within}
 use Rattle.lisp_refinement.proofs.Asking.{servers_tell, routers_tell}
 use Rattle.lisp_lines.specs.Query.{hold_text, ack_text, ask_text, due_text, due_server, due_router}
 use Rattle.lisp_lines.specs.Router.{CountedFrom, due_of, due_in}
-use Rattle.lisp_player.specs.Asked.{Where, Holds, Asks, Acknowledges, IsDue, IsDueAtRouter, OfTraces, acked_parts, router_in, is_router, of_router, down_text, fault_text, missing_text}
+use Rattle.lisp_sites.specs.Numbers.{router_at as entry_at}
+use Rattle.lisp_player.specs.Asked.{Where, Holds, Asks, Acknowledges, IsDue, IsDueAtRouter, OfTraces, acked_parts, is_router, of_router, down_text, fault_text, missing_text}
 use Rattle.lisp_model.specs.declared.world_fault.WorldFault.{WorldFault}
 use Rattle.lisp_model.specs.declared.world_fault.WorldFault.TheVariants.{NoNode, WrongKind}
 
@@ -125,43 +126,31 @@ module _ (w : WorldState) (o : Opening) (T : List Step) (stand : Stands w o T) w
 of_config : (w : WorldState) (c : ConfigValue) (Said : ConfigValue → Type 0) (P : Opening → List Step → Type 0) → Said c → ((o : Opening) (T : List Step) → Stands w o T → Said o.config → P o T) → OfTraces w c P
 of_config w c Said P said given = λ o T stand config. given o T stand (subst Said (sym config) said)
 
--- the router of a configuration
-router_found : (c : ConfigValue) (node : ℕ) (entry : RouterEntryValue) → Some entry ≡ router_in c node → (is_router c node ≡ true) × (entry ≡ router_at c node)
-router_found c node entry at = by (is_router c node) refl at
-  where
-    by : (b : Bool) → is_router c node ≡ b → Some entry ≡ (if b then Some (router_at c node) else None) → (is_router c node ≡ true) × (entry ≡ router_at c node)
-    by true is same = (is, same_some entry (router_at c node) same)
-    by false is same = absurd (none_is_some (sym same))
-
-router_missing : (c : ConfigValue) (node : ℕ) → None ≡ router_in c node → is_router c node ≡ false
-router_missing c node at = by (is_router c node) at
-  where
-    by : (b : Bool) → None ≡ (if b then Some (router_at c node) else None) → b ≡ false
-    by true same = absurd (none_is_some same)
-    by false same = refl
-
--- the router of a configuration, read behind its Map-Servers; there is none before them
+-- the router of a configuration with a number, or none
 module _ (c : ConfigValue) (node : ℕ) where
-  pub entry_read : (place : ℕ) (r : Option (Bor RouterEntryValue)) → length c.servers ≤ node → place ≡ node - length c.servers → is_some r ≡ nat_lt place (length c.routers)
-      → ((d : RouterEntryValue) → unwrap_or (option_map (λ x. x.now) r) d ≡ slice_index_or c.routers place d) → option_map (λ x. x.now) r ≡ router_in c node
-  entry_read place (Some x) behind at there gives =
-      let low = ltb-true place (length c.routers) (sym there) in
-      let second = le-ltb node (length c.servers) behind in
-      let below = lt-ltb node (length c.servers + length c.routers) (omega (arith, low, at, behind)) in
-      let is : x.now ≡ router_at c node = at_place _ in
-      ap (λ (r : RouterEntryValue). Some r) is ∙ sym (λ i. if (if second i then false else below i) then Some (router_at c node) else None)
+  router_found : (entry : RouterEntryValue) → Some entry ≡ entry_at c node → (is_router c node ≡ true) × (entry ≡ router_at c node)
+  router_found entry at = by (nat_lt node (length c.servers)) refl at
     where
-      at_place : (d : RouterEntryValue) → x.now ≡ slice_index_or c.routers (node - length c.servers) d
-      at_place d = gives d ∙ ap (λ (k : ℕ). slice_index_or c.routers k d) at
-  entry_read place None behind at there gives =
-      let high = ltb-false place (length c.routers) (sym there) in
-      let second = le-ltb node (length c.servers) behind in
-      let past = le-ltb node (length c.servers + length c.routers) (omega (arith, high, at, behind)) in
-      sym (λ i. if (if second i then false else past i) then Some (router_at c node) else None)
+      by : (b : Bool) → nat_lt node (length c.servers) ≡ b → Some entry ≡ (if b then None else slice_get c.routers (node - length c.servers)) → (is_router c node ≡ true) × (entry ≡ router_at c node)
+      by true before is = absurd (none_is_some (sym is))
+      by false behind is =
+          let place = node - length c.servers in
+          let low = ltb-false node (length c.servers) behind in
+          let within = slice_get_within c.routers place entry (sym is) in
+          (rw (behind, lt-ltb node (length c.servers + length c.routers) (omega (arith, low, within))) refl, sym (get_or_from_slice_get c.routers place entry _ (sym is)))
 
-  pub entry_before : node < length c.servers → None ≡ router_in c node
-  entry_before before =
-      sym (ap (λ (b : Bool). if (if b then false else nat_lt node (length c.servers + length c.routers)) then Some (router_at c node) else None) (lt-ltb node (length c.servers) before))
+  router_missing : None ≡ entry_at c node → is_router c node ≡ false
+  router_missing at = by (nat_lt node (length c.servers)) refl at
+    where
+      past : length c.servers ≤ node → None ≡ slice_get c.routers (node - length c.servers) → length c.servers + length c.routers ≤ node
+      past low is = elim (cases_lt node (length c.servers + length c.routers)) [
+        | inl lt ↦ absurd (none_is_some (is ∙ (get_within c.routers (node - length c.servers) (omega (arith, low, lt))).1))
+        | inr le ↦ le
+      ]
+
+      by : (b : Bool) → nat_lt node (length c.servers) ≡ b → None ≡ (if b then None else slice_get c.routers (node - length c.servers)) → is_router c node ≡ false
+      by true before is = rw before refl
+      by false behind is = rw (behind, le-ltb node (length c.servers + length c.routers) (past (ltb-false node (length c.servers) behind) is)) refl
 
 -- a node that is missing: of the other kind, or there is none
 pub missing_wrong : (c : ConfigValue) (node : ℕ) (fault : WorldFault) → fault ≡ WrongKind → node < length c.servers + length c.routers → fault_text fault ≡ missing_text c node
@@ -212,24 +201,24 @@ module _ (w : WorldState) (c : ConfigValue) (node : ℕ) (text : List ℕ) (Told
   abbrev IsOfRouter : Opening → List Step → Type 0
   IsOfRouter o T = text ≡ (if is_router o.config node then of_router o T node (Told o T) else missing_text o.config node)
 
-  up_told : (entry : RouterEntryValue) (etr : EtrState) (Said : ConfigValue → Type 0) → Some entry ≡ router_in c node → Some etr ≡ etr_at w node → Said c
+  up_told : (entry : RouterEntryValue) (etr : EtrState) (Said : ConfigValue → Type 0) → Some entry ≡ entry_at c node → Some etr ≡ etr_at w node → Said c
       → ((o : Opening) (T : List Step) → Stands w o T → RouterTells o T node etr w.clock → entry ≡ router_at o.config node → Said o.config → text ≡ Told o T) → OfTraces w c IsOfRouter
   up_told entry etr Said found at said given =
-      of_config w c (λ (c : ConfigValue). (Some entry ≡ router_in c node) × Said c) IsOfRouter (found, said) (λ o T stand both.
+      of_config w c (λ (c : ConfigValue). (Some entry ≡ entry_at c node) × Said c) IsOfRouter (found, said) (λ o T stand both.
       let its = router_found o.config node entry both.0 in
       let tells = router_told w o T stand node etr at in
       given o T stand tells.1 its.1 both.1
       ∙ sym (ap (λ (b : Bool). if b then of_router o T node (Told o T) else missing_text o.config node) its.0 ∙ ap (λ (b : Bool). if b then Told o T else down_text o.config node) tells.0))
 
-  down_told : (entry : RouterEntryValue) → Some entry ≡ router_in c node → None ≡ etr_at w node → text ≡ down_text c node → OfTraces w c IsOfRouter
+  down_told : (entry : RouterEntryValue) → Some entry ≡ entry_at c node → None ≡ etr_at w node → text ≡ down_text c node → OfTraces w c IsOfRouter
   down_told entry found at is =
-      of_config w c (λ (c : ConfigValue). (Some entry ≡ router_in c node) × (text ≡ down_text c node)) IsOfRouter (found, is) (λ o T stand both.
+      of_config w c (λ (c : ConfigValue). (Some entry ≡ entry_at c node) × (text ≡ down_text c node)) IsOfRouter (found, is) (λ o T stand both.
       let its = router_found o.config node entry both.0 in
       both.1 ∙ sym (ap (λ (b : Bool). if b then of_router o T node (Told o T) else missing_text o.config node) its.0 ∙ ap (λ (b : Bool). if b then Told o T else down_text o.config node) (router_down w o T stand node its.0 at)))
 
-  none_told : None ≡ router_in c node → text ≡ missing_text c node → OfTraces w c IsOfRouter
+  none_told : None ≡ entry_at c node → text ≡ missing_text c node → OfTraces w c IsOfRouter
   none_told found is =
-      of_config w c (λ (c : ConfigValue). (None ≡ router_in c node) × (text ≡ missing_text c node)) IsOfRouter (found, is) (λ o T stand both.
+      of_config w c (λ (c : ConfigValue). (None ≡ entry_at c node) × (text ≡ missing_text c node)) IsOfRouter (found, is) (λ o T stand both.
       both.1 ∙ sym (ap (λ (b : Bool). if b then of_router o T node (Told o T) else missing_text o.config node) (router_missing o.config node both.0)))
 
 -- what a router counted from each of its Map-Servers
@@ -237,7 +226,7 @@ abbrev counts : ℕ → Opening → List Step → List ℕ
 counts router o T = flat_map (λ server. ack_text o.config router server (acked_parts T router server)) (router_at o.config router).servers
 
 pub acks_told : (w : WorldState) (c : ConfigValue) (router : ℕ) (entry : RouterEntryValue) (etr : EtrState) (listed : List ℕ) (text : List ℕ)
-    → Some entry ≡ router_in c router → Some etr ≡ etr_at w router → listed ≡ entry.servers
+    → Some entry ≡ entry_at c router → Some etr ≡ etr_at w router → listed ≡ entry.servers
     → ((counted : ℕ → List (Option (ℕ × ℕ))) → CountedFrom etr listed counted → text ≡ flat_map (λ server. ack_text c router server (counted server)) listed)
     → OfTraces w c (λ o T. Acknowledges o T router text)
 acks_told w c router entry etr listed text found at all lines =
@@ -246,10 +235,10 @@ acks_told w c router entry etr listed text found at all lines =
     said (acked_parts T router) (subst (λ (servers : List ℕ). CountedFrom etr servers (acked_parts T router)) (sym list) tells.acked)
     ∙ ap (flat_map (λ server. ack_text o.config router server (acked_parts T router server))) list)
 
-pub acks_down : (w : WorldState) (c : ConfigValue) (router : ℕ) (entry : RouterEntryValue) (text : List ℕ) → Some entry ≡ router_in c router → None ≡ etr_at w router → text ≡ down_text c router → OfTraces w c (λ o T. Acknowledges o T router text)
+pub acks_down : (w : WorldState) (c : ConfigValue) (router : ℕ) (entry : RouterEntryValue) (text : List ℕ) → Some entry ≡ entry_at c router → None ≡ etr_at w router → text ≡ down_text c router → OfTraces w c (λ o T. Acknowledges o T router text)
 acks_down w c router entry text found at is = down_told w c router text (counts router) entry found at is
 
-pub acks_missing : (w : WorldState) (c : ConfigValue) (router : ℕ) (text : List ℕ) → None ≡ router_in c router → text ≡ missing_text c router → OfTraces w c (λ o T. Acknowledges o T router text)
+pub acks_missing : (w : WorldState) (c : ConfigValue) (router : ℕ) (text : List ℕ) → None ≡ entry_at c router → text ≡ missing_text c router → OfTraces w c (λ o T. Acknowledges o T router text)
 acks_missing w c router text found is = none_told w c router text (counts router) found is
 
 -- which Map-Server is due to a router, and of which part
@@ -257,7 +246,7 @@ abbrev dues : ℕ → Opening → List Step → List ℕ
 dues node o T = due_text o.config node (due_server o.config (due_of (router_at o.config node).servers (first_part (due_part o T node) (router_at o.config node).servers)))
 
 pub due_up : (w : WorldState) (c : ConfigValue) (node : ℕ) (entry : RouterEntryValue) (etr : EtrState) (now : ℕ) (due : Option (ℕ × ℕ)) (listed : List ℕ) (text : List ℕ)
-    → Some entry ≡ router_in c node → Some etr ≡ etr_at w node → now ≡ w.clock → listed ≡ entry.servers → due ≡ due_in etr listed now → text ≡ due_text c node (due_server c due) → OfTraces w c (λ o T. IsDueAtRouter o T node text)
+    → Some entry ≡ entry_at c node → Some etr ≡ etr_at w node → now ≡ w.clock → listed ≡ entry.servers → due ≡ due_in etr listed now → text ≡ due_text c node (due_server c due) → OfTraces w c (λ o T. IsDueAtRouter o T node text)
 due_up w c node entry etr now due listed text found at moment all its is =
     up_told w c node text (dues node) entry etr (λ (c : ConfigValue). text ≡ due_text c node (due_server c due)) found at is (λ o T stand tells same said.
     let servers = all ∙ ap (λ (r : RouterEntryValue). r.servers) same in
@@ -265,8 +254,8 @@ due_up w c node entry etr now due listed text found at moment all its is =
     its ∙ ap (λ (n : ℕ). due_in etr listed n) moment ∙ ap (λ (list : List ℕ). due_in etr list w.clock) servers ∙ ap (due_of (router_at o.config node).servers) tells.due in
     said ∙ ap (λ (d : Option (ℕ × ℕ)). due_text o.config node (due_server o.config d)) first)
 
-pub due_down : (w : WorldState) (c : ConfigValue) (node : ℕ) (entry : RouterEntryValue) (text : List ℕ) → Some entry ≡ router_in c node → None ≡ etr_at w node → text ≡ down_text c node → OfTraces w c (λ o T. IsDueAtRouter o T node text)
+pub due_down : (w : WorldState) (c : ConfigValue) (node : ℕ) (entry : RouterEntryValue) (text : List ℕ) → Some entry ≡ entry_at c node → None ≡ etr_at w node → text ≡ down_text c node → OfTraces w c (λ o T. IsDueAtRouter o T node text)
 due_down w c node entry text found at is = down_told w c node text (dues node) entry found at is
 
-pub due_missing : (w : WorldState) (c : ConfigValue) (node : ℕ) (text : List ℕ) → None ≡ router_in c node → text ≡ missing_text c node → OfTraces w c (λ o T. IsDueAtRouter o T node text)
+pub due_missing : (w : WorldState) (c : ConfigValue) (node : ℕ) (text : List ℕ) → None ≡ entry_at c node → text ≡ missing_text c node → OfTraces w c (λ o T. IsDueAtRouter o T node text)
 due_missing w c node text found is = none_told w c node text (dues node) found is

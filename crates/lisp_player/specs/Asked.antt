@@ -89,7 +89,3 @@ OfTraces w c P = (o : Opening) (T : List Step) → Stands w o T → o.config ≡
 -- a text, where there is one, says this of each such trace
 abbrev pub SaysOfTraces : {E Z : Type 0} → Result (String Z) E → WorldState → ConfigValue → (Opening → List Step → List ℕ → Type 0) → Type 0
 SaysOfTraces result w c P = IfOk result (λ text. OfTraces w c (λ o T. P o T (string_bytes text)))
-
--- the router of a configuration with a number
-abbrev pub router_in : ConfigValue → ℕ → Option RouterEntryValue
-router_in c node = if is_router c node then Some (router_at c node) else None

@@ -1,9 +1,8 @@
 //! The text of what is asked of a node.
 
 ghost use Rattle.std.specs.Prelude.{◌≡◌, IfOk, OnErr};
-ghost use Rattle.std.specs.Option.{option_map};
 ghost use Rattle.std.specs.String.{string_bytes};
-ghost use Rattle.lisp_player.specs.Asked.{Acknowledges, Asks, Holds, IsDue, IsDueAtRouter, SaysOfTraces, fault_text, missing_text, router_in};
+ghost use Rattle.lisp_player.specs.Asked.{Acknowledges, Asks, Holds, IsDue, IsDueAtRouter, SaysOfTraces, fault_text, missing_text};
 
 use lisp_lines::{
     DatagramPlace, RouterQuestion, ServerQuestion, line_text, router_answer, server_answer,
@@ -12,7 +11,7 @@ use lisp_memory::{FallibleString, Memory};
 use lisp_model::Line;
 use lisp_nonces::WorldStore;
 use lisp_records::Addr;
-use lisp_sites::{Config, RouterEntry};
+use lisp_sites::Config;
 use lisp_world::{World, WorldFault};
 use std::alloc::{AllocError, Allocator};
 
@@ -73,7 +72,7 @@ pub(crate) fn ack_lines<S: WorldStore, A: Memory + Copy, E: Allocator>(
     ensures told { SaysOfTraces result world.now config.now (λ o T. Acknowledges o T router) }
     ensures memory { OnErr result A.may_refuse }
 {
-    let Some(entry) = router_entry(config, router) else {
+    let Some(entry) = config.router(router) else {
         return missing_line(alloc, config, router);
     };
     match world.router(router) {
@@ -123,7 +122,7 @@ fn due_at_router<S: WorldStore, A: Memory + Copy, E: Allocator>(
     ensures told { SaysOfTraces result world.now config.now (λ o T. IsDueAtRouter o T node) }
     ensures memory { OnErr result A.may_refuse }
 {
-    let Some(entry) = router_entry(config, node) else {
+    let Some(entry) = config.router(node) else {
         return missing_line(alloc, config, node);
     };
     match world.router(node) {
@@ -143,14 +142,6 @@ fn due_at_router<S: WorldStore, A: Memory + Copy, E: Allocator>(
             DatagramPlace::Shown,
         ),
     }
-}
-
-// The router of a configuration with a number.
-fn router_entry<E: Allocator>(config: &Config<E>, node: usize) -> Option<&RouterEntry<E>>
-    ensures { option_map (λ r. r.now) result ≡ router_in config.now node }
-{
-    let place = node.checked_sub(config.servers().len())?;
-    config.routers().get(place)
 }
 
 // The line for a node that isn't there, or is of the other kind.
