@@ -1,7 +1,7 @@
 -- What a node that runs answers its user.
-use Rattle.std.specs.Prelude.{◌≡◌, ℕ, ◌-◌, nat_lt, List, [], ◌∷◌, ◌++◌, length, codes, slice_get, Option, Some, None, Result, Ok, Err, if◌then◌else◌}
+use Rattle.std.specs.Prelude.{◌≡◌, ℕ, List, [], ◌∷◌, ◌++◌, length, codes, Option, Some, None, Result, Ok, Err}
 use Rattle.std.specs.Fmt.{decimal}
-use Rattle.lisp_policy.specs.Configuration.{ConfigValue, RouterEntryValue}
+use Rattle.lisp_policy.specs.Configuration.{ConfigValue}
 use Rattle.lisp_model.specs.Faults.{world_fault_number}
 use Rattle.lisp_model.specs.declared.line.Line.{Line}
 use Rattle.lisp_model.specs.declared.line.Line.TheVariants.{Down}
@@ -12,6 +12,7 @@ use Rattle.lisp_script.specs.declared.fault.ScriptWhat.TheVariants.{Word}
 use Rattle.lisp_etr.specs.Etr.{EtrState}
 use Rattle.lisp_server.specs.Server.{ServerState}
 use Rattle.lisp_lines.specs.Line.{line_text}
+use Rattle.lisp_sites.specs.Numbers.{servers_of}
 use Rattle.lisp_lines.specs.Name.{node_name}
 use Rattle.lisp_statistics.specs.Counts.{counts_text}
 use Rattle.lisp_statistics.specs.declared.counts.Format.{Format}
@@ -37,15 +38,6 @@ fault_text what = numbered (what_number what)
 abbrev pub outcome_text : ConfigValue → Result Line WorldFault → List ℕ
 outcome_text c (Ok line) = line_text c Hidden line
 outcome_text c (Err fault) = numbered (world_fault_number fault)
-
--- the Map-Servers of a router
-abbrev pub servers_in : Option RouterEntryValue → List ℕ
-servers_in (Some router) = router.servers
-servers_in None = []
-
--- those that the node with a number registers with; a Map-Server registers with none
-abbrev pub servers_of : ConfigValue → ℕ → List ℕ
-servers_of c number = if nat_lt number (length c.servers) then [] else servers_in (slice_get c.routers (number - length c.servers))
 
 -- what a node has: a Map-Server its rows, their sites, its notices and the runs of replays that last, a
 -- router its records; and either its longest save

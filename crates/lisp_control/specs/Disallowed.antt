@@ -1,22 +1,20 @@
 -- Which records a router's site doesn't allow, by the configuration: a Map-Server refuses them.
-use Rattle.std.specs.Prelude.{ℕ, ◌-◌, nat_lt, Bool, false, not, List, [], ◌∷◌, ◌++◌, length, map, codes, slice_get, Option, Some, None, if◌then◌else◌}
+use Rattle.std.specs.Prelude.{ℕ, Bool, false, not, List, [], ◌∷◌, ◌++◌, length, map, codes, Option, Some, None}
 use Rattle.std.specs.Fmt.{decimal}
 use Rattle.std.specs.List.{filter, flat_map}
 use Rattle.std.specs.Option.{option_and_then}
 use Rattle.lisp_records.specs.Address.{PrefixValue}
 use Rattle.lisp_records.specs.Record.{MapRecordValue}
-use Rattle.lisp_policy.specs.Configuration.{ConfigValue, RouterEntryValue}
+use Rattle.lisp_policy.specs.Configuration.{ConfigValue}
 use Rattle.lisp_policy.specs.Site.{SiteValue, is_allowed}
 use Rattle.lisp_policy.specs.Site.{site_of as site_with_id}
 use Rattle.lisp_texts.specs.Written.{prefix_text}
+use Rattle.lisp_sites.specs.Numbers.{router_at}
 use Rattle.lisp_lines.specs.Name.{node_name}
 
--- the site of the router with a number; Map-Servers, which come first, have none
-abbrev pub router_of : ConfigValue → ℕ → Option RouterEntryValue
-router_of c number = if nat_lt number (length c.servers) then None else slice_get c.routers (number - length c.servers)
-
+-- the site of the router with a number; Map-Servers have none
 abbrev pub site_of : ConfigValue → ℕ → Option SiteValue
-site_of c number = option_and_then (λ r. site_with_id c.sites r.me.site) (router_of c number)
+site_of c number = option_and_then (λ r. site_with_id c.sites r.me.site) (router_at c number)
 
 -- no site allows nothing
 abbrev pub is_allowed_by : Option SiteValue → PrefixValue → Bool

@@ -3,7 +3,7 @@
 ghost use Rattle.std.specs.Prelude.{◌≡◌, IfOk, OnErr};
 ghost use Rattle.std.specs.Option.{option_map};
 ghost use Rattle.std.specs.String.{string_bytes};
-ghost use Rattle.lisp_control.specs.Answer.{AnswersRouter, fault_text, gauge, numbered, outcome_text, router_counts, servers_of};
+ghost use Rattle.lisp_control.specs.Answer.{AnswersRouter, fault_text, gauge, numbered, outcome_text, router_counts};
 ghost use Rattle.lisp_control.specs.Part.{told_server};
 
 use crate::disallowed::disallowed_text;
@@ -38,7 +38,7 @@ pub(crate) fn router_text(
 {
     match (question, core) {
         (Question::Router(question), Some(core)) => {
-            let servers = servers_of(config, number);
+            let servers = config.servers_of(number);
             router_answer(alloc, config, number, servers, core, *question, now)
         }
         (Question::Router(_), None) => {
@@ -132,20 +132,6 @@ pub fn fault_text(alloc: Global, what: ScriptWhat) -> Result<String, AllocError>
     ensures memory { OnErr result ⟦<Global as Memory>⟧.may_refuse }
 {
     numbered(alloc, what.number())
-}
-
-// The Map-Servers that the node with a number registers with; a Map-Server registers with none.
-fn servers_of(config: &Config, number: usize) -> &[usize]
-    ensures { result.now ≡ servers_of config.now number }
-{
-    let servers = config.servers().len();
-    if number < servers {
-        return &[];
-    }
-    match config.routers().get(number - servers) {
-        Some(router) => router.servers.as_slice(),
-        None => &[],
-    }
 }
 
 // The line of a fault with a number.

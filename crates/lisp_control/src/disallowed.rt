@@ -74,14 +74,8 @@ fn is_allowed_by(site: Option<&Site>, eid: &Prefix) -> bool
 fn site_of(config: &Config, number: usize) -> Option<&Site>
     ensures { option_map (λ s. s.now) result ≡ site_of config.now number }
 {
-    let servers = config.servers().len();
-    if number < servers {
-        return None;
-    }
-    match config.routers().get(number - servers) {
-        Some(router) => config.sites().site(router.me.site),
-        None => None,
-    }
+    let router = config.router(number)?;
+    config.sites().site(router.me.site)
 }
 
 // The line before the EID-Prefixes: how many they are.

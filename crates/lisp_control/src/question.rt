@@ -58,7 +58,7 @@ impl Question {
 fn due_at(config: &Config, number: usize) -> Question
     ensures { result ≡ due_at config.now number }
 {
-    if number < config.servers().len() {
+    if config.is_server(number) {
         Question::Server(ServerQuestion::Due)
     } else {
         Question::Router(RouterQuestion::Due)
