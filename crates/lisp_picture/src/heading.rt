@@ -10,7 +10,7 @@ use crate::wrap::Lines;
 use lisp_lines::node_name;
 use lisp_memory::{FallibleString, Memory};
 use lisp_player::History;
-use lisp_sites::Config;
+use lisp_sites::{Config, ConfigNode};
 use lisp_texts::addr_to_text;
 use std::alloc::{AllocError, Allocator};
 
@@ -149,14 +149,12 @@ pub(crate) fn kind_text<A: Memory + Copy>(
 ) -> Result<String<A>, AllocError>
     ensures memory { OnErr result A.may_refuse }
 {
-    if let Some(server) = config.servers().get(node) {
-        let address = addr_to_text(alloc, &server.address)?;
-        return String::try_format(alloc, format_args!("Map-Server {address}"));
-    }
-    let place = node.saturating_sub(config.servers().len());
-    let Some(router) = config.routers().get(place) else {
+    let Some(node) = config.node(node) else {
         return Ok(String::new(alloc));
     };
-    let address = addr_to_text(alloc, &router.address)?;
-    String::try_format(alloc, format_args!("router {address}"))
+    let address = addr_to_text(alloc, node.address())?;
+    match node {
+        ConfigNode::Server(_) => String::try_format(alloc, format_args!("Map-Server {address}")),
+        ConfigNode::Router(_) => String::try_format(alloc, format_args!("router {address}")),
+    }
 }
