@@ -3,5 +3,4 @@ pub mod Written
 pub mod Places
 pub mod Sending
 pub mod Taken
-pub mod Names
 pub mod Bound

@@ -3,7 +3,7 @@ use Rattle.std.specs.Prelude.{◌≡◌, ◌⊎◌, ℕ, ◌<◌, ◌≤◌, Lis
 use Rattle.lisp_policy.specs.Configuration.{ConfigValue}
 use Rattle.lisp_script.specs.RunFault.{numbered}
 use Rattle.lisp_script.specs.declared.run_fault.RunFault.{RunFault}
-use Rattle.lisp_udp.specs.Nodes.{IsNode, name_at, NoneNamed}
+use Rattle.lisp_sites.specs.Numbers.{IsNode, name_at, NoneNamed}
 use Rattle.lisp_udp.specs.declared.entry.NodeKind.{NodeKind}
 use Rattle.lisp_udp.specs.declared.entry.NodeKind.TheVariants as kinds
 

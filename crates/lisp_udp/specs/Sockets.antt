@@ -5,7 +5,7 @@ use Rattle.lisp_records.specs.declared.address.Addr.{Addr}
 use Rattle.lisp_refinement.specs.World.{DatagramValue}
 use Rattle.lisp_turns.specs.Outside.{Call, OutsideState, Logs, Receives, Sends, Reception, Datagram, Nothing, Failed}
 use Rattle.lisp_turns.specs.declared.outside.SocketCall.TheVariants as calls
-use Rattle.lisp_udp.specs.Nodes.{node_count, name_at, address_at}
+use Rattle.lisp_sites.specs.Numbers.{node_count, name_at, address_at}
 use Rattle.lisp_udp.specs.Printing.{failed_text, lost_text}
 
 -- the socket of a node, with the node's name and address

@@ -2,7 +2,7 @@
 
 ghost use Rattle.std.specs.Prelude.{◌≡◌, ◌↔◌, ◌++◌, ◌∷◌, [], None, false, IsTrue, IfOk, IfSome, OnOk, OnErr};
 ghost use Rattle.lisp_turns.specs.Outside.{Receives, Reception, FitsBuffer, reception};
-ghost use Rattle.lisp_udp.specs.Nodes.{IsNode};
+ghost use Rattle.lisp_sites.specs.Numbers.{IsNode};
 ghost use Rattle.lisp_udp.specs.Arrivals.{IsArrival, IsArrivalOf};
 ghost use Rattle.lisp_udp.specs.Printing.{WritesTold, CutsTold};
 ghost use Rattle.lisp_udp.specs.Sockets.{SocketValue, IsSocketAt, AreSockets, IsNowhere, IsPlaceOf, Asks, ArrivesAt, SendsAt, TellsArrival, SendsOne};

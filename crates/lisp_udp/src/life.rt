@@ -4,7 +4,7 @@ ghost use Rattle.std.specs.Prelude.{◌≡◌, Err, IsErr, IfOk, IfErr, OnOk};
 ghost use Rattle.lisp_nonces.specs.Store.{StoreState};
 ghost use Rattle.lisp_turns.specs.Beginning.{Begins};
 ghost use Rattle.lisp_turns.specs.Node.{IsPlaced};
-ghost use Rattle.lisp_udp.specs.Nodes.{IsNode};
+ghost use Rattle.lisp_sites.specs.Numbers.{IsNode};
 ghost use Rattle.lisp_udp.specs.Running.{RunsOver, TakesItsTurns};
 
 use crate::router::start_router;
@@ -41,7 +41,7 @@ pub(crate) fn run_over<S: WorldStore + Drop, O: Endpoint + Clock + Commit + Line
         (S.seen store) places turns outside result }
     ensures device { IfErr outside (λ fault. IsErr result) }
 {
-    if number < config.servers().len() {
+    if config.is_server(number) {
         let server = start_server(alloc, config, number, store);
         run_at(alloc, config, number, server, places, turns, outside)
     } else {

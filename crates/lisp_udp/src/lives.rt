@@ -3,7 +3,7 @@
 ghost use Rattle.std.specs.Prelude.{IfOk};
 ghost use Rattle.lisp_database_store.specs.Keeper.{shared_store};
 ghost use Rattle.lisp_udp.specs.Lives.{Lives, SaysRestarted};
-ghost use Rattle.lisp_udp.specs.Nodes.{IsMapServer};
+ghost use Rattle.lisp_sites.specs.Numbers.{IsMapServer};
 
 use crate::life::{Life, run_over};
 use lisp_database_store::{SharedDatabase, SystemTable};

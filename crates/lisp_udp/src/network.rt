@@ -4,7 +4,7 @@ ghost use Rattle.std.specs.Prelude.{◌≡◌, IfOk, OnOk, length, map, drop};
 ghost use Rattle.lisp_player.specs.Playing.{Wrote};
 ghost use Rattle.lisp_script.specs.Command.{command_value};
 ghost use Rattle.lisp_udp.specs.Network.{awaited, TellsAwaited, SendsAll, TakesAll, TakesCommand};
-ghost use Rattle.lisp_udp.specs.Nodes.{node_count};
+ghost use Rattle.lisp_sites.specs.Numbers.{node_count};
 ghost use Rattle.lisp_udp.specs.Printing.{WritesTold};
 
 use crate::datagrams::Sockets;

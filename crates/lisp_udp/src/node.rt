@@ -1,12 +1,12 @@
 //! A node of either kind that runs: a Map-Server or a site router, on its socket and over its folder.
 
 ghost use Rattle.std.specs.Prelude.{◌≡◌, None};
-ghost use Rattle.lisp_udp.specs.Nodes.{IsMapServer, IsNode};
+ghost use Rattle.lisp_sites.specs.Numbers.{IsMapServer, IsNode};
 
 use crate::connection::AskedNode;
 use crate::control::ControlSocket;
 use crate::devices::Devices;
-use crate::entry::{NodeKind, entry_at, number_named, servers_of};
+use crate::entry::{NodeKind, entry_at, number_named};
 use crate::folder::open_folder;
 use crate::group::Group;
 use crate::journal::Journal;
@@ -114,7 +114,7 @@ fn keep_in<T: SystemTable>(
     let folder = open_folder(rt, node.dir, name)?;
     let mut store = folder.open_store::<T>(rt, node.storage, &failure)?;
     let pairs = folder.pairs(rt, &mut store, is_known)?;
-    let servers = servers_of(config, number);
+    let servers = config.servers_of(number);
     let control = folder.control(rt, node.control, asked_node(rt, config, number, name));
     let journal = Journal::open(rt, config, name, servers, pairs, &failure)?;
     run_in_store(
@@ -160,7 +160,7 @@ fn run_in_store<T: SystemTable, P: Printer + Drop>(
     requires { IsNode config.now number }
 {
     let saves = SaveTimes::new(rt);
-    let is_server = number < config.servers().len();
+    let is_server = config.is_server(number);
     match store {
         NodeStore::Files(store) => run_alone::<T, _, P>(
             rt, config, number, store, &saves, control, turns, printer,

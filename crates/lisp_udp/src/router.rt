@@ -3,7 +3,7 @@
 ghost use Rattle.std.specs.Prelude.{◌≤◌, ◌<◌, IfOk, length};
 ghost use Rattle.lisp_turns.specs.Beginning.{Begins};
 ghost use Rattle.lisp_turns.specs.Node.{Router};
-ghost use Rattle.lisp_udp.specs.Nodes.{node_count};
+ghost use Rattle.lisp_sites.specs.Numbers.{node_count};
 ghost use Rattle.lisp_world.specs.Making.{HasStarted};
 
 use crate::entry::NodeKind;
