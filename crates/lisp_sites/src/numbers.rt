@@ -75,7 +75,8 @@ impl<A: Allocator> Config<A> {
     /// The number of the node with a name.
     pub fn number(&self, name: &str) -> Option<usize>
         ensures number { result ≡ number_of self.now name.now }
-        ensures named { MatchOption result (NoneNamed self.now name.now) (HasName self.now name.now) }
+        ensures named { MatchOption result (NoneNamed self.now name.now)
+            (HasName self.now name.now) }
     {
         match self.server_number(name) {
             Some(number) => Some(number),
