@@ -352,6 +352,37 @@ def a_list_by_parts(here):
     killed(process)
 
 
+def routers_by_parts(here):
+    """As many routers as a part has come at once, by xTR-ID; more come by parts, each once, and then the runs of replays."""
+    process = up(here, "server", "s1", here.s1)
+    with peer(here.r1) as it:
+        def send(router):
+            check("its answer", nonce_in(here.answer(it, map_register(router, xtr=1000 + router))), router)
+
+        def check_routers(name, first, routers, *last):
+            status, text, wrongs = ask(here, "s1", "routers")
+            lines = re.sub(r" age \d+", "", text).splitlines()
+            check(name, (status, lines[0], wrongs), (0, first, ""))
+            wanted = [f"router other from {here.r1} key 1 nonce {router} rows 1" for router in routers]
+            check(f"{name}, each once", lines[1:], [*wanted, *last])
+
+        for router in range(2, 514, 2):
+            send(router)
+        check_routers("256 routers", "routers s1 256", range(2, 514, 2))
+        for router in (514, 1, 513):
+            send(router)
+        routers = [1, *range(2, 514, 2), 513, 514]
+        check_routers("three more", "routers s1 by parts", routers, "listed s1 259")
+        for router in range(3, 511, 2):
+            send(router)
+        check_routers("513 routers", "routers s1 by parts", [*range(1, 511), 512, 513, 514], "listed s1 513")
+        it.sendto(map_register(2, xtr=1002), (here.s1, PORT))
+        check("a replay", until(lambda: "replays " in ask(here, "s1", "routers")[1]), True)
+        check_routers("513 routers and a run", "routers s1 by parts", [*range(1, 511), 512, 513, 514],
+                      f"replays s1 from {here.r1} times 1 saved 2", "listed s1 514")
+    killed(process)
+
+
 def rows_that_come_meanwhile(here):
     """A list by parts that is asked for while rows come and are registered again has each row that stays, once."""
     process = up(here, "server", "s1", here.s1)
@@ -599,7 +630,7 @@ def a_killed_process_leaves_its_socket(here):
 run_tests([
     *(over(store, test) for store in (FILES, GROUPS) for test in (a_map_server_is_asked, a_map_server_is_told, what_is_counted)),
     who_is_refused_as_replaying, a_router_is_told, records_that_are_not_allowed, an_older_node, a_router_that_is_down, advice, wrong_words,
-    an_answer_that_is_a_fault, a_list_by_parts, a_list_that_is_cut, a_node_under_its_unit, another_user_is_refused,
+    an_answer_that_is_a_fault, a_list_by_parts, routers_by_parts, a_list_that_is_cut, a_node_under_its_unit, another_user_is_refused,
     a_group_asks_under_the_drop_in, a_socket_in_another_folder, a_socket_that_can_not_be_made, a_socket_that_was_removed,
     a_killed_process_leaves_its_socket,
 ], alone=[clients_that_misbehave, rows_that_come_meanwhile, a_client_that_takes_nothing_of_many_rows])

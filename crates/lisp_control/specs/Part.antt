@@ -17,9 +17,11 @@ use Rattle.lisp_lines.specs.declared.server.ServerQuestion.TheVariants.{Hold}
 use Rattle.lisp_lines.specs.declared.walk.Walk.{Walk}
 use Rattle.lisp_statistics.specs.Gathering.{Counted, Gathers, StaysExact}
 use Rattle.lisp_statistics.specs.Replays.{replay_count}
+use Rattle.lisp_statistics.specs.RouterList.{ListsRouters, is_long_list, list_start, listed_text, routers_by_parts}
 use Rattle.lisp_statistics.specs.Routers.{routers_counted_text}
 use Rattle.lisp_statistics.specs.declared.counts.Format.{Format}
 use Rattle.lisp_statistics.specs.declared.gathering.Gathering.{Gathering}
+use Rattle.lisp_statistics.specs.declared.router_list.RouterList.{RouterList}
 use Rattle.lisp_statistics.specs.declared.statistics.Statistics.{Statistics}
 use Rattle.lisp_turns.specs.Node.{CoreState, ServerCore, RouterCore}
 use Rattle.lisp_control.specs.Answer.{AnswersRouter, fault_text, server_gauges, told_counts}
@@ -55,31 +57,48 @@ abbrev pub IsCountedSoFar : Progress → ℕ → Gathering Global → Type 0
 IsCountedSoFar (progresses.Counts rows) now old = old ≡ rows
 IsCountedSoFar _ now old = (old.walk ≡ walk_start now) × Counted old []
 
--- where all rows are counted a text has their counts; before that there is none
-pub record CountsPart (core : ServerState) (progress : Progress) (now : ℕ) (counted_text : Gathering Global → List ℕ) (text : List ℕ) (rest : Option Progress) : Type 0 where
+-- where all rows are counted the answer goes on by these counts; before that there is no text
+pub record CountsPart (core : ServerState) (progress : Progress) (now : ℕ) (GoesOn : Gathering Global → List ℕ → Option Progress → Type 0) (text : List ℕ) (rest : Option Progress) : Type 0 where
   pub old : Gathering Global
   pub new : Gathering Global
   pub is_end : Bool
   pub so_far : IsCountedSoFar progress now old
   pub counts : Gathers core.rows old new is_end
   pub exact : StaysExact core.rows old new is_end
-  pub told : MatchBool is_end ((text ≡ counted_text new) × (rest ≡ None)) ((text ≡ []) × (rest ≡ Some (progresses.Counts new)))
+  pub told : MatchBool is_end (GoesOn new text rest) ((text ≡ []) × (rest ≡ Some (progresses.Counts new)))
 
 -- the routers that it heard, with their rows; and its runs of replays
 abbrev pub told_routers : {A : Type 0} → ConfigValue → ℕ → Statistics A → List Replay → ℕ → Gathering Global → List ℕ
 told_routers c number s runs now rows = routers_counted_text c number now rows.routers s.heard.entries runs
 
+-- few routers and runs come at once; before more a line says that they come by parts
+abbrev pub BeginsRouters : {A : Type 0} → ConfigValue → ℕ → Statistics A → List Replay → ℕ → Gathering Global → List ℕ → Option Progress → Type 0
+BeginsRouters c number s runs now rows text rest =
+    MatchBool (is_long_list s.heard.entries runs) ((text ≡ routers_by_parts (node_name c number)) × (rest ≡ Some (progresses.Routers (list_start rows)))) ((text ≡ told_routers c number s runs now rows) × (rest ≡ None))
+
+-- the next of them come, and with the last ones the runs, and the line that says how many lines came
+abbrev pub GoesOnRouters : {A : Type 0} → ConfigValue → ℕ → Statistics A → List Replay → RouterList Global → List ℕ → Option Progress → Type 0
+GoesOnRouters c number s runs old text rest = (new : RouterList Global) × (is_end : Bool) × ListsRouters c number (listed_text c old.rows) s.heard.entries runs old new text is_end
+    × (rest ≡ (if is_end then None else Some (progresses.Routers new)))
+
+abbrev pub HeardPart : {A : Type 0} → ConfigValue → ℕ → ServerState → Statistics A → List Replay → Progress → ℕ → List ℕ → Option Progress → Type 0
+HeardPart c number core s runs (progresses.Routers list) now text rest = GoesOnRouters c number s runs list text rest
+HeardPart c number core s runs progress now text rest = CountsPart core progress now (BeginsRouters c number s runs now) text rest
+
 -- what is counted of it, and what it has
 abbrev pub told_server : {A : Type 0} → ConfigValue → ℕ → ServerState → Statistics A → List Replay → Format → ℕ → Gathering Global → List ℕ
 told_server c number core s runs format now rows = told_counts c number s format (server_gauges rows core (replay_count now runs) s.longest_save)
+
+abbrev pub TellsCounts : {A : Type 0} → ConfigValue → ℕ → ServerState → Statistics A → List Replay → Format → ℕ → Gathering Global → List ℕ → Option Progress → Type 0
+TellsCounts c number core s runs format now rows text rest = (text ≡ told_server c number core s runs format now rows) × (rest ≡ None)
 
 -- ---- a part of an answer, and how far the answer is then
 
 abbrev pub ServerPart : {A : Type 0} → ConfigValue → ℕ → ServerState → Statistics A → List Replay → Question → Progress → ℕ → List ℕ → Option Progress → Type 0
 ServerPart c number core s runs (questions.Server Hold) progress now text rest = HoldPart c number core progress now text rest
 ServerPart c number core s runs (questions.Server question) progress now text rest = TellsServer Global c number core question now text × (rest ≡ None)
-ServerPart c number core s runs questions.Routers progress now text rest = CountsPart core progress now (told_routers c number s runs now) text rest
-ServerPart c number core s runs (questions.Counts format) progress now text rest = CountsPart core progress now (told_server c number core s runs format now) text rest
+ServerPart c number core s runs questions.Routers progress now text rest = HeardPart c number core s runs progress now text rest
+ServerPart c number core s runs (questions.Counts format) progress now text rest = CountsPart core progress now (TellsCounts c number core s runs format now) text rest
 ServerPart c number core s runs _ progress now text rest = (text ≡ fault_text Word) × (rest ≡ None)
 
 -- by the core of the node with a number at a moment, by what is counted of it, and by its runs of replays

@@ -11,8 +11,10 @@
 //!   It is answered by the site alone: whether a Map-Server has another configuration only the operator knows, who has
 //!   `--force`.
 //! - What a node does on an order isn't written into the configuration: that is the operator's file.
-//! - The moment of the question serves all parts of its answer. The text of `routers` is made in one turn, since it grows with
-//!   the routers and not with the rows.
+//! - The moment of the question serves all parts of an answer that comes by parts, so that the ages in it are of one moment: a router
+//!   that is heard meanwhile has the age 0.
+//! - `routers` counts all rows before its first line, since a router's line has its rows. Its lines come by parts too: how many they are
+//!   depends on who registers.
 #![tactic(auto)]
 
 mod answer;

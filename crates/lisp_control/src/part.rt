@@ -1,10 +1,10 @@
-//! What a node that runs answers its user, part by part: a turn of the node makes one part, which lists 256 rows at most, or counts 512.
-//! Where all rows are counted, the last part has a line for each router that was heard, or the counts; any other answer is one part.
+//! What a node that runs answers its user, part by part: a turn of the node makes one part, which lists 256 rows or routers at most, or
+//! counts 512 rows. Where all rows are counted, the routers that were heard follow, or the counts; any other answer is one part.
 
 ghost use Rattle.std.specs.Prelude.{◌≡◌, [], Some, None, IfOk, OnErr};
 ghost use Rattle.std.specs.String.{string_bytes};
 ghost use Rattle.lisp_turns.specs.Node.{core_value};
-ghost use Rattle.lisp_control.specs.Part.{AnswersPart, BeginsHold, CountsPart, GoesOnHold, HoldPart, IsCountedSoFar, ServerPart, told_routers, told_server};
+ghost use Rattle.lisp_control.specs.Part.{AnswersPart, BeginsHold, BeginsRouters, CountsPart, GoesOnHold, GoesOnRouters, HeardPart, HoldPart, IsCountedSoFar, ServerPart, TellsCounts};
 ghost use Rattle.lisp_control.specs.declared.part.Progress.TheVariants as progresses;
 
 use crate::answer::{fault_text, router_text, server_counts};
@@ -17,7 +17,10 @@ use lisp_memory::Memory;
 use lisp_script::ScriptWhat;
 use lisp_server::Server;
 use lisp_sites::Config;
-use lisp_statistics::{Format, Gathering, Statistics, routers_text};
+use lisp_statistics::{
+    Format, Gathering, RouterList, RoutersPart, Statistics, is_long_list, next_routers,
+    routers_by_parts, routers_text,
+};
 use lisp_turns::NodeCore;
 use std::alloc::{AllocError, Global};
 
@@ -30,6 +33,8 @@ pub enum Progress {
     Counts(Gathering),
     /// They are listed.
     Lists(Walk),
+    /// The routers that the Map-Server heard are listed, with the rows that were counted of each.
+    Routers(RouterList),
 }
 
 /// A part of an answer.
@@ -44,8 +49,9 @@ pub struct Part {
 /// The next part of the answer to a question to the node with a number, by its core at a moment, in ms, what
 /// is counted of it, and the runs of Map-Registers that it refuses as replays: those of a schedule, where it
 /// has some. Where a Map-Server holds more than 256 rows, `hold` is a line that says that they come by parts,
-/// then parts of 256 rows, then a line that says how many came; `routers` and `counts` are made once all rows
-/// are counted, 512 in a part. All other answers have one part. A router that is down says so; a question for
+/// then parts of 256 rows, then a line that says how many came. `routers` and `counts` are made once all rows
+/// are counted, 512 in a part; where the routers that were heard and the runs are more than 256, `routers` comes
+/// by parts as `hold` does. All other answers have one part. A router that is down says so; a question for
 /// a node of the other kind, and what is an order, is the fault 80.
 pub fn answer_part(
     alloc: Global,
@@ -172,7 +178,7 @@ fn rows_part(
     })
 }
 
-// The routers that a Map-Server heard, once its rows are counted.
+// The next part of the routers that a Map-Server heard.
 fn routers_part(
     alloc: Global,
     config: &Config,
@@ -183,8 +189,29 @@ fn routers_part(
     progress: Progress,
     now: u64,
 ) -> Result<Part, AllocError>
+    ensures told { IfOk result (λ part. HeardPart config.now number core.now
+        statistics.now runs.now progress now (string_bytes part.text) part.rest) }
+    ensures memory { OnErr result ⟦<Global as Memory>⟧.may_refuse }
+{
+    match progress {
+        Progress::Routers(list) => list_part(alloc, config, number, statistics, runs, list),
+        _ => counted_part(alloc, config, number, core, statistics, runs, progress, now),
+    }
+}
+
+// The routers, where they are few, once the rows are counted; else that they come by parts.
+fn counted_part(
+    alloc: Global,
+    config: &Config,
+    number: usize,
+    core: &Server,
+    statistics: &Statistics,
+    runs: &[Replay],
+    progress: Progress,
+    now: u64,
+) -> Result<Part, AllocError>
     ensures told { IfOk result (λ part. CountsPart core.now progress now
-        (told_routers config.now number statistics.now runs.now now)
+        (BeginsRouters config.now number statistics.now runs.now now)
         (string_bytes part.text) part.rest) }
     ensures memory { OnErr result ⟦<Global as Memory>⟧.may_refuse }
 {
@@ -192,8 +219,55 @@ fn routers_part(
     if !rows.gather(core)? {
         return Ok(counting(alloc, rows));
     }
-    let text = routers_text(alloc, config, number, statistics, runs, &rows, now)?;
-    Ok(last(text))
+    first_list_part(alloc, config, number, statistics, runs, rows, now)
+}
+
+// All routers that a Map-Server heard, where they are few; else that they come by parts.
+fn first_list_part(
+    alloc: Global,
+    config: &Config,
+    number: usize,
+    statistics: &Statistics,
+    runs: &[Replay],
+    rows: Gathering,
+    now: u64,
+) -> Result<Part, AllocError>
+    ensures told { IfOk result (λ part. BeginsRouters config.now number statistics.now
+        runs.now now rows (string_bytes part.text) part.rest) }
+    ensures memory { OnErr result ⟦<Global as Memory>⟧.may_refuse }
+{
+    if is_long_list(statistics, runs) {
+        let text = routers_by_parts(alloc, config, number)?;
+        let rest = Some(Progress::Routers(RouterList::start(rows)));
+        Ok(Part { text, rest })
+    } else {
+        let text = routers_text(alloc, config, number, statistics, runs, &rows, now)?;
+        Ok(last(text))
+    }
+}
+
+// The next of these routers.
+fn list_part(
+    alloc: Global,
+    config: &Config,
+    number: usize,
+    statistics: &Statistics,
+    runs: &[Replay],
+    mut list: RouterList,
+) -> Result<Part, AllocError>
+    ensures told { IfOk result (λ part. GoesOnRouters config.now number statistics.now
+        runs.now list (string_bytes part.text) part.rest) }
+    ensures memory { OnErr result ⟦<Global as Memory>⟧.may_refuse }
+{
+    let RoutersPart { text, is_last } = next_routers(
+        alloc, config, number, statistics, runs, &mut list,
+    )?;
+    let rest = if is_last {
+        None
+    } else {
+        Some(Progress::Routers(list))
+    };
+    Ok(Part { text, rest })
 }
 
 // What is counted of a Map-Server, and what it has, once its rows are counted.
@@ -209,7 +283,7 @@ fn counts_part(
     now: u64,
 ) -> Result<Part, AllocError>
     ensures told { IfOk result (λ part. CountsPart core.now progress now
-        (told_server config.now number core.now statistics.now runs.now format now)
+        (TellsCounts config.now number core.now statistics.now runs.now format now)
         (string_bytes part.text) part.rest) }
     ensures memory { OnErr result ⟦<Global as Memory>⟧.may_refuse }
 {

@@ -1,3 +1,5 @@
 pub mod Counting
 pub mod Words
 pub mod Gathered
+pub mod Listed
+pub mod WholeList

@@ -7,3 +7,4 @@ pub mod Replays
 pub mod Routers
 pub mod Sites
 pub mod Gathering
+pub mod RouterList

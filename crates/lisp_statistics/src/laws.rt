@@ -1,6 +1,9 @@
-//! What a kind of lines has to do with their text, as a law: its contract is the law, and its body is empty.
+//! What a kind of lines has to do with their text, and what all parts of a list are together, as laws: the contract of each is the law,
+//! and its body is empty.
 
+ghost use Rattle.std.specs.Global.{Global};
 ghost use Rattle.lisp_statistics.specs.Kind.{KindsByWord, WordsBeginLines};
+ghost use Rattle.lisp_statistics.specs.RouterList.{PartsListAll};
 
 use crate::kind::LineKind;
 
@@ -13,4 +16,10 @@ pub fn words_begin_lines()
 /// Counts are told in the order of the words of their kinds, and refusals behind them by their numbers.
 pub fn kinds_by_word()
     ensures { KindsByWord ⟦<LineKind as Ord>⟧.cmp }
+{}
+
+/// Where no router is heard for the first time while they are listed by parts, the parts together have one line for each router that
+/// was heard, by Site-ID, then xTR-ID, then those of the runs of replays, then the number of all these lines.
+pub fn parts_list_all()
+    ensures { PartsListAll Global }
 {}

@@ -23,6 +23,7 @@ mod gauge;
 mod counts;
 pub mod laws;
 mod replays;
+mod router_list;
 mod routers;
 
 pub use counts::{Format, counts_text};
@@ -31,5 +32,6 @@ pub use gauge::{Figure, Gauge};
 pub use hearing::Hearing;
 pub use kind::LineKind;
 pub use replays::count_replays;
+pub use router_list::{RouterList, RoutersPart, is_long_list, next_routers, routers_by_parts};
 pub use routers::routers_text;
 pub use statistics::Statistics;

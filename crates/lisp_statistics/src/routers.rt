@@ -63,10 +63,27 @@ fn put_routers<A: Memory + Copy, B: Memory + Copy, C: Memory + Copy, E: Allocato
     ensures memory { OnErr result A.may_refuse }
 {
     for (router, hearing) in heard {
-        let rows = rows_in(counts, router);
-        put_router(alloc, text, config, router, hearing, now, rows)?;
+        put_counted(alloc, text, config, counts, router, hearing, now)?;
     }
     Ok(())
+}
+
+/// Appends the line of a router at a moment, in ms, with its rows by these counts. Out of memory, it may leave a part of it.
+pub(crate) fn put_counted<A: Memory + Copy, C: Memory + Copy, E: Allocator>(
+    alloc: A,
+    text: &mut String<A>,
+    config: &Config<E>,
+    counts: &BTreeMap<RouterId, u64, C>,
+    router: &RouterId,
+    hearing: &Hearing,
+    now: u64,
+) -> Result<(), AllocError>
+    ensures text { Adds result text.old text.new
+        (counted_text config.now now counts.now (router.now, hearing.now)) }
+    ensures memory { OnErr result A.may_refuse }
+{
+    let rows = rows_in(counts, router);
+    put_router(alloc, text, config, router, hearing, now, rows)
 }
 
 // The line before the others of a Map-Server: how many they are.
