@@ -33,6 +33,8 @@ UNANSWERED = (1, "", "lispd: fault 99\n")
 UNIT = Path(__file__).parent.parent / "packaging/lispd@.service.in"
 SOCKET_CALLS = {"x86_64": (41, 53), "aarch64": (198, 199)}
 NOTHING_HELD = (0, "hold s1 0\n", "")
+# The line that closes each answer of a node; nobody sees it printed.
+CLOSING = "end\n"
 # The drop-in that lets a group ask a node; the node's user, that group, and a user in it and one who isn't.
 DROP_IN = Path(__file__).parent.parent / "packaging/ask-group.conf"
 NODE, ASKERS, MEMBER, STRANGER = 64001, 64002, 64003, 64004
@@ -212,36 +214,42 @@ def records_that_are_not_allowed(here):
     killed(router)
 
 
-def an_older_node(here):
-    """One that can't answer which records aren't allowed is told all the same."""
-    os.mkdir(f"{here.folder}/r1")
+@contextlib.contextmanager
+def made_up(here, name):
+    """A socket where a node's is, to be answered at by `answered`."""
+    os.mkdir(f"{here.folder}/{name}")
     with socket.socket(socket.AF_UNIX) as node:
-        node.bind(f"{here.folder}/r1/control")
+        node.settimeout(LIMIT)
+        node.bind(f"{here.folder}/{name}/control")
         node.listen()
-        order, answer = f"change {RECORD}", "change r1 records 1\n"
-        with ThreadPoolExecutor() as pool:
-            told = pool.submit(tell, here, "r1", *order.split())
-            for question in (f"disallowed {RECORD}", order):
-                user, _ = node.accept()
-                with user, user.makefile("rw") as line:
-                    check("what it is asked and told", line.readline(), f"{question}\n")
-                    line.write(answer if question == order else "fault 80\n")
-            check("its answer", told.result(), (0, answer, ""))
+        yield node
+
+
+def answered(node, asks, *turns):
+    """What a call of `ask` or `tell` makes of an answer of that socket to each line that it sends."""
+    with ThreadPoolExecutor() as pool:
+        asked = pool.submit(*asks)
+        for wanted, answer in turns:
+            user, _ = node.accept()
+            with user, user.makefile("rw") as line:
+                check("what is asked or told", line.readline(), f"{wanted}\n")
+                line.write(answer)
+        return asked.result()
+
+
+def records_that_nobody_looks_at(here):
+    """Where a router doesn't answer which records aren't allowed, it isn't told; one that answers with a fault is."""
+    order, answer = f"change {RECORD}", "change r1 records 1\n"
+    asks, question = (tell, here, "r1", *order.split()), f"disallowed {RECORD}"
+    with made_up(here, "r1") as node:
+        check("an answer that is cut", answered(node, asks, (question, "disallowed r1 0\n")), UNANSWERED)
+        check("no question for it", answered(node, asks, (question, f"fault 80\n{CLOSING}"), (order, answer + CLOSING)), (0, answer, ""))
 
 
 def a_router_that_is_down(here):
     """An order to it ends with the number of a router that doesn't start."""
-    os.mkdir(f"{here.folder}/r1")
-    with socket.socket(socket.AF_UNIX) as node:
-        node.bind(f"{here.folder}/r1/control")
-        node.listen()
-        with ThreadPoolExecutor() as pool:
-            told = pool.submit(tell, here, "r1", "rotate", "2")
-            user, _ = node.accept()
-            with user, user.makefile("rw") as line:
-                check("what it is told", line.readline(), "rotate 2\n")
-                line.write("down r1\n")
-            check("its answer", told.result(), refused(76, "down r1"))
+    with made_up(here, "r1") as node:
+        check("its answer", answered(node, (tell, here, "r1", "rotate", "2"), ("rotate 2", f"down r1\n{CLOSING}")), refused(76, "down r1"))
 
 
 def advice(here):
@@ -286,7 +294,35 @@ def prompt(here, name, patience=PROMPT + MOST):
     with connected(here) as it:
         it.sendall(b"due\n")
         got = it.recv(100)
-    check(f"{name}: a question", (got, time.monotonic() - begun < patience), (b"due s1 none\n", True))
+    check(f"{name}: a question", (got, time.monotonic() - begun < patience), (f"due s1 none\n{CLOSING}".encode(), True))
+
+
+def all_of(here, name, question):
+    """All that a node sends for a question."""
+    with connected(here, name) as it:
+        it.sendall(f"{question}\n".encode())
+        return b"".join(iter(lambda: it.recv(65536), b"")).decode()
+
+
+def answers_on_the_socket(here):
+    """Each ends with the line that closes it, and has it once: in one part or several, to a question, an order, or what is neither."""
+    server = up(here, "server", "s1", here.s1)
+    with peer(here.r2) as it:
+        for nonce in (1001, 1002):
+            check("its answer", nonce_in(here.answer(it, map_register(nonce, records=host_records(nonce % 2, 255)))), nonce)
+    router = up(here, "router", "r1", here.r1)
+    for name, said, front in (
+            ("s1", "hold", "hold s1 by parts\nrow "), ("s1", "due", "due s1 none\n"), ("s1", "ask 10.1.0.1", "ask s1 10.1.0.1 "), ("s1", "routers", "routers s1 "),
+            ("s1", "counts", "counts s1 "), ("s1", "counts --prometheus", "# HELP "), ("s1", "nonsense", "fault 80\n"),
+            ("s1", "notice r2", "refused s1 62\n"), ("r1", "records", "records r1 1\n"), ("r1", "acks", "acks r1 "), ("r1", "due", "due r1 "),
+            ("r1", "disallowed 10.9.0.0/16=5", "disallowed r1 1\n"), ("r1", "counts", "counts r1 "), ("r1", f"change {OTHER}", "change r1 records 1\n"),
+            ("r1", "rotate 200", "fault 78\n")):
+        text = all_of(here, name, said)
+        check(f"{said}: its front", text[:len(front)], front)
+        check(f"{said}: its end", (text.endswith(f"\n{CLOSING}"), text.count(f"\n{CLOSING}")), (True, 1))
+    check("what is printed", f"{ask(here, 'r1', 'records')[1]}{CLOSING}", all_of(here, "r1", "records"))
+    killed(router)
+    killed(server)
 
 
 def clients_that_misbehave(here):
@@ -406,22 +442,18 @@ def rows_that_come_meanwhile(here):
     killed(process)
 
 
-def a_list_that_is_cut(here):
-    """A list by parts without its last line, or with another number of rows, is no answer."""
-    os.mkdir(f"{here.folder}/s1")
-    with socket.socket(socket.AF_UNIX) as node:
-        node.bind(f"{here.folder}/s1/control")
-        node.listen()
-        row = "row r1 10.1.0.0/16=1440+192.0.2.1 key 1 nonce 7 age 5\n"
-        for text, whole in ((f"{row}held s1 1\n", True), ("held s1 0\n", True), (row, False), (f"{row}{row}held s1 1\n", False), ("", False),
-                            (f"{row}held s1 2\n", False), (f"{row}held s1 1\n{row}", False), (f"{row}held s1\n", False)):
-            with ThreadPoolExecutor() as pool:
-                asked = pool.submit(ask, here, "s1", "hold")
-                user, _ = node.accept()
-                with user, user.makefile("rw") as line:
-                    check("the question", line.readline(), "hold\n")
-                    line.write(f"hold s1 by parts\n{text}")
-                check(f"{text!r}", asked.result(), (0, f"hold s1 by parts\n{text}", "") if whole else UNANSWERED)
+def an_answer_that_is_cut(here):
+    """An answer without the line that closes it is none, whatever it says; that line isn't printed."""
+    row = "row r1 10.1.0.0/16=1440+192.0.2.1 key 1 nonce 7 age 5\n"
+    asks = (ask, here, "s1", "hold")
+    with made_up(here, "s1") as node:
+        for text in (f"hold s1 1\n{row}", f"hold s1 by parts\n{row}held s1 1\n", "hold s1 by parts\nheld s1 0\n", "due s1 none\n", "ends s1\n", "\n"):
+            check(f"{text!r}", answered(node, asks, ("hold", text + CLOSING)), (0, text, ""))
+            for length in range(len(text + CLOSING)):
+                check(f"{text!r}, {length} bytes of it", answered(node, asks, ("hold", (text + CLOSING)[:length])), UNANSWERED)
+        for text in ("", CLOSING, "hold s1 0 end\n", f"hold s1 0\n {CLOSING}", f"hold s1 0\n{CLOSING}\n", "hold s1 0\nend", "hold s1 0\nend s1\n",
+                     "hold s1 0\nEND\n"):
+            check(f"{text!r}", answered(node, asks, ("hold", text)), UNANSWERED)
 
 
 def a_client_that_takes_nothing_of_many_rows(here):
@@ -446,18 +478,10 @@ def a_client_that_takes_nothing_of_many_rows(here):
 
 def an_answer_that_is_a_fault(here):
     """What a node answers where it can't read the line for want of memory is the fault of `ask`, too."""
-    os.mkdir(f"{here.folder}/s1")
-    with socket.socket(socket.AF_UNIX) as node:
-        node.bind(f"{here.folder}/s1/control")
-        node.listen()
+    with made_up(here, "s1") as node:
         for number, status in ((80, 2), (86, 1)):
-            with ThreadPoolExecutor() as pool:
-                asked = pool.submit(ask, here, "s1", "hold")
-                user, _ = node.accept()
-                with user, user.makefile("rw") as line:
-                    check("the question", line.readline(), "hold\n")
-                    line.write(f"fault {number}\n")
-                check(f"fault {number}", asked.result(), (status, "", f"lispd: fault {number}\n"))
+            check(f"fault {number}", answered(node, (ask, here, "s1", "hold"), ("hold", f"fault {number}\n{CLOSING}")),
+                  (status, "", f"lispd: fault {number}\n"))
 
 
 def with_families(names):
@@ -629,8 +653,9 @@ def a_killed_process_leaves_its_socket(here):
 
 run_tests([
     *(over(store, test) for store in (FILES, GROUPS) for test in (a_map_server_is_asked, a_map_server_is_told, what_is_counted)),
-    who_is_refused_as_replaying, a_router_is_told, records_that_are_not_allowed, an_older_node, a_router_that_is_down, advice, wrong_words,
-    an_answer_that_is_a_fault, a_list_by_parts, routers_by_parts, a_list_that_is_cut, a_node_under_its_unit, another_user_is_refused,
+    who_is_refused_as_replaying, a_router_is_told, records_that_are_not_allowed, records_that_nobody_looks_at, a_router_that_is_down, advice, wrong_words,
+    an_answer_that_is_a_fault, a_list_by_parts, routers_by_parts, an_answer_that_is_cut, answers_on_the_socket, a_node_under_its_unit,
+    another_user_is_refused,
     a_group_asks_under_the_drop_in, a_socket_in_another_folder, a_socket_that_can_not_be_made, a_socket_that_was_removed,
     a_killed_process_leaves_its_socket,
 ], alone=[clients_that_misbehave, rows_that_come_meanwhile, a_client_that_takes_nothing_of_many_rows])

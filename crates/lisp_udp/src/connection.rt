@@ -1,8 +1,13 @@
-//! A connection of a user's, for one question: a line, then the lines that answer it, and the end.
+//! A connection of a user's, for one question: a line, then the lines that answer it and the line that closes them, and the end.
+
+ghost use Rattle.std.specs.Prelude.{IfOk};
+ghost use Rattle.std.specs.String.{string_bytes};
+ghost use Rattle.lisp_udp.specs.Answers.{ClosesWith, WritesPart};
 
 use lisp_control::{Part, Progress, Question, answer_part, fault_text, outcome_text, question_in};
+use lisp_files::closed;
 use lisp_log::Replay;
-use lisp_memory::FallibleVec;
+use lisp_memory::{FallibleVec, Memory};
 use lisp_model::{Line, WorldFault};
 use lisp_script::ScriptWhat;
 use lisp_sites::Config;
@@ -84,9 +89,15 @@ struct Answering {
 }
 
 impl Stage {
-    // There is an answer, unless memory for it was refused.
-    fn answered(text: Result<String, AllocError>) -> Stage {
-        match text {
+    // There is an answer, or its last part, which is closed; unless memory for it was refused.
+    fn answered(text: Result<String, AllocError>) -> Stage
+        ensures closed { IfOk text (λ text.
+            ClosesWith ⟦<Global as Memory>⟧.may_refuse (string_bytes text) result) }
+    {
+        let Ok(text) = text else {
+            return Stage::Ended;
+        };
+        match closed(text) {
             Ok(text) => Stage::Answered {
                 text,
                 written: 0,
@@ -96,8 +107,11 @@ impl Stage {
         }
     }
 
-    // There is a part of the answer to a question, unless memory for it was refused.
-    fn of_part(question: Question, part: Result<Part, AllocError>) -> Stage {
+    // There is a part of the answer to a question, unless memory for it was refused. The last one is closed.
+    fn of_part(question: Question, part: Result<Part, AllocError>) -> Stage
+        ensures part { IfOk part (λ part.
+            WritesPart ⟦<Global as Memory>⟧.may_refuse question part result) }
+    {
         let Ok(Part { text, rest }) = part else {
             return Stage::Ended;
         };

@@ -1,9 +1,10 @@
--- Whether a node is asked a question, or told it; whether it answers that this is neither, or that it doesn't do it.
-use Rattle.std.specs.Prelude.{◌≡◌, ◌⊎◌, ℕ, ◌==◌, nat_lt, Bool, false, List, [], ◌∷◌, ◌++◌, codes, Option, Some, None, Result, Err, if◌then◌else◌}
+-- Whether a node is asked a question, or told it; whether it answers that this is neither, or that it doesn't do it; what is printed of that.
+use Rattle.std.specs.Prelude.{◌≡◌, ◌⊎◌, ℕ, ◌==◌, nat_lt, Bool, false, List, [], ◌∷◌, ◌++◌, codes, Option, Some, None, Result, Err, IsOk, if◌then◌else◌}
 use Rattle.std.specs.Int.{is_in_range}
 use Rattle.std.specs.Io.KnownBytes.{Appends}
 use Rattle.std.specs.List.{after_first, before_first, list_any}
-use Rattle.std.specs.Option.{option_and_then}
+use Rattle.std.specs.Option.{MatchOption, option_and_then}
+use Rattle.lisp_files.specs.Closing.{whole}
 use Rattle.lisp_script.specs.Words.{is_word}
 use Rattle.lisp_texts.specs.Number.{number_of}
 use Rattle.lisp_answer.specs.declared.fault.AnswerFault.TheVariants.{Write}
@@ -13,7 +14,7 @@ use Rattle.lispd_cli.specs.declared.advice.Advice.TheVariants.{Questions, Orders
 use Rattle.lispd_cli.specs.declared.asking.Errand.{Errand}
 use Rattle.lispd_cli.specs.declared.asking.Errand.TheVariants.{Ask, Tell}
 use Rattle.lispd_cli.specs.declared.fault.ProgramFault.{ProgramFault}
-use Rattle.lispd_cli.specs.declared.fault.ProgramFault.TheVariants.{Answer, Refused, Run}
+use Rattle.lispd_cli.specs.declared.fault.ProgramFault.TheVariants.{Answer, Refused, Run, Unanswered}
 
 -- the first word ends at a space (32)
 abbrev pub first_word : List ℕ → List ℕ
@@ -37,10 +38,6 @@ fault_in lines = if is_word (codes "fault") (first_word lines) then option_and_t
 -- the line that was asked is faulty
 abbrev pub bad_line : ℕ → ProgramFault
 bad_line number = Run (record { number = number; line = 0 })
-
--- where a node's answer, up to its last line feed, tells that, it is the program's fault
-abbrev pub EndsAtFault : {X : Type 0} → List ℕ → Result X ProgramFault → Type 0
-EndsAtFault answer result = (lines : List ℕ) (number : ℕ) → answer ≡ lines ++ 10 ∷ [] → fault_in lines ≡ Some number → result ≡ Err (bad_line number)
 
 -- what is advised where a line is no question or order, by its fault
 abbrev pub listed : Errand → Advice
@@ -76,16 +73,26 @@ abbrev pub refusal_of : Errand → List ℕ → Option ℕ
 refusal_of Ask lines = None
 refusal_of Tell lines = refused_in lines
 
--- then its answer is written, and the program ends so
-abbrev pub Refuses : {X : Type 0} → ℕ → List ℕ → Option (List ℕ) → Option (List ℕ) → Result X ProgramFault → Type 0
-Refuses number answer old new result = (result ≡ Err (Answer Write)) ⊎ ((result ≡ Err (Refused number)) × Appends old new answer)
+-- the program ends so: with that refusal, if there is one
+abbrev pub Ends : {X : Type 0} → Option ℕ → Result X ProgramFault → Type 0
+Ends None result = IsOk result
+Ends (Some number) result = result ≡ Err (Refused number)
 
-abbrev pub EndsAtRefusal : {X : Type 0} → Errand → List ℕ → Option (List ℕ) → Option (List ℕ) → Result X ProgramFault → Type 0
-EndsAtRefusal errand answer old new result = (lines : List ℕ) (number : ℕ) → answer ≡ lines ++ 10 ∷ [] → fault_in lines ≡ None → refusal_of errand lines ≡ Some number → Refuses number answer old new result
+-- lines are written, with the last one's line feed (10), or can't be
+abbrev pub Writes : {X : Type 0} → Errand → List ℕ → Option (List ℕ) → Option (List ℕ) → Result X ProgramFault → Type 0
+Writes errand lines old new result = (result ≡ Err (Answer Write)) ⊎ (Ends (refusal_of errand lines) result × Appends old new (lines ++ 10 ∷ []))
 
--- an answer tells of such a refusal
-abbrev pub TellsRefusal : Errand → List ℕ → ℕ → Type 0
-TellsRefusal errand answer number = (lines : List ℕ) × (answer ≡ lines ++ 10 ∷ []) × (refusal_of errand lines ≡ Some number)
+-- nothing is written, and the program ends with a fault
+abbrev pub EndsAt : {X : Type 0} → ProgramFault → Option (List ℕ) → Option (List ℕ) → Result X ProgramFault → Type 0
+EndsAt fault old new result = (result ≡ Err fault) × (new ≡ old)
+
+-- the lines of an answer; where they are the fault of the line that was asked, it is the program's
+abbrev pub PrintsLines : {X : Type 0} → Errand → List ℕ → Option (List ℕ) → Option (List ℕ) → Result X ProgramFault → Type 0
+PrintsLines errand lines old new result = MatchOption (fault_in lines) (Writes errand lines old new result) (λ number. EndsAt (bad_line number) old new result)
+
+-- an answer; one that is cut off is none
+abbrev pub PrintsAnswer : {X : Type 0} → Errand → List ℕ → Option (List ℕ) → Option (List ℕ) → Result X ProgramFault → Type 0
+PrintsAnswer errand answer old new result = MatchOption (whole answer) (EndsAt Unanswered old new result) (λ lines. PrintsLines errand lines old new result)
 
 -- a router's site doesn't allow some records: `disallowed NAME N`, where N isn't 0
 abbrev pub is_some_number : Option ℕ → Bool

@@ -1,9 +1,9 @@
 //! What a node that runs is asked, and told to do.
 
-ghost use Rattle.std.specs.Prelude.{◌≡◌, ℕ, IfErr, OnOk};
+ghost use Rattle.std.specs.Prelude.{◌≡◌, ◌∷◌, [], ◌++◌, IfErr, OnOk};
 ghost use Rattle.std.specs.Io.KnownBytes.{Appends};
-ghost use Rattle.lispd_cli.specs.Asking.{EndsAtFault, EndsAtRefusal, TellsRefusal, bad_line, behind_word, disallows, errand_of, fault_in, first_line, first_word, refusal_of, refused_in, third_word};
-ghost use Rattle.lispd_cli.specs.declared.fault.ProgramFault.TheVariants.{Answer, Refused};
+ghost use Rattle.lispd_cli.specs.Asking.{PrintsAnswer, PrintsLines, bad_line, behind_word, disallows, errand_of, fault_in, first_line, first_word, refusal_of, refused_in, third_word};
+ghost use Rattle.lispd_cli.specs.declared.fault.ProgramFault.TheVariants.{Answer};
 ghost use Rattle.lisp_answer.specs.declared.fault.AnswerFault.TheVariants as answers;
 
 use crate::advice::advice_of;
@@ -14,6 +14,7 @@ use crate::printed_line::fault_of;
 use crate::words::{is_given, word};
 use clap::ArgMatches;
 use lisp_answer::AnswerFault;
+use lisp_files::whole;
 use lisp_memory::FallibleString;
 use lisp_refusals::{meaning, remedy};
 use lisp_script::{RunFault, ScriptWhat};
@@ -27,15 +28,6 @@ use std::time::Duration;
 
 /// How long the next part of an answer may take, in seconds.
 const PATIENCE: u64 = 10;
-
-/// The first words of answers that tell in their first line how many lines follow.
-const LISTS: [&str; 3] = ["hold", "records", "routers"];
-
-/// How the first line of a list ends that comes by parts.
-const BY_PARTS: &str = " by parts";
-
-/// The first word of its last line.
-const CLOSING: &str = "held";
 
 /// The number of a record that its site doesn't allow.
 const NOT_ALLOWED: u16 = 55;
@@ -54,9 +46,9 @@ pub enum Errand {
 
 /// Asks the node that runs over a folder, or tells it what to do, and prints its answer. Before it tells a router to register other
 /// records it asks which of them the router's site doesn't allow; it warns of each on standard error, and doesn't tell it then, but
-/// with `--force`. Faults: 80 where it is asked an order, or told a question; 99 where no node answers; those of the line, 80 to 86;
-/// what keeps the node from doing what it is told, 55 where a record isn't allowed, with the status 3; 88 where the answer can't be
-/// written; 97.
+/// with `--force`. Faults: 80 where it is asked an order, or told a question; 99 where no node answers, or its answer is cut off;
+/// those of the line, 80 to 86; what keeps the node from doing what it is told, 55 where a record isn't allowed, with the status 3;
+/// 88 where the answer can't be written; 97.
 pub fn ask_node<R: Eprint + Files + Net + AllocGlobal, W: Write>(
     rt: &R,
     errand: Errand,
@@ -86,9 +78,7 @@ fn ask<R: Eprint + Files + Net + AllocGlobal, W: Write>(
     if errand == Errand::Tell && !is_given(words, FORCE) {
         check_change(rt, path.as_str(), question.as_str())?;
     }
-    let Ok(answer) = answer(rt, path.as_str(), question.as_str()) else {
-        return Err(ProgramFault::Unanswered);
-    };
+    let answer = answer(rt, path.as_str(), question.as_str())?;
     print_answer(errand, answer.as_str(), writer)
 }
 
@@ -111,8 +101,8 @@ fn details(alloc: Global, errand: Errand, fault: ProgramFault) -> Option<String>
     }
 }
 
-// Warns of each record of an order to register other records that the router's site doesn't allow, and refuses the order then. A
-// node that doesn't answer which these are, as an older one, is told all the same.
+// Warns of each record of an order to register other records that the router's site doesn't allow, and refuses the order then. Where
+// the node doesn't answer which these are, it isn't told.
 fn check_change<R: Eprint + Files + Net + AllocGlobal>(
     rt: &R,
     path: &str,
@@ -123,13 +113,15 @@ fn check_change<R: Eprint + Files + Net + AllocGlobal>(
     }
     let records = behind_word(order);
     let question = String::try_format(rt.alloc(), format_args!("disallowed {records}"))?;
-    match answer(rt, path, question.as_str()) {
-        Ok(answer) if disallows(answer.as_str()) => {
-            warn_of_records(rt, answer.as_str());
-            Err(ProgramFault::Refused(NOT_ALLOWED))
-        }
-        _ => Ok(()),
+    let answer = answer(rt, path, question.as_str())?;
+    let Some(lines) = whole(answer.as_str()) else {
+        return Err(ProgramFault::Unanswered);
+    };
+    if disallows(lines) {
+        warn_of_records(rt, lines);
+        return Err(ProgramFault::Refused(NOT_ALLOWED));
     }
+    Ok(())
 }
 
 // Warns of each record that isn't allowed.
@@ -218,8 +210,23 @@ fn third_word(line: &str) -> &str
     first_word(behind_word(behind_word(line)))
 }
 
-// What the node answers to a question at its socket.
-fn answer<R: Files + Net + AllocGlobal>(rt: &R, path: &str, question: &str) -> io::Result<String> {
+// What the node answers to a question at its socket, until it closes that.
+fn answer<R: Files + Net + AllocGlobal>(
+    rt: &R,
+    path: &str,
+    question: &str,
+) -> Result<String, ProgramFault> {
+    match read_answer(rt, path, question) {
+        Ok(answer) => Ok(answer),
+        Err(_) => Err(ProgramFault::Unanswered),
+    }
+}
+
+fn read_answer<R: Files + Net + AllocGlobal>(
+    rt: &R,
+    path: &str,
+    question: &str,
+) -> io::Result<String> {
     let mut stream = UnixStream::connect(rt, path)?;
     stream.set_read_timeout(Some(Duration::from_secs(PATIENCE)))?;
     stream.write_all(question.as_bytes())?;
@@ -227,36 +234,39 @@ fn answer<R: Files + Net + AllocGlobal>(rt: &R, path: &str, question: &str) -> i
     io::read_to_string(rt.alloc(), stream)
 }
 
-// Prints an answer, unless it is the fault of the line. One that is cut off, or empty, is none; one that says that the node doesn't do
-// what it is told ends the program.
+// Prints an answer without the line that closes it. One that is cut off is none.
 fn print_answer<W: Write>(errand: Errand, answer: &str, writer: &mut W) -> Result<(), ProgramFault>
-    ensures fault { EndsAtFault answer.now result }
-    ensures refusal { EndsAtRefusal errand answer.now (W.contents writer.old)
+    ensures { PrintsAnswer errand answer.now (W.contents writer.old)
         (W.contents writer.new) result }
-    ensures refused { IfErr result (λ fault. (number : ℕ) → fault ≡ Refused number
-        → TellsRefusal errand answer.now number) }
 {
-    let Some(lines) = answer.strip_suffix('\n') else {
-        return Err(ProgramFault::Unanswered);
-    };
-    if let Some(number) = fault_in(lines) {
-        return Err(bad_line(number));
-    }
-    match refusal_of(errand, lines) {
-        Some(number) => {
-            write_answer(answer, writer)?;
-            Err(ProgramFault::Refused(number))
-        }
-        None if is_whole(lines) => write_answer(answer, writer),
+    match whole(answer) {
+        Some(lines) => print_lines(errand, lines, writer),
         None => Err(ProgramFault::Unanswered),
     }
 }
 
-fn write_answer<W: Write>(answer: &str, writer: &mut W) -> Result<(), ProgramFault>
-    ensures ok { OnOk result (Appends (W.contents writer.old) (W.contents writer.new) answer.now) }
+// Prints the lines of an answer, unless they are the fault of the line that was asked. Those that say that the node doesn't do what it
+// is told end the program.
+fn print_lines<W: Write>(errand: Errand, lines: &str, writer: &mut W) -> Result<(), ProgramFault>
+    ensures { PrintsLines errand lines.now (W.contents writer.old)
+        (W.contents writer.new) result }
+{
+    if let Some(number) = fault_in(lines) {
+        return Err(bad_line(number));
+    }
+    write_lines(lines, writer)?;
+    match refusal_of(errand, lines) {
+        Some(number) => Err(ProgramFault::Refused(number)),
+        None => Ok(()),
+    }
+}
+
+fn write_lines<W: Write>(lines: &str, writer: &mut W) -> Result<(), ProgramFault>
+    ensures ok { OnOk result (Appends (W.contents writer.old) (W.contents writer.new)
+        (lines.now ++ 10 ∷ [])) }
     ensures fault { IfErr result (λ fault. fault ≡ Answer answers.Write) }
 {
-    match writer.write_all(answer.as_bytes()) {
+    match writeln!(writer, "{lines}") {
         Ok(()) => Ok(()),
         Err(_) => Err(ProgramFault::Answer(AnswerFault::Write)),
     }
@@ -295,35 +305,6 @@ fn fault_in(lines: &str) -> Option<u16>
         Some(number @ 80..=86) => Some(number as u16),
         _ => None,
     }
-}
-
-// Whether no line of an answer is missing, where its first line tells how many follow, or its last one how many came.
-fn is_whole(lines: &str) -> bool {
-    let head = first_line(lines);
-    if !LISTS.contains(&first_word(head)) {
-        return true;
-    }
-    let following = (lines.split('\n').count() as u64).saturating_sub(1);
-    if head.ends_with(BY_PARTS) {
-        is_closed(lines, following)
-    } else {
-        last_number(head) == Some(following)
-    }
-}
-
-// Whether the last line of a list that comes by parts says how many came before it: all but that line.
-fn is_closed(lines: &str, following: u64) -> bool {
-    match lines.rsplit_once('\n') {
-        Some((_, last)) => first_word(last) == CLOSING
-            && last_number(last) == following.checked_sub(1),
-        None => false,
-    }
-}
-
-// The number at the end of a line.
-fn last_number(line: &str) -> Option<u64> {
-    line.rsplit_once(' ')
-        .and_then(|(_, number)| number_from_text(number))
 }
 
 fn bad_line(number: u16) -> ProgramFault
