@@ -5,8 +5,8 @@
 //!
 //! - `records`, `routers` and `counts` are no words of a schedule: what they say is since a process's start, or stands in the
 //!   schedule's own lines.
-//! - No answer is empty: a list has a line with its number, and `counts` its longest save. So `lispd ask` sees where lines are
-//!   missing.
+//! - No answer is empty: a list has a line with its number, and `counts` its longest save. `lispd ask` takes one without a line
+//!   for cut off. No line of an answer is `end`, which closes it on the socket.
 //! - `disallowed` is a question of its own that `lispd tell` asks before `change`, which stays the order that a schedule has.
 //!   It is answered by the site alone: whether a Map-Server has another configuration only the operator knows, who has
 //!   `--force`.
