@@ -12,8 +12,9 @@ use crate::entry::entry_at;
 use crate::folder::{LockedFolder, open_folder};
 use crate::output::flush;
 use crate::storage::Storage;
+use crate::subject::{Subject, run_subject};
 use lisp_database_store::{Database, DatabaseStore, SystemTable};
-use lisp_files::{Ending, read_config, read_script};
+use lisp_files::{Ending, read_script};
 use lisp_memory::{FallibleVec, Memory};
 use lisp_model::Event;
 use lisp_nonces::WorldStore;
@@ -46,24 +47,13 @@ pub fn run_loop<T: SystemTable, W: Write>(
     storage: Storage,
     writer: &mut W,
 ) -> Result<(), RunFault> {
-    run_network::<T, W>(rt, config, file, dir, storage, writer)?;
+    let subject = Subject::Network { script: file };
+    run_subject::<T, W>(rt, config, dir, storage, subject, writer)?;
     Ok(())
 }
 
-/// As `run_loop`, with the file or the folder that failed, where one did.
+/// As `run_loop` with the configuration that was read, and with the file or the folder that failed, where one did.
 pub(crate) fn run_network<T: SystemTable, W: Write>(
-    rt: &HostRuntime,
-    config: &str,
-    file: &str,
-    dir: &str,
-    storage: Storage,
-    writer: &mut W,
-) -> Result<(), Ending> {
-    let config = read_config(rt, config)?;
-    run_script::<T, W>(rt, &config, file, dir, storage, writer)
-}
-
-fn run_script<T: SystemTable, W: Write>(
     rt: &HostRuntime,
     config: &Config,
     file: &str,

@@ -1,6 +1,5 @@
 //! A node of either kind that runs: a Map-Server or a site router, on its socket and over its folder.
 
-ghost use Rattle.std.specs.Prelude.{◌≡◌, None};
 ghost use Rattle.lisp_sites.specs.Numbers.{IsMapServer, IsNode};
 
 use crate::connection::AskedNode;
@@ -17,7 +16,7 @@ use crate::printer::Printer;
 use crate::save_times::{SaveTimes, TimedStore};
 use crate::storage::{NodeStore, Storage};
 use lisp_database_store::{DatabaseStore, SharedDatabase, SystemTable};
-use lisp_files::{Ending, read_config};
+use lisp_files::Ending;
 use lisp_nonces::WorldStore;
 use lisp_script::RunFault;
 use lisp_sites::Config;
@@ -39,40 +38,9 @@ pub(crate) struct NodeStart<'a> {
     pub(crate) control: Option<&'a str>,
 }
 
-impl<'a> NodeStart<'a> {
-    /// A node that is asked in its own folder.
-    pub(crate) fn new(
-        kind: NodeKind,
-        name: &'a str,
-        dir: &'a str,
-        storage: Storage,
-    ) -> NodeStart<'a>
-        ensures { result.control ≡ None }
-    {
-        NodeStart {
-            kind,
-            name,
-            dir,
-            storage,
-            control: None,
-        }
-    }
-}
-
-/// Runs a node of a configuration's file for so many turns, as `run_server` and `run_router` do, with
-/// the file or the folder that failed, where one did.
+/// Runs a node of a configuration for so many turns, as `run_server` and `run_router` do, with the file or the folder that
+/// failed, where one did.
 pub(crate) fn run<T: SystemTable, W: Write>(
-    rt: &HostRuntime,
-    config: &str,
-    node: NodeStart<'_>,
-    turns: u64,
-    writer: &mut W,
-) -> Result<(), Ending> {
-    let config = read_config(rt, config)?;
-    run_in::<T, W>(rt, &config, node, turns, writer)
-}
-
-fn run_in<T: SystemTable, W: Write>(
     rt: &HostRuntime,
     config: &Config,
     node: NodeStart<'_>,
@@ -90,19 +58,9 @@ fn run_in<T: SystemTable, W: Write>(
     Ok(printer.end()?)
 }
 
-/// Runs a node of a configuration's file without an end, as `keep_server_running` and
-/// `keep_router_running` do, with the file or the folder that failed, where one did.
+/// Runs a node of a configuration without an end, as `keep_server_running` and `keep_router_running` do, with the file or the
+/// folder that failed, where one did.
 pub(crate) fn keep_running<T: SystemTable>(
-    rt: &HostRuntime,
-    config: &str,
-    node: NodeStart<'_>,
-    is_known: bool,
-) -> Result<(), Ending> {
-    let config = read_config(rt, config)?;
-    keep_in::<T>(rt, &config, node, is_known)
-}
-
-fn keep_in<T: SystemTable>(
     rt: &HostRuntime,
     config: &Config,
     node: NodeStart<'_>,

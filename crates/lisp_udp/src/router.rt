@@ -6,9 +6,8 @@ ghost use Rattle.lisp_turns.specs.Node.{Router};
 ghost use Rattle.lisp_sites.specs.Numbers.{node_count};
 ghost use Rattle.lisp_world.specs.Making.{HasStarted};
 
-use crate::entry::NodeKind;
-use crate::node::{NodeStart, keep_running, run};
 use crate::storage::Storage;
+use crate::subject::{Stretch, Subject, run_subject};
 use lisp_database_store::SystemTable;
 use lisp_nodes::{RouterNode, Start};
 use lisp_nonces::WorldStore;
@@ -16,7 +15,7 @@ use lisp_script::RunFault;
 use lisp_sites::Config;
 use lisp_world::router_node;
 use std::alloc::Global;
-use std::io::Write;
+use std::io::{self, Write};
 
 /// Runs the site router with a name for so many turns. A turn takes one datagram, or none where none comes within 100 ms,
 /// and then sends a Map-Register of each part of its database that is due to each Map-Server, at most one of each part
@@ -38,8 +37,12 @@ pub fn run_router<T: SystemTable, W: Write>(
     turns: u32,
     writer: &mut W,
 ) -> Result<(), RunFault> {
-    let node = NodeStart::new(NodeKind::Router, name, dir, storage);
-    run::<T, W>(rt, config, node, u64::from(turns), writer)?;
+    let subject = Subject::Router {
+        name,
+        stretch: Stretch::Turns(turns),
+        control: None,
+    };
+    run_subject::<T, W>(rt, config, dir, storage, subject, writer)?;
     Ok(())
 }
 
@@ -57,12 +60,12 @@ pub fn keep_router_running<T: SystemTable>(
     storage: Storage,
     is_known: bool,
 ) -> Result<(), RunFault> {
-    keep_running::<T>(
-        rt,
-        config,
-        NodeStart::new(NodeKind::Router, name, dir, storage),
-        is_known,
-    )?;
+    let subject = Subject::Router {
+        name,
+        stretch: Stretch::Endless { is_known },
+        control: None,
+    };
+    run_subject::<T, _>(rt, config, dir, storage, subject, &mut io::sink())?;
     Ok(())
 }
 

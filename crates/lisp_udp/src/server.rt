@@ -4,16 +4,15 @@ ghost use Rattle.std.specs.Prelude.{◌<◌, IfOk, length};
 ghost use Rattle.lisp_turns.specs.Beginning.{Begins};
 ghost use Rattle.lisp_turns.specs.Node.{Server};
 
-use crate::entry::NodeKind;
-use crate::node::{NodeStart, keep_running, run};
 use crate::storage::Storage;
+use crate::subject::{Stretch, Subject, run_subject};
 use lisp_database_store::SystemTable;
 use lisp_nodes::ServerNode;
 use lisp_nonces::WorldStore;
 use lisp_script::RunFault;
 use lisp_sites::Config;
 use std::alloc::Global;
-use std::io::Write;
+use std::io::{self, Write};
 
 /// Runs the Map-Server with a name for so many turns. A turn takes one datagram, or none where none comes within 100 ms,
 /// answers it to where it came from, drops dead rows, and sends the notices that are due. Its nonces are kept in the folder
@@ -39,8 +38,12 @@ pub fn run_server<T: SystemTable, W: Write>(
     turns: u32,
     writer: &mut W,
 ) -> Result<(), RunFault> {
-    let node = NodeStart::new(NodeKind::Server, name, dir, storage);
-    run::<T, W>(rt, config, node, u64::from(turns), writer)?;
+    let subject = Subject::Server {
+        name,
+        stretch: Stretch::Turns(turns),
+        control: None,
+    };
+    run_subject::<T, W>(rt, config, dir, storage, subject, writer)?;
     Ok(())
 }
 
@@ -58,12 +61,12 @@ pub fn keep_server_running<T: SystemTable>(
     storage: Storage,
     is_known: bool,
 ) -> Result<(), RunFault> {
-    keep_running::<T>(
-        rt,
-        config,
-        NodeStart::new(NodeKind::Server, name, dir, storage),
-        is_known,
-    )?;
+    let subject = Subject::Server {
+        name,
+        stretch: Stretch::Endless { is_known },
+        control: None,
+    };
+    run_subject::<T, _>(rt, config, dir, storage, subject, &mut io::sink())?;
     Ok(())
 }
 

@@ -5,7 +5,7 @@ use crate::network::run_network;
 use crate::node::{NodeStart, keep_running, run};
 use crate::storage::Storage;
 use lisp_database_store::SystemTable;
-use lisp_files::Ending;
+use lisp_files::{Ending, read_config};
 use std::io::Write;
 
 /// What runs on sockets.
@@ -60,6 +60,7 @@ pub fn run_subject<T: SystemTable, W: Write>(
     subject: Subject<'_>,
     writer: &mut W,
 ) -> Result<(), Ending> {
+    let config = read_config(rt, config)?;
     let (kind, name, stretch, control) = match subject {
         Subject::Server {
             name,
@@ -72,7 +73,7 @@ pub fn run_subject<T: SystemTable, W: Write>(
             control,
         } => (NodeKind::Router, name, stretch, control),
         Subject::Network { script } => {
-            return run_network::<T, W>(rt, config, script, dir, storage, writer);
+            return run_network::<T, W>(rt, &config, script, dir, storage, writer);
         }
     };
     let node = NodeStart {
@@ -83,7 +84,7 @@ pub fn run_subject<T: SystemTable, W: Write>(
         control,
     };
     match stretch {
-        Stretch::Turns(turns) => run::<T, W>(rt, config, node, u64::from(turns), writer),
-        Stretch::Endless { is_known } => keep_running::<T>(rt, config, node, is_known),
+        Stretch::Turns(turns) => run::<T, W>(rt, &config, node, u64::from(turns), writer),
+        Stretch::Endless { is_known } => keep_running::<T>(rt, &config, node, is_known),
     }
 }
