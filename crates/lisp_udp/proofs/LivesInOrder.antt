@@ -77,6 +77,12 @@ pub fewer : {A : Type 0} {config : ConfigValue} {number : ℕ} {store : StoreSta
 fewer (Ok _) life = omega (arith)
 fewer (Err lost) life = let counted = life.ends.counted in omega (arith, counted)
 
+pub lives_fewer : (A : Type 0) (config : ConfigValue) (number : ℕ) (store : StoreState) (places : ℕ) {O : Type 0} (seen : O → OutsideState) (rested : O) (life : Life O)
+    {ended : Result (Unit {0}) Uncommitted} {lost : Uncommitted} → ended ≡ Err lost
+    → TakesItsTurns {F = Unit {0}} A seen config number store places lost.turns_left (Ok rested) (Ok life) → left_of life.ended < left_of ended
+lives_fewer A config number store places seen rested life is took =
+    rw is (fewer life.ended (record { begun = took.0; node = took.1; begins = took.2; ends = took.3 }))
+
 -- In what follows `seen` is what is known of what is outside, and it was given at the start, unless it failed.
 module _ (A : Type 0) (config : ConfigValue) (number : ℕ) (store : StoreState) (places turns : ℕ) {O F : Type 0} (seen : O → OutsideState) where
   pub starts_lives : (life : Life O) (outside : Result O F) → TakesItsTurns A seen config number store places turns outside (Ok life)

@@ -50,8 +50,8 @@ pub(crate) fn run_over<S: WorldStore + Drop, O: Endpoint + Clock + Commit + Line
     }
 }
 
-// Runs the node with a number, if it starts.
-fn run_at<N: Node + Drop, O: Endpoint + Clock + Commit + Lines + Control + Drop>(
+/// Runs the node with a number, if it starts. Faults: as those of `run_over`.
+pub(crate) fn run_at<N: Node + Drop, O: Endpoint + Clock + Commit + Lines + Control + Drop>(
     alloc: Global,
     config: &Config,
     number: usize,

@@ -5,7 +5,8 @@ ghost use Rattle.lisp_database_store.specs.Keeper.{shared_store};
 ghost use Rattle.lisp_udp.specs.Lives.{Lives, SaysRestarted};
 ghost use Rattle.lisp_sites.specs.Numbers.{IsMapServer};
 
-use crate::life::{Life, run_over};
+use crate::life::run_at;
+use crate::server::start_server;
 use lisp_database_store::{SharedDatabase, SystemTable};
 use lisp_model::Line;
 use lisp_script::RunFault;
@@ -34,7 +35,8 @@ pub(crate) fn live<T: SystemTable, O: Endpoint + Clock + Commit + Lines + Contro
         (O.seen after))) }
 {
     let store = database.store();
-    let mut life = run_over(alloc, config, number, store, places, turns, outside)?;
+    let server = start_server(alloc, config, number, store);
+    let mut life = run_at(alloc, config, number, server, places, turns, outside)?;
     while let Err(Uncommitted { turns_left }) = life.ended {
         let mut outside = life.outside;
         rest(number, &mut outside);
@@ -42,11 +44,12 @@ pub(crate) fn live<T: SystemTable, O: Endpoint + Clock + Commit + Lines + Contro
             return Ok(outside);
         }
         let store = database.store();
-        life = run_over(
+        let server = start_server(alloc, config, number, store);
+        life = run_at(
             alloc,
             config,
             number,
-            store,
+            server,
             places,
             turns_left,
             Ok(outside),

@@ -1,12 +1,11 @@
 //! What each subcommand runs.
 
 use clap::ArgMatches;
-use lisp_database_store::SystemTable;
-use lisp_files::{Ending, Problem, STANDARD_INPUT, WatchedReader, WatchedWriter};
+use lisp_files::{Problem, STANDARD_INPUT, WatchedReader, WatchedWriter};
 use lisp_picture::{Form, draw};
 use lisp_player::{Untaken, play_noting};
 use lisp_script::PlayFault;
-use lisp_sqlite::{Task, run_task};
+use lisp_sqlite::Sqlite;
 use lisp_udp::{Storage, Stretch, Subject, run_subject};
 use lispd_cli::{
     CONFIG, DATABASE, Errand, FILE, Failure, NodeWords, ProgramFault, STORE, TEXT, ask_node,
@@ -30,29 +29,20 @@ enum NodeKind {
 /// Runs the subcommand that the words name; with none, `answer`.
 pub(crate) fn run_subcommand(rt: &HostRuntime, matches: &ArgMatches<'_>) -> Result<(), Failure> {
     let mut writer = WatchedWriter::over(io::writer(rt));
-    match run_named(rt, matches.subcommand(), &mut writer) {
+    let named = matches.subcommand();
+    let ran = match named {
+        Some(("play", words)) => run_schedule(rt, words, Outlet::Lines, &mut writer),
+        Some(("draw", words)) => run_draw(rt, words, &mut writer),
+        Some(("server", words)) => run_node(rt, NodeKind::Server, words, &mut writer),
+        Some(("router", words)) => run_node(rt, NodeKind::Router, words, &mut writer),
+        Some(("loop", words)) => run_network(rt, words, &mut writer),
+        Some(("ask", words)) => ask_node(rt, Errand::Ask, words, &mut writer),
+        Some(("tell", words)) => ask_node(rt, Errand::Tell, words, &mut writer),
+        _ => run_alone(rt, named, &mut writer),
+    };
+    match ran {
         Ok(()) => Ok(()),
         Err(failure) => Err(failure.with_output(rt.alloc(), writer.error())),
-    }
-}
-
-fn run_named<W: Write>(
-    rt: &HostRuntime,
-    named: Option<(&str, &ArgMatches<'_>)>,
-    writer: &mut W,
-) -> Result<(), Failure> {
-    let Some((name, words)) = named else {
-        return run_alone(rt, named, writer);
-    };
-    match name {
-        "play" => run_schedule(rt, words, Outlet::Lines, writer),
-        "draw" => run_draw(rt, words, writer),
-        "server" => run_node(rt, NodeKind::Server, words, writer),
-        "router" => run_node(rt, NodeKind::Router, words, writer),
-        "loop" => run_network(rt, words, writer),
-        "ask" => ask_node(rt, Errand::Ask, words, writer),
-        "tell" => ask_node(rt, Errand::Tell, words, writer),
-        _ => run_alone(rt, named, writer),
     }
 }
 
@@ -88,42 +78,9 @@ fn run_node<W: Write>(
             control,
         },
     };
-    let run = Run {
-        rt,
-        config,
-        dir,
-        storage: storage(has_database, group),
-        subject,
-        writer,
-    };
-    run_task(run)?;
+    let storage = storage(has_database, group);
+    run_subject::<Sqlite, W>(rt, config, dir, storage, subject, writer)?;
     Ok(())
-}
-
-/// A node or a network that is to run.
-#[derive(Drop)]
-struct Run<'a, W> {
-    rt: &'a HostRuntime,
-    config: &'a str,
-    dir: &'a str,
-    storage: Storage,
-    subject: Subject<'a>,
-    writer: &'a mut W,
-}
-
-impl<W: Write> Task for Run<'_, W> {
-    type Output = Result<(), Ending>;
-
-    fn run<T: SystemTable>(self) -> Result<(), Ending> {
-        run_subject::<T, W>(
-            self.rt,
-            self.config,
-            self.dir,
-            self.storage,
-            self.subject,
-            self.writer,
-        )
-    }
 }
 
 fn storage(has_database: bool, group: u8) -> Storage {
@@ -139,17 +96,13 @@ fn run_network<W: Write>(
     words: &ArgMatches<'_>,
     writer: &mut W,
 ) -> Result<(), Failure> {
-    let run = Run {
-        rt,
-        config: word(words, CONFIG),
-        dir: word(words, STORE),
-        storage: storage(is_given(words, DATABASE), 1),
-        subject: Subject::Network {
-            script: word(words, FILE),
-        },
-        writer,
+    let config = word(words, CONFIG);
+    let dir = word(words, STORE);
+    let storage = storage(is_given(words, DATABASE), 1);
+    let subject = Subject::Network {
+        script: word(words, FILE),
     };
-    run_task(run)?;
+    run_subject::<Sqlite, W>(rt, config, dir, storage, subject, writer)?;
     Ok(())
 }
 
