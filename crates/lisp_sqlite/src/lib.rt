@@ -2,13 +2,17 @@
 //!
 //! # Decisions
 //!
-//! - A function with a value of the connection's type, which has hundreds of fields, takes half a minute to prove. So that type
-//!   is named only here, in `run_task`, and what runs on sockets takes the kind of database as a type parameter.
+//! - A function with a value of the connection's type, which has hundreds of fields, takes half a minute to prove, and so does a
+//!   call that names that type. So what runs on sockets takes the kind of database as a type parameter, and the program names SQLite's
+//!   in one call. `run_task` spares other callers that half minute: it names the type for them.
 #![tactic(auto)]
 
 use lisp_database::{SqliteTable, SystemDisk, SystemStore};
 use lisp_database_store::SystemTable;
 use sqlite::{File, FileStore};
+
+/// SQLite's databases in the system's files, as a kind of database.
+pub type Sqlite = SqliteTable<FileStore<File>>;
 
 /// What is to be done over databases of any kind.
 pub trait Task {

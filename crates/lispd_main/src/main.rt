@@ -2,13 +2,11 @@
 #![tactic(auto)]
 
 mod descriptors;
-mod subcommands;
 
-use crate::subcommands::run_subcommand;
-use clap::ArgMatches;
 use clap::error::ErrorKind as WordsErrorKind;
-use lisp_answer::AnswerFault;
-use lispd_cli::{Failure, ProgramFault, SetupFault, command, report, tells_words};
+use lispd::{
+    AnswerFault, Failure, ProgramFault, SetupFault, command, report, run_subcommand, tells_words,
+};
 use std::env;
 use std::io::{self, ErrorKind, IsTerminal};
 use std::process::ExitCode;
@@ -26,9 +24,23 @@ const MISUSED: u8 = 2;
 fn main(rt: HostRuntime) -> ExitCode {
     descriptors::open_closed(&rt);
     let is_terminal = rt.stderr().is_terminal();
-    match words(&rt) {
-        Ok(words) => run(&rt, words.as_slice(), is_terminal),
-        Err(fault) => report(&rt, &Failure::from(fault), &[], is_terminal),
+    let words = match words(&rt) {
+        Ok(words) => words,
+        Err(fault) => return report(&rt, &Failure::from(fault), &[], is_terminal),
+    };
+    let words = words.as_slice();
+    let Ok(command) = command(rt.alloc()) else {
+        return report(&rt, &Failure::from(OUT_OF_MEMORY), words, is_terminal);
+    };
+    match command.try_get_matches_from(words) {
+        Ok(matches) => match run_subcommand(&rt, &matches) {
+            Ok(()) => ExitCode::SUCCESS,
+            Err(failure) => report(&rt, &failure, words, is_terminal || tells_words(&matches)),
+        },
+        Err(error) => match print_words_error(&rt, &error) {
+            Ok(status) => status,
+            Err(failure) => report(&rt, &failure, words, is_terminal),
+        },
     }
 }
 
@@ -43,32 +55,6 @@ fn words<R: Env + AllocGlobal>(rt: &R) -> Result<Vec<String>, ProgramFault> {
 
 fn collect_words<R: Env + AllocGlobal>(rt: &R) -> io::Result<Vec<String>> {
     Ok(env::args(rt)?.collect(rt.alloc())?)
-}
-
-// Runs what the words ask for, and reports the fault that ended it.
-fn run(rt: &HostRuntime, words: &[String], is_terminal: bool) -> ExitCode {
-    let Ok(command) = command(rt.alloc()) else {
-        return report(rt, &Failure::from(OUT_OF_MEMORY), words, is_terminal);
-    };
-    match command.try_get_matches_from(words) {
-        Ok(matches) => run_matches(rt, words, &matches, is_terminal),
-        Err(error) => match print_words_error(rt, &error) {
-            Ok(status) => status,
-            Err(failure) => report(rt, &failure, words, is_terminal),
-        },
-    }
-}
-
-fn run_matches(
-    rt: &HostRuntime,
-    words: &[String],
-    matches: &ArgMatches<'_>,
-    is_terminal: bool,
-) -> ExitCode {
-    match run_subcommand(rt, matches) {
-        Ok(()) => ExitCode::SUCCESS,
-        Err(failure) => report(rt, &failure, words, is_terminal || tells_words(matches)),
-    }
 }
 
 // Prints the help or the version that was asked for, or why `clap` refuses the words.

@@ -19,26 +19,25 @@ use std::rt::Files;
 /// The path of standard input.
 const PATH_OF_INPUT: &str = "-";
 
-/// A kind of node.
-#[derive(Clone, Copy)]
-enum NodeKind {
-    Server,
-    Router,
-}
-
 /// Runs the subcommand that the words name; with none, `answer`.
-pub(crate) fn run_subcommand(rt: &HostRuntime, matches: &ArgMatches<'_>) -> Result<(), Failure> {
+pub fn run_subcommand(rt: &HostRuntime, matches: &ArgMatches<'_>) -> Result<(), Failure> {
     let mut writer = WatchedWriter::over(io::writer(rt));
     let named = matches.subcommand();
-    let ran = match named {
-        Some(("play", words)) => run_schedule(rt, words, Outlet::Lines, &mut writer),
-        Some(("draw", words)) => run_draw(rt, words, &mut writer),
-        Some(("server", words)) => run_node(rt, NodeKind::Server, words, &mut writer),
-        Some(("router", words)) => run_node(rt, NodeKind::Router, words, &mut writer),
-        Some(("loop", words)) => run_network(rt, words, &mut writer),
-        Some(("ask", words)) => ask_node(rt, Errand::Ask, words, &mut writer),
-        Some(("tell", words)) => ask_node(rt, Errand::Tell, words, &mut writer),
-        _ => run_alone(rt, named, &mut writer),
+    let ran = match named_run(named) {
+        Ok(None) => run_other(rt, named, &mut writer),
+        Ok(Some(run)) => {
+            let Run {
+                config,
+                dir,
+                storage,
+                subject,
+            } = run;
+            match run_subject::<Sqlite, _>(rt, config, dir, storage, subject, &mut writer) {
+                Ok(()) => Ok(()),
+                Err(ending) => Err(Failure::from(ending)),
+            }
+        }
+        Err(fault) => Err(Failure::from(fault)),
     };
     match ran {
         Ok(()) => Ok(()),
@@ -46,12 +45,36 @@ pub(crate) fn run_subcommand(rt: &HostRuntime, matches: &ArgMatches<'_>) -> Resu
     }
 }
 
-fn run_node<W: Write>(
-    rt: &HostRuntime,
-    kind: NodeKind,
-    words: &ArgMatches<'_>,
-    writer: &mut W,
-) -> Result<(), Failure> {
+/// What is to run on sockets.
+#[derive(Clone, Copy)]
+struct Run<'a> {
+    config: &'a str,
+    dir: &'a str,
+    storage: Storage,
+    subject: Subject<'a>,
+}
+
+// What `server`, `router` and `loop` run; `None` for other subcommands.
+fn named_run<'a>(named: Option<(&str, &ArgMatches<'a>)>) -> Result<Option<Run<'a>>, ProgramFault> {
+    let Some((name, words)) = named else {
+        return Ok(None);
+    };
+    match name {
+        "server" => Ok(Some(node_run(NodeKind::Server, words)?)),
+        "router" => Ok(Some(node_run(NodeKind::Router, words)?)),
+        "loop" => Ok(Some(network_run(words))),
+        _ => Ok(None),
+    }
+}
+
+/// A kind of node.
+#[derive(Clone, Copy)]
+enum NodeKind {
+    Server,
+    Router,
+}
+
+fn node_run<'a>(kind: NodeKind, words: &ArgMatches<'a>) -> Result<Run<'a>, ProgramFault> {
     let NodeWords {
         config,
         name,
@@ -66,7 +89,21 @@ fn run_node<W: Write>(
         Some(turns) => Stretch::Turns(turns),
         None => Stretch::Endless { is_known },
     };
-    let subject = match kind {
+    Ok(Run {
+        config,
+        dir,
+        storage: storage(has_database, group),
+        subject: node(kind, name, stretch, control),
+    })
+}
+
+fn node<'a>(
+    kind: NodeKind,
+    name: &'a str,
+    stretch: Stretch,
+    control: Option<&'a str>,
+) -> Subject<'a> {
+    match kind {
         NodeKind::Server => Subject::Server {
             name,
             stretch,
@@ -77,10 +114,18 @@ fn run_node<W: Write>(
             stretch,
             control,
         },
-    };
-    let storage = storage(has_database, group);
-    run_subject::<Sqlite, W>(rt, config, dir, storage, subject, writer)?;
-    Ok(())
+    }
+}
+
+fn network_run<'a>(words: &ArgMatches<'a>) -> Run<'a> {
+    Run {
+        config: word(words, CONFIG),
+        dir: word(words, STORE),
+        storage: storage(is_given(words, DATABASE), 1),
+        subject: Subject::Network {
+            script: word(words, FILE),
+        },
+    }
 }
 
 fn storage(has_database: bool, group: u8) -> Storage {
@@ -91,19 +136,22 @@ fn storage(has_database: bool, group: u8) -> Storage {
     }
 }
 
-fn run_network<W: Write>(
+// Runs any other subcommand; with none, `answer`.
+fn run_other<W: Write>(
     rt: &HostRuntime,
-    words: &ArgMatches<'_>,
+    named: Option<(&str, &ArgMatches<'_>)>,
     writer: &mut W,
 ) -> Result<(), Failure> {
-    let config = word(words, CONFIG);
-    let dir = word(words, STORE);
-    let storage = storage(is_given(words, DATABASE), 1);
-    let subject = Subject::Network {
-        script: word(words, FILE),
+    let Some((name, words)) = named else {
+        return run_alone(rt, named, writer);
     };
-    run_subject::<Sqlite, W>(rt, config, dir, storage, subject, writer)?;
-    Ok(())
+    match name {
+        "play" => run_schedule(rt, words, Outlet::Lines, writer),
+        "draw" => run_draw(rt, words, writer),
+        "ask" => ask_node(rt, Errand::Ask, words, writer),
+        "tell" => ask_node(rt, Errand::Tell, words, writer),
+        _ => run_alone(rt, named, writer),
+    }
 }
 
 /// What becomes of a schedule that is played.
