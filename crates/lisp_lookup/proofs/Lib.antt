@@ -18,3 +18,4 @@ pub mod HoleLaws
 pub mod CachedLaws
 pub mod RoomLaws
 pub mod OneAnswerLaws
+pub mod Examples
