@@ -77,6 +77,10 @@ address_alone : alone (ipv4 10 1 1 7) ≡ block 10 1 1 7 32
 unfolding masked
 address_alone = refl
 
+ipv6_alone : alone (ipv6 184 1) ≡ record { addr = ipv6 184 1; mask_len = 128 }
+unfolding masked
+ipv6_alone = refl
+
 first_answers : IsBestFor four (alone (ipv4 10 1 1 7)) 0 in_first
 unfolding masked
 first_answers = record {

@@ -3,7 +3,7 @@ use Rattle.std.proofs.Common.{List, [], None, arith, false, true, refl, sym, ap,
 use Rattle.std.proofs.lemmas.List.Elements.{All-cons, All-nil}
 use Rattle.std.specs.List.{All, Contains}
 use Rattle.lisp_records.specs.declared.address.Addr.{Addr}
-use Rattle.lisp_records.specs.Address.{PrefixValue, covers, masked, prefix_around, prefix_eq}
+use Rattle.lisp_records.specs.Address.{PrefixValue, covers, holds, masked, prefix_around, prefix_eq}
 use Rattle.lisp_records.specs.Row.{RowValue, is_alive}
 use Rattle.lisp_policy.specs.Site.{SiteValue, is_configured, single}
 use Rattle.lisp_policy.specs.declared.site.SitePrefix.{SitePrefix}
@@ -120,6 +120,14 @@ beside_too_wide : IsHole [] (site (block 11 0 0 0 8)) (ipv4 10 0 1 1) 0 (block 1
 unfolding masked
 beside_too_wide hole = true≢false ((kept (block 11 0 0 0 8) (ipv4 10 0 1 1) (block 10 0 0 0 7) hole.alike.keeps).1 refl)
 
+-- so beside each of two sites
+abbrev two_sites : List SiteValue
+two_sites = record { id = 1; keys = []; prefixes = record { eid = block 12 0 0 0 8; more_specifics = true } ∷ [] } ∷ record { id = 2; keys = []; prefixes = record { eid = block 11 0 0 0 8; more_specifics = true } ∷ [] } ∷ []
+
+beside_two : IsHole [] two_sites (ipv4 10 0 1 1) 0 (block 10 0 0 0 7) → ⊥
+unfolding masked
+beside_two hole = true≢false ((hole.alike.keeps 1 (record { id = 0; keys = []; prefixes = [] }) (omega arith) 0 (record { eid = block 12 0 0 0 8; more_specifics = true }) (omega arith)).1 refl)
+
 -- a site with 10.0.0.0/8 and 10.1.0.0/16
 abbrev nested : List SiteValue
 nested = record { id = 1; keys = []; prefixes = record { eid = block 10 0 0 0 8; more_specifics = true } ∷ record { eid = block 10 1 0 0 16; more_specifics = false } ∷ [] } ∷ []
@@ -188,10 +196,10 @@ ipv6_hole = record {
 }
 
 -- of each address in a hole the law says that none answers for it, and of each in a site's that the site has it
-law_says : HoleIsAnswered gaps [] → NoneAnswers gaps (ipv4 10 0 1 200) 0
+hole_says : HoleIsAnswered gaps [] → NoneAnswers gaps (ipv4 10 0 1 200) 0
 unfolding masked
-law_says law = (law (ipv4 10 0 1 1) 0 (block 10 0 1 0 24) between (ipv4 10 0 1 200) refl).0
+hole_says law = (law (ipv4 10 0 1 1) 0 (block 10 0 1 0 24) between (ipv4 10 0 1 200) refl).0
 
-law_says_of_site : HoleIsAnswered [] (site (block 10 0 0 0 16)) → is_configured (site (block 10 0 0 0 16)) (ipv4 10 0 200 200) ≡ true
+hole_says_of_site : HoleIsAnswered [] (site (block 10 0 0 0 16)) → (addr : Addr) → holds (block 10 0 0 0 16) addr ≡ true → is_configured (site (block 10 0 0 0 16)) addr ≡ true
 unfolding masked
-law_says_of_site law = (law (ipv4 10 0 1 1) 0 (block 10 0 0 0 16) of_all_the_site (ipv4 10 0 200 200) refl).1
+hole_says_of_site law addr has = (law (ipv4 10 0 1 1) 0 (block 10 0 0 0 16) of_all_the_site addr has).1

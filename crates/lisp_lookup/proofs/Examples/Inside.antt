@@ -67,6 +67,9 @@ with_wider : AreInside four sixteen 0 (in_eight ∷ in_first ∷ in_second ∷ [
 unfolding masked
 with_wider are = no (are.best in_eight (0, omega arith, refl)).1
 
+turned : AreInside four sixteen 0 (in_second ∷ in_first ∷ []) → ⊥
+turned are = absurd (let clash : Greater ≡ Less = are.rising 0 1 in_eight (omega arith) (omega arith) in cc)
+
 -- they come one by one, in rising order
 abbrev NotBefore : PrefixValue → ℕ → PrefixValue → RowValue → Type 0
 NotBefore after now eid h = is_live_inside sixteen now h ≡ true → prefix_cmp after h.mapping.eid ≡ Less → prefix_cmp eid h.mapping.eid ≢ Greater

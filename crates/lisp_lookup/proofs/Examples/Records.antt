@@ -67,6 +67,18 @@ elsewhere : IsNarrowed (block 10 1 5 5 32) in_sixteen (block 10 1 1 0 24) → �
 unfolding masked
 elsewhere other = true≢false (ap (λ (p : PrefixValue). prefix_eq p (block 10 1 1 0 24)) other.around)
 
+-- of a narrower prefix, in which no longer one is, there is one record, with its own TTL
+none_inside : AreInside four (block 10 1 5 0 24) 0 []
+unfolding masked
+none_inside = record {
+  rising = λ i j d less within. absurd (omega (arith, less, within));
+  best = each (λ (h : RowValue). IsBestOfOwn four 0 h × (is_inside (block 10 1 5 0 24) h.mapping.eid ≡ true)) [] tt;
+  all = each (λ (h : RowValue). is_live_inside (block 10 1 5 0 24) 0 h ≡ true → (own : RowValue) × Contains [] own × (own.mapping.eid ≡ h.mapping.eid)) four (no, (no, (no, (no, tt))));
+}
+
+narrow_record : AreRecords four (block 10 1 5 0 24) 0 in_sixteen (replied 2 (block 10 1 5 0 24) 1440 ∷ [])
+narrow_record = record { inside = []; are = none_inside; ttl = 1440; least = record { its = in_sixteen; held = (0, omega arith, refl); is = refl; least = each (λ (h : RowValue). 1440 ≤ h.mapping.ttl) (in_sixteen ∷ []) (omega arith, tt) }; is = refl }
+
 -- of a router that didn't ask for proxy replies the record has no locators, and ACT 2
 abbrev mixed : List RowValue
 mixed = in_sixteen ∷ silent in_first ∷ in_second ∷ []
@@ -199,6 +211,6 @@ sixteen_is_answered (h, best, is) = absurd (by h best.held best is)
         sixteen_is_best b = b.most in_first (2, omega arith, refl) refl refl
 
 -- so says the law, of another address than the one that was asked for
-law_says : CachedIsAnswered four → IsAnswered four (ipv4 10 1 1 7) 0 of_first
+cached_says : CachedIsAnswered four → IsAnswered four (ipv4 10 1 1 7) 0 of_first
 unfolding masked
-law_says law = law (block 10 1 5 5 32) 0 in_sixteen (block 10 1 0 0 16) three sixteen_answers narrowed three_records (ipv4 10 1 1 7) refl of_first longest
+cached_says law = law (block 10 1 5 5 32) 0 in_sixteen (block 10 1 0 0 16) three sixteen_answers narrowed three_records (ipv4 10 1 1 7) refl of_first longest
