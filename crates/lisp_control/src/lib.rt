@@ -1,5 +1,5 @@
-//! What a user asks of a node that runs, or tells it to do, a line of a script without the node's name; and what the node answers, the
-//! lines of a schedule, or what is counted of it.
+//! The questions and orders of a user to a node that runs, each a line of a script without the node's name; and the node's replies: lines
+//! of a schedule, or its counters.
 //!
 //! # Decisions
 //!
