@@ -1,2 +1,3 @@
 mod Asking
 mod Allowing
+pub mod Values
