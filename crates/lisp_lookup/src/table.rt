@@ -182,6 +182,7 @@ impl<A: Allocator + Copy> Table<A> {
     pub fn best_for(&self, asked: &Prefix, now: u64) -> Option<&Row<A>>
         ensures best { IsBestForOf self.now.rows asked.now now
             (option_map (λ row. row.now) result) }
+        ensures one_each { OneEach self.now.rows }
     {
         best_for(&self.items, &self.by_prefix, asked, now)
     }
