@@ -1,0 +1,4 @@
+pub mod Walk
+pub mod Narrowing
+pub mod Reply
+pub mod Kept

@@ -1,0 +1,20 @@
+//! What a Map-Server and a router send for an EID-Prefix that a Map-Request asks for (RFC 9301 sections 5.5, 8.3 and 8.4): what an ITR
+//! that keeps it says of each address is what they would say of that address.
+//!
+//! # Decisions
+//!
+//! - Records are made in two walks over the prefixes inside: the first finds the least TTL, which all have, the second makes them. So the
+//!   list of the prefixes isn't kept beside that of the records.
+//! - Where records don't fit one message, the length of the prefix is halved: a wider prefix never needs less
+//!   (`laws::wider_fits_not`).
+#![tactic(auto)]
+
+mod early;
+pub mod laws;
+mod narrowing;
+mod records;
+mod reply;
+mod server_reply;
+
+pub use reply::{Negative, Reply};
+pub use server_reply::server_reply;
