@@ -14,7 +14,7 @@ pub mod laws;
 mod narrowing;
 mod records;
 mod reply;
-mod server_reply;
+mod server;
 
 pub use reply::{Negative, Reply};
-pub use server_reply::server_reply;
+pub use server::server_reply;
