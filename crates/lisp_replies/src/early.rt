@@ -1,11 +1,11 @@
 //! Which rows aren't replied with in the first moments of a life.
 
 ghost use Rattle.std.specs.Prelude.{◌≡◌, ◌&&◌, nat_lt};
-ghost use Rattle.lisp_records.specs.Address.{covers};
-ghost use Rattle.lisp_records.specs.Row.{RowValue};
+ghost use Rattle.std.specs.List.{list_any};
+ghost use Rattle.lisp_records.specs.Address.{covers, prefix_eq};
 ghost use Rattle.lisp_replies.specs.Reply.{is_held_back, is_of_site, is_longer_of_site};
 
-use lisp_policy::Sites;
+use lisp_policy::{Site, Sites};
 use lisp_records::{Prefix, Row};
 use std::alloc::Allocator;
 
@@ -27,10 +27,13 @@ pub(crate) fn is_held_back<A: Allocator, B: Allocator>(
 fn is_of_site<A: Allocator>(sites: &Sites<A>, eid: &Prefix) -> bool
     ensures { result ≡ is_of_site sites.now eid.now }
 {
-    sites
-        .as_slice()
-        .iter()
-        .any(|site| site.prefixes().iter().any(|of| of.eid == *eid))
+    sites.as_slice().iter().any(|site| has_prefix(site, eid))
+}
+
+fn has_prefix<A: Allocator>(site: &Site<A>, eid: &Prefix) -> bool
+    ensures { result ≡ list_any (λ p. prefix_eq p.eid eid.now) site.now.prefixes }
+{
+    site.prefixes().iter().any(|of_site| of_site.eid == *eid)
 }
 
 // Whether a longer one of a site covers the one that is asked for.
@@ -40,7 +43,16 @@ fn is_longer_of_site<A: Allocator>(sites: &Sites<A>, asked: &Prefix, eid: &Prefi
     sites
         .as_slice()
         .iter()
-        .any(|site| site.prefixes().iter().any(|of| is_longer(&of.eid, asked, eid)))
+        .any(|site| has_longer(site, asked, eid))
+}
+
+fn has_longer<A: Allocator>(site: &Site<A>, asked: &Prefix, eid: &Prefix) -> bool
+    ensures { result ≡ list_any (λ p. covers p.eid asked.now
+        && nat_lt eid.now.mask_len p.eid.mask_len) site.now.prefixes }
+{
+    site.prefixes()
+        .iter()
+        .any(|of_site| is_longer(&of_site.eid, asked, eid))
 }
 
 // Whether a prefix covers the one that is asked for, and is longer than another.
