@@ -1,0 +1,204 @@
+-- The walk over the prefixes inside: what was seen is the front of the list of all.
+use Rattle.std.proofs.Common.{◌≡◌, ◌≢◌, ◌⊎◌, inl, inr, ℕ, zero, suc, ◌+◌, ◌<◌, true, List, [], ◌∷◌, ◌++◌, length, slice_index_or, refl, sym, ap, ◌∙◌, subst, arith, length-append}
+use Rattle.std.specs.Bool.{⊤}
+use Rattle.std.proofs.lemmas.Bool.{and_from, and_parts}
+use Rattle.std.specs.List.{AllPairs, Contains}
+use Rattle.std.specs.Ordering.{nat_cmp, bool_cmp, ordering_reverse, ordering_then}
+use Rattle.std.specs.declared.cmp.Ordering.{Ordering}
+use Rattle.std.specs.declared.cmp.Ordering.TheVariants.{Less, Equal, Greater}
+use Rattle.std.proofs.lemmas.List.{append-nil}
+use Rattle.std.proofs.lemmas.List.Elements.{Contains-append_left, Contains-get_or, Contains-push, Contains-push_cases}
+use Rattle.std.proofs.lemmas.List.Quantifiers.{all_pairs_push}
+use Rattle.lisp_records.specs.Address.{PrefixValue, prefix_cmp}
+use Rattle.lisp_records.specs.Router.{router_cmp}
+use Rattle.lisp_records.specs.Row.{RowValue, is_alive}
+use Rattle.lisp_lookup.specs.Answer.{rank_cmp}
+use Rattle.lisp_lookup.specs.Inside.{is_inside, is_live_inside, IsBestOfOwn, IsNextInside, NoneInside, AreInside}
+use Rattle.lisp_lookup.specs.Table.{OneEach, row_at, row_key}
+use Rattle.lisp_lookup.proofs.AnswerLaws.{ranks_tie}
+use Rattle.lisp_lookup.proofs.IndexLaws.{itself}
+use Rattle.lisp_lookup.proofs.InsideLaws.{inside_behind, not_both}
+use Rattle.lisp_lookup.proofs.Orders.{block_total, same_block, same_router}
+use Rattle.lisp_lookup.proofs.TableLaws.{found_own, some_inj}
+use Rattle.lisp_replies.specs.Kept.{HaveOneInside}
+use Rattle.lisp_replies.specs.Walk.{AreSeen}
+
+-- ---- the best row of a prefix is one
+
+second_tie : (one two : Ordering) → ordering_then one two ≡ Equal → two ≡ Equal
+second_tie Less two tie = absurd cc
+second_tie Equal two tie = tie
+second_tie Greater two tie = absurd cc
+
+pub own_best_is_one : (rows : List RowValue) (now : ℕ) → OneEach rows → (a b : RowValue) → IsBestOfOwn rows now a → IsBestOfOwn rows now b → a.mapping.eid ≡ b.mapping.eid → a ≡ b
+own_best_is_one rows now one a b best_a best_b same =
+    let tie = ranks_tie a b (best_b.most a best_a.held best_a.alive same) (best_a.most b best_b.held best_b.alive (sym same)) in
+    let router = same_router a.router b.router (second_tie _ (router_cmp a.router b.router) tie) in
+    let found : row_at rows a.router a.mapping.eid ≡ row_at rows b.router b.mapping.eid = λ i. row_at rows (router i) (same i) in
+    some_inj a b (sym (found_own rows a one best_a.held) ∙ found ∙ found_own rows b one best_b.held)
+
+-- ---- of two lists in strictly rising order, one has those of the other that are low
+
+module _ {X : Type 0} where
+  first_or_later : (x : X) (xs : List X) (z : X) → Contains (x ∷ xs) z → (x ≡ z) ⊎ Contains xs z
+  first_or_later x xs z (zero, lt, at) = inl at
+  first_or_later x xs z (suc k, lt, at) = inr (k, omega (arith, lt), at)
+
+  later : (x : X) (xs : List X) (z : X) → Contains xs z → Contains (x ∷ xs) z
+  later x xs z (k, lt, at) = (suc k, omega (arith, lt), at)
+
+  none_held : {P : Type 0} (z : X) → Contains [] z → P
+  none_held z (k, lt, at) = absurd (omega (arith, lt))
+
+module _ {X : Type 0} (R : X → X → Type 0) (strict : (a b : X) → R a b → R b a → ⊥) (Low : X → Type 0) (lower : (a b : X) → R a b → Low b → Low a) where
+  above_first : (x : X) (xs : List X) (z : X) → AllPairs R (x ∷ xs) → Contains xs z → R x z
+  above_first x xs z up (k, lt, at) = subst (R x) at (up 0 (suc k) z (omega arith) (omega (arith, lt)))
+
+  rest_rises : (x : X) (xs : List X) → AllPairs R (x ∷ xs) → AllPairs R xs
+  rest_rises x xs up i j d lt within = up (suc i) (suc j) d (omega (arith, lt)) (omega (arith, within))
+
+  not_itself : (x z : X) → x ≡ z → R x z → ⊥
+  not_itself x z same up = strict x x (subst (R x) (sym same) up) (subst (R x) (sym same) up)
+
+  -- the first ones are the same
+  same_first : (x y : X) (xs ys : List X) → AllPairs R (x ∷ xs) → AllPairs R (y ∷ ys) → Low x → (y ≡ x) ⊎ Contains ys x → (Low y → Contains (x ∷ xs) y) → y ≡ x
+  same_first x y xs ys up all_up low (inl same) from = same
+  same_first x y xs ys up all_up low (inr there) from = either (first_or_later x xs y (from (lower y x (above_first y ys x all_up there) low)))
+    where
+      either : (x ≡ y) ⊎ Contains xs y → y ≡ x
+      either (inl same) = sym same
+      either (inr here) = absurd (strict x y (above_first x xs y up here) (above_first y ys x all_up there))
+
+  -- an element above the first of one list isn't the first of the other
+  passes_first : (x y : X) (xs ys : List X) (z : X) → x ≡ y → AllPairs R (x ∷ xs) → Contains xs z → (y ≡ z) ⊎ Contains ys z → Contains ys z
+  passes_first x y xs ys z same up here (inr there) = there
+  passes_first x y xs ys z same up here (inl is) = absurd (not_itself x z (same ∙ is) (above_first x xs z up here))
+
+  pub begins_with : (xs ys : List X) → AllPairs R xs → AllPairs R ys → ((z : X) → Contains xs z → Low z) → ((z : X) → Contains xs z → Contains ys z) → ((z : X) → Contains ys z → Low z → Contains xs z) → (rest : List X) × (ys ≡ xs ++ rest)
+  begins_with [] ys up all_up low to from = (ys, refl)
+  begins_with (x ∷ xs) [] up all_up low to from = none_held x (to x (0, omega arith, refl))
+  begins_with (x ∷ xs) (y ∷ ys) up all_up low to from =
+      let first : y ≡ x = same_first x y xs ys up all_up (low x (0, omega arith, refl)) (first_or_later y ys x (to x (0, omega arith, refl))) (from y (0, omega arith, refl)) in
+      let tails = begins_with xs ys (rest_rises x xs up) (rest_rises y ys all_up)
+      (λ z here. low z (later x xs z here))
+      (λ z here. passes_first x y xs ys z (sym first) up here (first_or_later y ys z (to z (later x xs z here))))
+      (λ z there down. passes_first y x ys xs z first all_up there (first_or_later x xs z (from z (later y ys z there) down))) in
+      (tails.0, λ i. first i ∷ tails.1 i)
+
+-- ---- in the order of prefixes
+
+-- what doesn't stand behind a prefix stands before what does
+before_case : (a after b : PrefixValue) (o : Ordering) → prefix_cmp after a ≡ o → o ≢ Less → prefix_cmp after b ≡ Less → prefix_cmp a b ≡ Less
+before_case a after b Less is low behind = absurd (low refl)
+before_case a after b Equal is low behind = subst (λ (p : PrefixValue). prefix_cmp p b ≡ Less) (same_block after a is) behind
+before_case a after b Greater is low behind = (let turned : prefix_cmp a after ≡ Less = block_total.antisymm a after ∙ ap ordering_reverse is in block_total.trans a after b turned behind)
+
+before_behind : (a after b : PrefixValue) → prefix_cmp after a ≢ Less → prefix_cmp after b ≡ Less → prefix_cmp a b ≡ Less
+before_behind a after b low behind = before_case a after b (prefix_cmp after a) refl low behind
+
+-- it stands before it, or not
+less_or_not : (o : Ordering) → (o ≡ Less) ⊎ (o ≢ Less)
+less_or_not Less = inl refl
+less_or_not Equal = inr (λ is. absurd cc)
+less_or_not Greater = inr (λ is. absurd cc)
+
+-- of two of which neither is the greater one both are the same
+tie_of : (o : Ordering) → o ≢ Greater → o ≢ Less → o ≡ Equal
+tie_of Less low high = absurd (high refl)
+tie_of Equal low high = refl
+tie_of Greater low high = absurd (low refl)
+
+-- rows by their prefixes
+abbrev pub IsBefore : RowValue → RowValue → Type 0
+IsBefore a b = prefix_cmp a.mapping.eid b.mapping.eid ≡ Less
+
+strictly : (a b : RowValue) → IsBefore a b → IsBefore b a → ⊥
+strictly a b one other = not_both block_total a.mapping.eid b.mapping.eid one other
+
+abbrev pub UpTo : PrefixValue → RowValue → Type 0
+UpTo after h = prefix_cmp after h.mapping.eid ≢ Less
+
+sooner : (after : PrefixValue) (a b : RowValue) → IsBefore a b → UpTo after b → UpTo after a
+sooner after a b before low behind = low (block_total.trans after a.mapping.eid b.mapping.eid behind before)
+
+live : (outer : PrefixValue) (now : ℕ) (h : RowValue) → is_alive h now ≡ true → is_inside outer h.mapping.eid ≡ true → is_live_inside outer now h ≡ true
+live outer now h alive inside = and_from (is_alive h now) (is_inside outer h.mapping.eid) alive inside
+
+-- ---- the walk
+
+module _ (rows : List RowValue) (outer : PrefixValue) (now : ℕ) where
+  -- a best row whose prefix is that of an element of a list of best rows is that element
+  its_own : OneEach rows → (list : List RowValue) → ((h : RowValue) → Contains list h → IsBestOfOwn rows now h × (is_inside outer h.mapping.eid ≡ true)) → (h : RowValue) → IsBestOfOwn rows now h → (own : RowValue) × Contains list own × (own.mapping.eid ≡ h.mapping.eid) → Contains list h
+  its_own one list best h is (own, held, same) = subst (Contains list) (own_best_is_one rows now one own h (best own held).0 is same) held
+
+  pub seen_begins : (after : PrefixValue) (seen inside : List RowValue) → OneEach rows → AreSeen rows outer now after seen → AreInside rows outer now inside → (rest : List RowValue) × (inside ≡ seen ++ rest)
+  seen_begins after seen inside one are_seen are_inside = begins_with IsBefore strictly (UpTo after) (sooner after) seen inside are_seen.rising are_inside.rising are_seen.up_to to from
+    where
+      to : (h : RowValue) → Contains seen h → Contains inside h
+      to h here =
+          let is = are_seen.best h here in
+          its_own one inside are_inside.best h is.0 (are_inside.all h is.0.held (live outer now h is.0.alive is.1))
+
+      from : (h : RowValue) → Contains inside h → UpTo after h → Contains seen h
+      from h there low =
+          let is = are_inside.best h there in
+          its_own one seen are_seen.best h is.0 (are_seen.all h is.0.held (live outer now h is.0.alive is.1) low)
+
+  -- at its beginning nothing was seen
+  pub seen_none : AreSeen rows outer now outer []
+  seen_none = record {
+    rising = λ i j d lt within. absurd (omega (arith, within));
+    best = λ h here. none_held h here;
+    up_to = λ h here. none_held h here;
+    all = λ h held is low. absurd (low (inside_behind outer h.mapping.eid (and_parts (is_alive h now) (is_inside outer h.mapping.eid) is).1));
+  }
+
+  -- one prefix more was seen
+  pub seen_more : (after : PrefixValue) (seen : List RowValue) (h : RowValue) → AreSeen rows outer now after seen → IsNextInside rows outer after now h → AreSeen rows outer now h.mapping.eid (seen ++ h ∷ [])
+  seen_more after seen h are next = record {
+    rising = all_pairs_push IsBefore seen h are.rising (λ k d lt. before (slice_index_or seen k d) (Contains-get_or seen k d lt));
+    best = λ g here. best g (Contains-push_cases seen h g here);
+    up_to = λ g here. up_to g (Contains-push_cases seen h g here);
+    all = λ g held is low. all g held is low (less_or_not (prefix_cmp after g.mapping.eid));
+  }
+    where
+      before : (g : RowValue) → Contains seen g → IsBefore g h
+      before g here = before_behind g.mapping.eid after h.mapping.eid (are.up_to g here) next.behind
+
+      best : (g : RowValue) → Contains seen g ⊎ (h ≡ g) → IsBestOfOwn rows now g × (is_inside outer g.mapping.eid ≡ true)
+      best g (inl here) = are.best g here
+      best g (inr same) = subst (λ (x : RowValue). IsBestOfOwn rows now x × (is_inside outer x.mapping.eid ≡ true)) same (next.best, next.inside)
+
+      up_to : (g : RowValue) → Contains seen g ⊎ (h ≡ g) → UpTo h.mapping.eid g
+      up_to g (inl here) behind = strictly g h (before g here) behind
+      up_to g (inr same) behind = (let own : IsBefore h h = subst (IsBefore h) (sym same) behind in strictly h h own own)
+
+      all : (g : RowValue) → Contains rows g → is_live_inside outer now g ≡ true → UpTo h.mapping.eid g → (prefix_cmp after g.mapping.eid ≡ Less) ⊎ (prefix_cmp after g.mapping.eid ≢ Less) → (own : RowValue) × Contains (seen ++ h ∷ []) own × (own.mapping.eid ≡ g.mapping.eid)
+      all g held is low (inl behind) = (h, Contains-push seen h, same_block h.mapping.eid g.mapping.eid (tie_of (prefix_cmp h.mapping.eid g.mapping.eid) (next.first g held is behind) low))
+      all g held is low (inr seen_before) =
+          let own = are.all g held is seen_before in
+          (own.0, Contains-append_left seen (h ∷ []) own.0 own.1, own.2)
+
+  -- where no further prefix is inside all were seen
+  pub seen_all : (after : PrefixValue) (seen : List RowValue) → AreSeen rows outer now after seen → NoneInside rows outer after now → AreInside rows outer now seen
+  seen_all after seen are none = record { rising = are.rising; best = are.best; all = λ h held is. are.all h held is (none h held is) }
+
+-- ---- there is one list of the prefixes inside
+
+nothing_left : {X : Type 0} (one other more less : List X) → other ≡ one ++ more → one ≡ other ++ less → one ≡ other
+nothing_left one other [] less is also = sym (append-nil one) ∙ sym is
+nothing_left one other (x ∷ xs) less is also = absurd (omega (arith, ap length is, ap length also, length-append one (x ∷ xs), length-append other less))
+
+pub one_inside : (rows : List RowValue) → HaveOneInside rows
+one_inside rows one_each outer now one other is also =
+    let more = begins one other is also in
+    let less = begins other one also is in
+    nothing_left one other more.0 less.0 more.1 less.1
+  where
+    to : (xs ys : List RowValue) → AreInside rows outer now xs → AreInside rows outer now ys → (h : RowValue) → Contains xs h → Contains ys h
+    to xs ys are all h here =
+        let is = are.best h here in
+        its_own rows outer now one_each ys all.best h is.0 (all.all h is.0.held (live outer now h is.0.alive is.1))
+
+    begins : (xs ys : List RowValue) → AreInside rows outer now xs → AreInside rows outer now ys → (rest : List RowValue) × (ys ≡ xs ++ rest)
+    begins xs ys are all = begins_with IsBefore strictly (λ _. ⊤) (λ a b before low. tt) xs ys are.rising all.rising (λ h here. tt) (to xs ys are all) (λ h there low. to ys xs all are h there)
