@@ -1,2 +1,3 @@
 pub mod SeenLaws
 pub mod WalkLaws
+pub mod FitLaws

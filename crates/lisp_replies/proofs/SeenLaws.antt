@@ -1,9 +1,9 @@
 -- The walk over the prefixes inside: what was seen is the front of the list of all.
-use Rattle.std.proofs.Common.{◌≡◌, ◌≢◌, ◌⊎◌, inl, inr, ℕ, zero, suc, ◌+◌, ◌<◌, true, List, [], ◌∷◌, ◌++◌, length, slice_index_or, refl, sym, ap, ◌∙◌, subst, arith, length-append}
+use Rattle.std.proofs.Common.{◌≡◌, ◌≢◌, ◌⊎◌, inl, inr, ℕ, zero, suc, ◌+◌, true, List, [], ◌∷◌, ◌++◌, length, slice_index_or, refl, sym, ap, ◌∙◌, subst, arith, length-append}
 use Rattle.std.specs.Bool.{⊤}
 use Rattle.std.proofs.lemmas.Bool.{and_from, and_parts}
 use Rattle.std.specs.List.{AllPairs, Contains}
-use Rattle.std.specs.Ordering.{nat_cmp, bool_cmp, ordering_reverse, ordering_then}
+use Rattle.std.specs.Ordering.{ordering_reverse, ordering_then}
 use Rattle.std.specs.declared.cmp.Ordering.{Ordering}
 use Rattle.std.specs.declared.cmp.Ordering.TheVariants.{Less, Equal, Greater}
 use Rattle.std.proofs.lemmas.List.{append-nil}
@@ -12,11 +12,9 @@ use Rattle.std.proofs.lemmas.List.Quantifiers.{all_pairs_push}
 use Rattle.lisp_records.specs.Address.{PrefixValue, prefix_cmp}
 use Rattle.lisp_records.specs.Router.{router_cmp}
 use Rattle.lisp_records.specs.Row.{RowValue, is_alive}
-use Rattle.lisp_lookup.specs.Answer.{rank_cmp}
 use Rattle.lisp_lookup.specs.Inside.{is_inside, is_live_inside, IsBestOfOwn, IsNextInside, NoneInside, AreInside}
-use Rattle.lisp_lookup.specs.Table.{OneEach, row_at, row_key}
+use Rattle.lisp_lookup.specs.Table.{OneEach, row_at}
 use Rattle.lisp_lookup.proofs.AnswerLaws.{ranks_tie}
-use Rattle.lisp_lookup.proofs.IndexLaws.{itself}
 use Rattle.lisp_lookup.proofs.InsideLaws.{inside_behind, not_both}
 use Rattle.lisp_lookup.proofs.Orders.{block_total, same_block, same_router}
 use Rattle.lisp_lookup.proofs.TableLaws.{found_own, some_inj}
@@ -40,14 +38,14 @@ own_best_is_one rows now one a b best_a best_b same =
 -- ---- of two lists in strictly rising order, one has those of the other that are low
 
 module _ {X : Type 0} where
-  first_or_later : (x : X) (xs : List X) (z : X) → Contains (x ∷ xs) z → (x ≡ z) ⊎ Contains xs z
+  pub first_or_later : (x : X) (xs : List X) (z : X) → Contains (x ∷ xs) z → (x ≡ z) ⊎ Contains xs z
   first_or_later x xs z (zero, lt, at) = inl at
   first_or_later x xs z (suc k, lt, at) = inr (k, omega (arith, lt), at)
 
-  later : (x : X) (xs : List X) (z : X) → Contains xs z → Contains (x ∷ xs) z
+  pub later : (x : X) (xs : List X) (z : X) → Contains xs z → Contains (x ∷ xs) z
   later x xs z (k, lt, at) = (suc k, omega (arith, lt), at)
 
-  none_held : {P : Type 0} (z : X) → Contains [] z → P
+  pub none_held : {P : Type 0} (z : X) → Contains [] z → P
   none_held z (k, lt, at) = absurd (omega (arith, lt))
 
 module _ {X : Type 0} (R : X → X → Type 0) (strict : (a b : X) → R a b → R b a → ⊥) (Low : X → Type 0) (lower : (a b : X) → R a b → Low b → Low a) where
