@@ -31,7 +31,7 @@ pub record IsKept (rows : List RowValue) (asked : Addr) (now : ℕ) (records : L
 pub record IsKeptNone (rows : List RowValue) (sites : List SiteValue) (asked : Addr) (now : ℕ) (eid : PrefixValue) (ttl : ℕ) : Type 0 where
   pub has : holds eid asked ≡ true
   pub none : (addr : Addr) → holds eid addr ≡ true → NoneAnswers rows addr now
-  pub ttl : (addr : Addr) → holds eid addr ≡ true → ttl ≡ negative_ttl (is_configured sites addr)
+  pub as_long : (addr : Addr) → holds eid addr ≡ true → ttl ≡ negative_ttl (is_configured sites addr)
 
 abbrev pub MayBeKept : {A : Type 0} → List RowValue → List SiteValue → Addr → ℕ → Reply A → Type 0
 MayBeKept rows sites asked now (Records records) = IsKept rows asked now records
