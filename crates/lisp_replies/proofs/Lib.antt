@@ -1,3 +1,6 @@
 pub mod SeenLaws
 pub mod WalkLaws
 pub mod FitLaws
+pub mod LongestLaws
+pub mod KeptLaws
+pub mod AlikeLaws
