@@ -1,16 +1,22 @@
 -- Walks over the prefixes inside a prefix: what was seen so far, and what is known of it at the end.
-use Rattle.std.proofs.Common.{◌≡◌, ◌≢◌, ◌⊎◌, inl, inr, ℕ, zero, suc, ◌+◌, ◌<◌, ◌≤◌, min, List, [], ◌∷◌, ◌++◌, length, refl, sym, ap, ◌∙◌, subst, arith}
+use Rattle.std.proofs.Common.{◌≡◌, ◌≢◌, ◌⊎◌, inl, inr, ℕ, zero, suc, ◌+◌, ◌<◌, ◌≤◌, min, true, false, List, [], ◌∷◌, ◌++◌, length, map, refl, sym, ap, ◌∙◌, subst, arith}
 use Rattle.std.specs.List.{Contains}
 use Rattle.std.proofs.lemmas.Bool.{cases_lt}
-use Rattle.std.proofs.lemmas.List.{length-append}
+use Rattle.std.proofs.lemmas.List.{length-append, map-append}
+use Rattle.std.proofs.lemmas.List.Sums.{sum_by-append}
 use Rattle.std.proofs.lemmas.List.Elements.{Contains-append_left, Contains-append_right, Contains-append_cases}
 use Rattle.lisp_records.specs.Address.{PrefixValue}
+use Rattle.lisp_records.specs.Parts.{fits_message, size}
+use Rattle.lisp_records.specs.Record.{MapRecordValue}
 use Rattle.lisp_records.specs.Row.{RowValue}
+use Rattle.lisp_records.specs.Written.{written}
+use Rattle.lisp_records.proofs.Cuts.{begins_fits, fits, fits_is}
+use Rattle.lisp_policy.proofs.Found.{not_true}
 use Rattle.lisp_lookup.specs.Inside.{AreInside, IsNextInside, NoneInside}
-use Rattle.lisp_lookup.specs.Replies.{IsLeastTtl}
+use Rattle.lisp_lookup.specs.Replies.{IsLeastTtl, record_of}
 use Rattle.lisp_lookup.specs.Table.{OneEach}
-use Rattle.lisp_replies.specs.Walk.{AreSeen, HasMoreThan}
-use Rattle.lisp_replies.proofs.SeenLaws.{seen_begins, seen_none, seen_more, seen_all}
+use Rattle.lisp_replies.specs.Walk.{AreSeen, HasMoreThan, records_of}
+use Rattle.lisp_replies.proofs.SeenLaws.{seen_begins, seen_none, seen_more, seen_all, one_inside}
 
 -- ---- the least TTL
 
@@ -75,4 +81,57 @@ module _ (rows : List RowValue) (best : RowValue) (outer : PrefixValue) (now : �
   walked_all after count least one walked none inside are = subst (λ (l : List RowValue). IsLeastTtl (best ∷ l) least) same walked.known
     where
       same : walked.seen ≡ inside
-      same = ?
+      same = one_inside rows one outer now walked.seen inside (seen_all rows outer now after walked.seen walked.are none) are
+
+-- ---- the walk that makes the records
+
+-- what was seen up to a prefix, and the records of it, which one message can carry
+pub record AreMade (rows : List RowValue) (best : RowValue) (outer : PrefixValue) (now ttl : ℕ) (after : PrefixValue) (records : List MapRecordValue) (bytes : ℕ) : Type 0 where
+  pub seen : List RowValue
+  pub are : AreSeen rows outer now after seen
+  pub made : records ≡ records_of ttl outer best seen
+  pub counted : bytes ≡ size records
+  pub fit : fits_message records ≡ true
+
+module _ (rows : List RowValue) (best : RowValue) (outer : PrefixValue) (now ttl : ℕ) where
+  pub made_one : (r : MapRecordValue) (bytes : ℕ) → r ≡ record_of ttl outer best → bytes ≡ length (written r) → bytes ≤ 6148 → AreMade rows best outer now ttl outer (r ∷ []) bytes
+  made_one r bytes is counted small =
+      let its : bytes ≡ size (r ∷ []) = omega (arith, counted) in
+      record { seen = []; are = seen_none rows outer now; made = ap (λ (m : MapRecordValue). m ∷ []) is; counted = its; fit = fits (r ∷ []) (omega arith) (omega (arith, its, small)) }
+
+  module _ (after : PrefixValue) (records : List MapRecordValue) (bytes : ℕ) (h : RowValue) (r : MapRecordValue) (more : ℕ) (made : AreMade rows best outer now ttl after records bytes) (next : IsNextInside rows outer after now h) (is : r ≡ record_of ttl h.mapping.eid h) (counted : more ≡ length (written r)) where
+    seen_then : AreSeen rows outer now h.mapping.eid (made.seen ++ h ∷ [])
+    seen_then = seen_more rows outer now after made.seen h made.are next
+
+    then_made : records ++ r ∷ [] ≡ records_of ttl outer best (made.seen ++ h ∷ [])
+    then_made = (λ i. made.made i ++ is i ∷ []) ∙ ap (λ (l : List MapRecordValue). record_of ttl outer best ∷ l) (sym (map-append (λ (x : RowValue). record_of ttl x.mapping.eid x) made.seen (h ∷ [])))
+
+    then_size : bytes + more ≡ size (records ++ r ∷ [])
+    then_size = omega (arith, made.counted, counted, sum_by-append (λ (m : MapRecordValue). length (written m)) records (r ∷ []))
+
+    pub made_more : length records ≢ 255 → bytes + more ≤ 16384 → AreMade rows best outer now ttl h.mapping.eid (records ++ r ∷ []) (bytes + more)
+    made_more few small = record {
+      seen = made.seen ++ h ∷ [];
+      are = seen_then;
+      made = then_made;
+      counted = then_size;
+      fit = fits (records ++ r ∷ []) (omega (arith, few, (fits_is records made.fit).0, length-append records (r ∷ []))) (omega (arith, then_size, small));
+    }
+
+    -- one record more, and no message carries all
+    pub made_many : OneEach rows → (length records ≡ 255) ⊎ (16384 < bytes + more) → (inside : List RowValue) → AreInside rows outer now inside → fits_message (records_of ttl outer best inside) ≡ false
+    made_many one full inside are = not_true (fits_message (records_of ttl outer best inside)) (λ fit. too_many full (fits_is (records ++ r ∷ []) (begins_fits (records ++ r ∷ []) _ (subst (λ (l : List MapRecordValue). fits_message l ≡ true) front fit))))
+      where
+        begins : (rest : List RowValue) × (inside ≡ (made.seen ++ h ∷ []) ++ rest)
+        begins = seen_begins rows outer now h.mapping.eid (made.seen ++ h ∷ []) inside one seen_then are
+
+        front : records_of ttl outer best inside ≡ (records ++ r ∷ []) ++ map (λ (x : RowValue). record_of ttl x.mapping.eid x) begins.0
+        front = ap (records_of ttl outer best) begins.1 ∙ ap (λ (l : List MapRecordValue). record_of ttl outer best ∷ l) (map-append (λ (x : RowValue). record_of ttl x.mapping.eid x) (made.seen ++ h ∷ []) begins.0) ∙ ap (λ (l : List MapRecordValue). l ++ map (λ (x : RowValue). record_of ttl x.mapping.eid x) begins.0) (sym then_made)
+
+        too_many : (length records ≡ 255) ⊎ (16384 < bytes + more) → (length (records ++ r ∷ []) ≤ 255) × (size (records ++ r ∷ []) ≤ 16384) → ⊥
+        too_many (inl long) known = omega (arith, long, known.0, length-append records (r ∷ []))
+        too_many (inr large) known = omega (arith, large, known.1, then_size)
+
+  -- nothing is left
+  pub made_all : (after : PrefixValue) (records : List MapRecordValue) (bytes : ℕ) → AreMade rows best outer now ttl after records bytes → NoneInside rows outer after now → (inside : List RowValue) × AreInside rows outer now inside × (records ≡ records_of ttl outer best inside) × (fits_message records ≡ true)
+  made_all after records bytes made none = (made.seen, seen_all rows outer now after made.seen made.are none, made.made, made.fit)

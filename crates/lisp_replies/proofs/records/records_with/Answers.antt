@@ -3,6 +3,8 @@ use Rattle.lisp_records.specs.Record.{MapRecordValue}
 use Rattle.lisp_records.specs.Row.{RowValue}
 use Rattle.lisp_records.specs.Address.{PrefixValue}
 use Rattle.lisp_lookup.specs.Replies.{record_of}
+use Rattle.lisp_records.proofs.Cuts.{fits_is}
+use Rattle.lisp_lookup.proofs.CachedLaws.{its_eid}
 use Rattle.lisp_replies.proofs.WalkLaws.{AreMade, made_one, made_more, made_many, made_all}
 use Rattle.lisp_replies.proofs.records.records_with.Goals as goal
 
@@ -12,16 +14,24 @@ loop-row-init g c =
     rw (items) (made_one c.args.table.now.rows c.args.best.now c.args.eid.now c.args.now c.args.ttl c.in_ok-first.first c.written_len-size.result c.in_ok-first.ensures.record c.written_len-size.ensures.len c.written_len-size.ensures.small)
 
 pub returns-then-len-eq-MAX_RECORDS-clause-unfit : goal.returns-then-len-eq-MAX_RECORDS-clause-unfit
-returns-then-len-eq-MAX_RECORDS-clause-unfit g c = λ _. made_many c.args.table.now.rows c.args.best.now c.args.eid.now c.args.now c.args.ttl c.loop-row.after c.loop-row.records.items c.loop-row.size c.in-Some.row.now c.in_ok-record.record c.written_len-size-in-Some.result c.loop-row.invariant c.in-Some.ensures.next ? ? c.requires.one_each (full c.then-len-eq-MAX_RECORDS.either)
+returns-then-len-eq-MAX_RECORDS-clause-unfit g c = λ _.
+    (let eid = c.eid_ref.ensures ∙ ap (λ (h : RowValue). h.mapping.eid) c.row.view_is in
+    let is = c.in_ok-record.ensures.record ∙ ap (λ (e : PrefixValue). record_of c.args.ttl e c.in-Some.row.now) eid in
+    made_many c.args.table.now.rows c.args.best.now c.args.eid.now c.args.now c.args.ttl c.loop-row.after c.loop-row.records.items c.loop-row.size c.in-Some.row.now c.in_ok-record.record c.written_len-size-in-Some.result c.loop-row.invariant c.in-Some.ensures.next is c.written_len-size-in-Some.ensures.len c.requires.one_each (full c.then-len-eq-MAX_RECORDS.either))
   where
-    full : ?
-    full = ?
+    full : (c.len.result ≡ 255) ⊎ ((c.len.result ≡ 255 → ⊥) × (16384 < c.loop-row.size + c.written_len-size-in-Some.result)) → (length c.loop-row.records.items ≡ 255) ⊎ (16384 < c.loop-row.size + c.written_len-size-in-Some.result)
+    full (inl long) = inl (omega (arith, c.loop-row.records.ok, c.len.ensures, long))
+    full (inr (few, large)) = inr large
 
 pub loop-row-smaller : goal.loop-row-smaller
-loop-row-smaller g c = ?
+loop-row-smaller g c = omega (arith, c.loop-row.records.ok, ap length c.in_ok-try_push-2.ensures.items, length-append c.loop-row.records.items (c.in_ok-record.record ∷ []), c.if-len-eq-MAX_RECORDS.false, c.len.ensures, (fits_is c.loop-row.records.items c.loop-row.invariant.fit).0)
 
 pub loop-row-preserved : goal.loop-row-preserved
-loop-row-preserved g c = ?
+loop-row-preserved g c =
+    let rest = ap (λ (h : RowValue). h.mapping.eid) c.row.view_is in
+    let is = c.in_ok-record.ensures.record ∙ ap (λ (e : PrefixValue). record_of c.args.ttl e c.in-Some.row.now) (c.eid_ref.ensures ∙ rest) in
+    let after = c.eid-after.ensures ∙ ap (λ (r : MapRecordValue). r.eid) is ∙ its_eid c.args.ttl c.in-Some.row.now.mapping.eid c.in-Some.row.now in
+    rw (c.in_ok-try_push-2.ensures.items, after) (made_more c.args.table.now.rows c.args.best.now c.args.eid.now c.args.now c.args.ttl c.loop-row.after c.loop-row.records.items c.loop-row.size c.in-Some.row.now c.in_ok-record.record c.written_len-size-in-Some.result c.loop-row.invariant c.in-Some.ensures.next is c.written_len-size-in-Some.ensures.len (λ long. c.if-len-eq-MAX_RECORDS.false (omega (arith, c.loop-row.records.ok, c.len.ensures, long))) (omega (arith, c.if-size-gt-MAX_SIZE.false)))
 
 pub returns-clause-fit : goal.returns-clause-fit
-returns-clause-fit g c = ?
+returns-clause-fit g c = made_all c.args.table.now.rows c.args.best.now c.args.eid.now c.args.now c.args.ttl c.loop-row.after c.loop-row.records.items c.loop-row.size c.loop-row.invariant c.in_default.ensures.next
