@@ -1,22 +1,34 @@
 -- Walks over the prefixes inside a prefix: what was seen so far, and what is known of it at the end.
-use Rattle.std.proofs.Common.{◌≡◌, ◌≢◌, ◌⊎◌, inl, inr, ℕ, zero, suc, ◌+◌, ◌<◌, ◌≤◌, min, true, false, List, [], ◌∷◌, ◌++◌, length, map, refl, sym, ap, ◌∙◌, subst, arith}
+use Rattle.std.proofs.Common.{◌≡◌, ◌≢◌, ◌⊎◌, inl, inr, ℕ, zero, suc, ◌+◌, ◌<◌, ◌≤◌, min, nat_le, nat_lt, true, false, List, [], ◌∷◌, ◌++◌, length, map, refl, sym, ap, ◌∙◌, subst, arith}
 use Rattle.std.specs.List.{Contains}
-use Rattle.std.proofs.lemmas.Bool.{cases_lt}
+use Rattle.std.proofs.lemmas.Bool.{and_parts, cases_lt}
+use Rattle.std.proofs.lemmas.Bool.Decides.{Decides-ltb}
 use Rattle.std.proofs.lemmas.List.{length-append, map-append}
 use Rattle.std.proofs.lemmas.List.Sums.{sum_by-append}
 use Rattle.std.proofs.lemmas.List.Elements.{Contains-append_left, Contains-append_right, Contains-append_cases}
-use Rattle.lisp_records.specs.Address.{PrefixValue}
+use Rattle.lisp_records.specs.Address.{PrefixValue, IsPrefix, cleared, covers, holds, max_len}
 use Rattle.lisp_records.specs.Parts.{fits_message, size}
 use Rattle.lisp_records.specs.Record.{MapRecordValue}
 use Rattle.lisp_records.specs.Row.{RowValue}
 use Rattle.lisp_records.specs.Written.{written}
 use Rattle.lisp_records.proofs.Cuts.{begins_fits, fits, fits_is}
 use Rattle.lisp_policy.proofs.Found.{not_true}
-use Rattle.lisp_lookup.specs.Inside.{AreInside, IsNextInside, NoneInside}
+use Rattle.lisp_lookup.proofs.BestLaws.{same_family}
+use Rattle.lisp_lookup.proofs.Blocks.{addr_is}
+use Rattle.lisp_lookup.specs.Inside.{is_inside, AreInside, IsNextInside, NoneInside}
 use Rattle.lisp_lookup.specs.Replies.{IsLeastTtl, record_of}
 use Rattle.lisp_lookup.specs.Table.{OneEach}
+use Rattle.lisp_replies.specs.Narrowing.{FitFor, NoneFitFor}
 use Rattle.lisp_replies.specs.Walk.{AreSeen, HasMoreThan, records_of}
 use Rattle.lisp_replies.proofs.SeenLaws.{seen_begins, seen_none, seen_more, seen_all, one_inside}
+
+-- a prefix that another one is inside isn't one of a single address
+pub is_wider : (outer eid : PrefixValue) → is_inside outer eid ≡ true → IsPrefix eid → outer.mask_len < max_len outer.addr
+is_wider outer eid inside block =
+    let parts = and_parts (covers outer eid) (nat_lt outer.mask_len eid.mask_len) inside in
+    let has = (and_parts (nat_le outer.mask_len eid.mask_len) (holds outer eid.addr) parts.0).1 in
+    let same = addr_is (cleared eid.addr outer.mask_len) outer.addr has in
+    omega (arith, (Decides-ltb outer.mask_len eid.mask_len).0 parts.1, block.0, ap max_len same, same_family eid.addr outer.mask_len)
 
 -- ---- the least TTL
 
@@ -135,3 +147,19 @@ module _ (rows : List RowValue) (best : RowValue) (outer : PrefixValue) (now ttl
   -- nothing is left
   pub made_all : (after : PrefixValue) (records : List MapRecordValue) (bytes : ℕ) → AreMade rows best outer now ttl after records bytes → NoneInside rows outer after now → (inside : List RowValue) × AreInside rows outer now inside × (records ≡ records_of ttl outer best inside) × (fits_message records ≡ true)
   made_all after records bytes made none = (made.seen, seen_all rows outer now after made.seen made.are none, made.made, made.fit)
+
+-- ---- of any list of the prefixes inside
+
+one_least : (rows : List RowValue) (m n : ℕ) → IsLeastTtl rows m → IsLeastTtl rows n → m ≡ n
+one_least rows m n one other = omega (arith, one.is, other.is, one.least other.its other.held, other.least one.its one.held)
+
+module _ (rows : List RowValue) (best : RowValue) (eid : PrefixValue) (now ttl : ℕ) (known : (inside : List RowValue) → AreInside rows eid now inside → IsLeastTtl (best ∷ inside) ttl) where
+  -- records with the least TTL are those for the prefix
+  pub fit_for : (records : List MapRecordValue) → (inside : List RowValue) × AreInside rows eid now inside × (records ≡ records_of ttl eid best inside) × (fits_message records ≡ true) → FitFor rows eid now best records
+  fit_for records (inside, are, is, fit) = (record { inside = inside; are = are; ttl = ttl; least = known inside are; is = is }, fit)
+
+  -- where they don't fit, none do
+  pub unfit_for : ((inside : List RowValue) → AreInside rows eid now inside → fits_message (records_of ttl eid best inside) ≡ false) → NoneFitFor rows eid now best
+  unfit_for unfit records are =
+      let same = one_least (best ∷ are.inside) are.ttl ttl are.least (known are.inside are.are) in
+      ap fits_message are.is ∙ ap (λ (n : ℕ). fits_message (records_of n eid best are.inside)) same ∙ unfit are.inside are.are

@@ -1,7 +1,7 @@
 //! The widest prefix for which one message can carry the records.
 
-ghost use Rattle.std.specs.Prelude.{◌≡◌, ◌≤◌, None, IfOk, IfSome, OnErr};
-ghost use Rattle.lisp_records.specs.Address.{prefix_around};
+ghost use Rattle.std.specs.Prelude.{◌≡◌, ◌<◌, ◌≤◌, None, IfOk, IfSome, OnErr};
+ghost use Rattle.lisp_records.specs.Address.{max_len, prefix_around};
 ghost use Rattle.lisp_lookup.specs.Covering.{IsBestFor};
 ghost use Rattle.lisp_lookup.specs.Table.{OneEach};
 ghost use Rattle.lisp_replies.specs.Narrowing.{AreWidest, FitFor, FitNowhere, NoneFitFor};
@@ -27,6 +27,10 @@ pub(crate) fn widest_records<A: Allocator + Copy, C: Memory + Copy>(
         (λ records. AreWidest table.now.rows asked.now now best.now records.items)) }
     ensures nowhere { IfOk result (λ found. found ≡ None
         → FitNowhere table.now.rows asked.now now best.now) }
+
+    // A longer prefix is inside the one that is asked for then.
+    ensures inner { IfOk result (λ found. found ≡ None
+        → asked.now.mask_len < max_len asked.now.addr) }
     ensures memory { OnErr result C.may_refuse }
 {
     // Nearly always all records fit.
@@ -68,6 +72,7 @@ fn records_around<A: Allocator + Copy, C: Memory + Copy>(
         (prefix_around asked.now.addr length) now best.now records.items)) }
     ensures unfit { IfOk result (λ found. found ≡ None
         → NoneFitFor table.now.rows (prefix_around asked.now.addr length) now best.now) }
+    ensures inner { IfOk result (λ found. found ≡ None → length < max_len asked.now.addr) }
     ensures memory { OnErr result C.may_refuse }
 {
     let eid = Prefix::new(asked.addr(), length).unwrap();

@@ -1,6 +1,7 @@
 //! The records for a prefix, and whether one message can carry them.
 
-ghost use Rattle.std.specs.Prelude.{◌≡◌, ◌∷◌, List, None, true, false, map, IfOk, IfSome, OnErr};
+ghost use Rattle.std.specs.Prelude.{◌≡◌, ◌∷◌, ◌<◌, List, None, true, false, map, IfOk, IfSome, OnErr};
+ghost use Rattle.lisp_records.specs.Address.{max_len};
 ghost use Rattle.lisp_records.specs.Parts.{fits_message};
 ghost use Rattle.lisp_records.specs.Row.{RowValue};
 ghost use Rattle.lisp_lookup.specs.Inside.{AreInside};
@@ -31,6 +32,10 @@ pub(crate) fn records_for<A: Allocator + Copy, C: Memory + Copy>(
         (λ records. FitFor table.now.rows eid.now now best.now records.items)) }
     ensures unfit { IfOk result (λ found. found ≡ None
         → NoneFitFor table.now.rows eid.now now best.now) }
+
+    // A longer prefix is inside then.
+    ensures inner { IfOk result (λ found. found ≡ None
+        → eid.now.mask_len < max_len eid.now.addr) }
     ensures memory { OnErr result C.may_refuse }
 {
     match least_ttl(table, best, eid, now) {
@@ -51,17 +56,20 @@ fn least_ttl<A: Allocator + Copy>(
     ensures least { IfSome result (λ ttl. (inside : List RowValue)
         → AreInside table.now.rows eid.now now inside → IsLeastTtl (best.now ∷ inside) ttl) }
     ensures many { result ≡ None → HasMoreThan 254 table.now.rows eid.now now }
+    ensures inner { result ≡ None → eid.now.mask_len < max_len eid.now.addr }
 {
     let mut least = best.mapping.ttl();
     let mut after = *eid;
     let mut count = 1;
     while let Some(row) = table.next_inside(eid, &after, now) {
+        after = row.mapping.eid();
+        // A proof learns here that it is a block.
+        let _first = after.addr();
         if count == MAX_RECORDS {
             return None;
         }
         count += 1;
         least = least.min(row.mapping.ttl());
-        after = row.mapping.eid();
     }
     Some(least)
 }
@@ -83,6 +91,8 @@ fn records_with<A: Allocator + Copy, C: Memory + Copy>(
     ensures unfit { IfOk result (λ found. found ≡ None → (inside : List RowValue)
         → AreInside table.now.rows eid.now now inside
         → fits_message (records_of ttl eid.now best.now inside) ≡ false) }
+    ensures inner { IfOk result (λ found. found ≡ None
+        → eid.now.mask_len < max_len eid.now.addr) }
     ensures memory { OnErr result C.may_refuse }
 {
     let first = record_of(alloc, ttl, eid, best)?;

@@ -1,7 +1,8 @@
 //! What a Map-Server sends.
 
-ghost use Rattle.std.specs.Prelude.{◌≡◌, None, IfOk, IfSome, OnErr};
-ghost use Rattle.lisp_lookup.specs.Covering.{alone};
+ghost use Rattle.std.specs.Prelude.{◌≡◌, ◌⊎◌, ◌<◌, None, IfOk, IfSome, OnErr};
+ghost use Rattle.lisp_records.specs.Address.{max_len};
+ghost use Rattle.lisp_lookup.specs.Covering.{alone, NoneAnswersFor};
 ghost use Rattle.lisp_lookup.specs.Table.{OneEach};
 ghost use Rattle.lisp_replies.specs.Reply.{IsReply, IsUnanswered, RepliesFor, RepliesNone, negative_ttl};
 
@@ -61,6 +62,11 @@ fn reply_for<A: Allocator + Copy, B: Allocator, C: Memory + Copy>(
         (λ reply. RepliesFor table.now.rows sites.now asked.now starting now reply)) }
     ensures unanswered { IfOk result (λ found. found ≡ None
         → IsUnanswered table.now.rows sites.now asked.now starting now) }
+
+    // A row's records always fit for a prefix of one address.
+    ensures inner { IfOk result (λ found. found ≡ None
+        → NoneAnswersFor table.now.rows asked.now now
+        ⊎ (asked.now.mask_len < max_len asked.now.addr)) }
     ensures memory { OnErr result C.may_refuse }
 {
     let Some(best) = table.best_for(asked, now) else {
@@ -86,7 +92,7 @@ fn negative<A: Allocator + Copy, B: Allocator, C: Memory + Copy>(
     starting: bool,
     now: u64,
 ) -> Reply<C>
-    requires { IsUnanswered table.now.rows sites.now (alone addr.now) starting now }
+    requires { NoneAnswersFor table.now.rows (alone addr.now) now }
     ensures { RepliesNone table.now.rows sites.now addr.now starting now result }
 {
     if starting {

@@ -1,11 +1,11 @@
-use Rattle.std.proofs.Common.{◌≡◌, ◌⊎◌, inl, inr, ◌+◌, ◌<◌, List, [], ◌∷◌, ◌++◌, length, sym, ap, ◌∙◌, subst, arith, length-append}
+use Rattle.std.proofs.Common.{◌≡◌, ◌⊎◌, inl, inr, ◌+◌, ◌<◌, List, [], ◌∷◌, ◌++◌, length, ap, ◌∙◌, subst, arith, length-append}
 use Rattle.lisp_records.specs.Record.{MapRecordValue}
 use Rattle.lisp_records.specs.Row.{RowValue}
-use Rattle.lisp_records.specs.Address.{PrefixValue}
+use Rattle.lisp_records.specs.Address.{PrefixValue, IsPrefix}
 use Rattle.lisp_lookup.specs.Replies.{record_of}
 use Rattle.lisp_records.proofs.Cuts.{fits_is}
 use Rattle.lisp_lookup.proofs.CachedLaws.{its_eid}
-use Rattle.lisp_replies.proofs.WalkLaws.{AreMade, made_one, made_more, made_many, made_all}
+use Rattle.lisp_replies.proofs.WalkLaws.{is_wider, made_one, made_more, made_many, made_all}
 use Rattle.lisp_replies.proofs.records.records_with.Goals as goal
 
 pub loop-row-init : goal.loop-row-init
@@ -35,3 +35,9 @@ loop-row-preserved g c =
 
 pub returns-clause-fit : goal.returns-clause-fit
 returns-clause-fit g c = made_all c.args.table.now.rows c.args.best.now c.args.eid.now c.args.now c.args.ttl c.loop-row.after c.loop-row.records.items c.loop-row.size c.loop-row.invariant c.in_default.ensures.next
+
+pub returns-then-len-eq-MAX_RECORDS-clause-inner : goal.returns-then-len-eq-MAX_RECORDS-clause-inner
+returns-then-len-eq-MAX_RECORDS-clause-inner g c = λ _.
+    (let eid = c.eid_ref.ensures ∙ ap (λ (h : RowValue). h.mapping.eid) c.row.view_is in
+    let is = ap (λ (r : MapRecordValue). r.eid) (c.record.view_is ∙ c.in_ok-record.ensures.record) ∙ its_eid c.args.ttl c.eid_ref.result.now c.in-Some.row.now ∙ eid in
+    is_wider c.args.eid.now c.in-Some.row.now.mapping.eid c.in-Some.ensures.next.inside (subst IsPrefix is c.record.invariant.block))
