@@ -4,3 +4,4 @@ pub mod FitLaws
 pub mod LongestLaws
 pub mod KeptLaws
 pub mod AlikeLaws
+pub mod NarrowingLaws
