@@ -3,6 +3,7 @@
 ghost use Rattle.std.specs.Prelude.{◌≡◌, ◌+◌, ◌-◌, ◌*◌, ◌^◌, ◌≤◌, ◌<◌, [], None, true, false, length, nat_le, slice_get, IsOk, IfOk, IfSome, OnOk, OnErr};
 ghost use Rattle.std.specs.Option.{MatchOption, option_map};
 ghost use Rattle.std.specs.List.{All, filter, position};
+ghost use Rattle.lisp_records.specs.Address.{IsPrefix};
 ghost use Rattle.lisp_records.specs.Moment.{max_moment};
 ghost use Rattle.lisp_records.specs.Row.{is_alive};
 ghost use Rattle.lisp_lookup.specs.Table.{OneEach, Sets, Expires, DropsDead, row_key, row_cmp, IsHeld, IsNextLive, count_lesser, live_from};
@@ -182,7 +183,10 @@ impl<A: Allocator + Copy> Table<A> {
     pub fn best_for(&self, asked: &Prefix, now: u64) -> Option<&Row<A>>
         ensures best { IsBestForOf self.now.rows asked.now now
             (option_map (λ row. row.now) result) }
+
+        // What the type promises of its rows.
         ensures one_each { OneEach self.now.rows }
+        ensures blocks { All (λ h. IsPrefix h.mapping.eid) self.now.rows }
     {
         best_for(&self.items, &self.by_prefix, asked, now)
     }
