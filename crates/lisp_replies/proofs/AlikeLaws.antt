@@ -1,7 +1,6 @@
 -- Rows that are alive make the reply, and no others: neither those that died nor their order.
-use Rattle.std.proofs.Common.{◌≡◌, ◌⊎◌, inl, inr, ℕ, Bool, true, false, List, refl, sym, ap, ◌∙◌, true≢false}
+use Rattle.std.proofs.Common.{◌≡◌, inl, inr, ℕ, Bool, true, List, sym, ◌∙◌, true≢false}
 use Rattle.std.proofs.lemmas.Bool.{and_parts}
-use Rattle.std.specs.List.{Contains}
 use Rattle.lisp_records.specs.declared.address.Addr.{Addr}
 use Rattle.lisp_records.specs.Address.{PrefixValue, covers, prefix_around}
 use Rattle.lisp_records.specs.Record.{MapRecordValue}
@@ -10,7 +9,7 @@ use Rattle.lisp_policy.proofs.Found.{not_true}
 use Rattle.lisp_policy.specs.Site.{SiteValue}
 use Rattle.lisp_lookup.specs.Covering.{IsBestFor, NoneAnswersFor, alone, may_answer_for}
 use Rattle.lisp_lookup.specs.Hole.{IsAlike, IsEmptyIn, IsHole}
-use Rattle.lisp_lookup.specs.Inside.{AreInside, IsBestOfOwn, is_inside, is_live_inside}
+use Rattle.lisp_lookup.specs.Inside.{AreInside, IsBestOfOwn, is_inside}
 use Rattle.lisp_lookup.specs.Replies.{AreRecords, RepliesWith}
 use Rattle.lisp_replies.specs.Kept.{ReplyAlike, SameLive}
 use Rattle.lisp_replies.specs.Narrowing.{FitNowhere, NoneFitFor}

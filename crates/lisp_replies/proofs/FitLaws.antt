@@ -1,37 +1,29 @@
 -- What one message can carry: records for a narrower prefix where it carries those for a wider one, and one record alone.
-use Rattle.std.proofs.Common.{◌≡◌, ◌⊎◌, inl, inr, ℕ, ◌+◌, ◌*◌, ◌^◌, ◌<◌, ◌≤◌, Bool, true, false, cond, nat_le, nat_lt, List, [], ◌∷◌, ◌++◌, length, map, if◌then◌else◌, refl, sym, ap, ◌∙◌, subst, true≢false, arith, length-append}
-use Rattle.std.specs.List.{All, AllByRecursion, Contains, filter}
+use Rattle.std.proofs.Common.{◌≡◌, ◌⊎◌, inl, inr, ℕ, ◌+◌, ◌<◌, ◌≤◌, Bool, true, false, cond, nat_le, nat_lt, List, [], ◌∷◌, ◌++◌, length, map, if◌then◌else◌, refl, sym, ap, ◌∙◌, subst, true≢false, arith, length-append}
+use Rattle.std.specs.List.{Contains, filter}
 use Rattle.std.proofs.lemmas.Bool.{and_from, and_parts, cases_lt, le-leb}
 use Rattle.std.proofs.lemmas.Bool.Decides.{Decides-ltb}
 use Rattle.std.proofs.lemmas.List.{length-map}
-use Rattle.std.proofs.lemmas.List.Elements.{All-contains}
 use Rattle.std.proofs.lemmas.List.Kept.{AllPairs-filter}
 use Rattle.std.proofs.lemmas.List.Sums.{sum_by-cons}
 use Rattle.lisp_records.specs.declared.address.Addr.{Addr}
 use Rattle.lisp_records.specs.declared.address.Addr.TheVariants.{V4, V6}
-use Rattle.lisp_records.specs.declared.address.Family.{Family}
-use Rattle.lisp_records.specs.declared.address.Family.TheVariants.{Ipv4, Ipv6}
-use Rattle.lisp_records.specs.declared.locator.Locator.{Locator}
-use Rattle.lisp_records.specs.Address.{PrefixValue, IsPrefix, IsWhole, addr_eq, cleared, covers, family, holds, max_len, octets, prefix_around, width}
+use Rattle.lisp_records.specs.Address.{PrefixValue, addr_eq, cleared, covers, octets, prefix_around}
 use Rattle.lisp_records.specs.Parts.{fits_message, size}
-use Rattle.lisp_records.specs.Record.{MapRecordValue, IsLocator, IsMapRecord}
+use Rattle.lisp_records.specs.Record.{MapRecordValue}
 use Rattle.lisp_records.specs.Row.{RowValue, is_alive}
-use Rattle.lisp_records.specs.Written.{written, written_address, written_head, written_locator, written_locator_head, written_locators}
-use Rattle.lisp_records.proofs.AddressLemmas.{cleared-again, cleared-wider, length-masked, IsBlock-cleared, IsWhole-cleared}
+use Rattle.lisp_records.specs.Written.{written, written_address, written_head, written_locators}
+use Rattle.lisp_records.proofs.AddressLemmas.{cleared-wider, length-masked}
 use Rattle.lisp_records.proofs.Cuts.{fits, fits_is}
 use Rattle.lisp_policy.proofs.Found.{not_true}
-use Rattle.lisp_policy.specs.Site.{SiteValue}
-use Rattle.lisp_lookup.specs.Covering.{IsBestFor, alone}
-use Rattle.lisp_lookup.specs.Inside.{is_inside, NoneInside, AreInside}
-use Rattle.lisp_lookup.specs.Replies.{record_of, not_local, IsLeastTtl, AreRecords, IsNarrowed}
-use Rattle.lisp_lookup.proofs.BestLaws.{for_length, same_family}
-use Rattle.lisp_lookup.proofs.Blocks.{addr_is, is_addr}
+use Rattle.lisp_lookup.specs.Inside.{is_inside, AreInside}
+use Rattle.lisp_lookup.specs.Replies.{record_of, not_local, IsLeastTtl, AreRecords}
+use Rattle.lisp_lookup.proofs.Blocks.{is_addr}
 use Rattle.lisp_lookup.proofs.CachedLaws.{covers_through, its_eid}
 use Rattle.lisp_lookup.proofs.TableLaws.{filtered_holds, filter_holds}
-use Rattle.lisp_replies.specs.Narrowing.{FitNowhere, WiderFitsNot}
-use Rattle.lisp_replies.specs.Reply.{IsTooLarge}
+use Rattle.lisp_replies.specs.Narrowing.{WiderFitsNot}
 use Rattle.lisp_replies.specs.Walk.{records_of}
-use Rattle.lisp_replies.proofs.SeenLaws.{IsBefore, first_or_later, later, none_held, seen_all, seen_none}
+use Rattle.lisp_replies.proofs.SeenLaws.{IsBefore, first_or_later, later, none_held}
 
 -- ---- how long a record is
 

@@ -1,5 +1,5 @@
 -- What an ITR that keeps a reply says of an address is what the Map-Server says of it.
-use Rattle.std.proofs.Common.{◌≡◌, inl, inr, ℕ, ◌≤◌, Bool, true, List, ◌∷◌, map, refl, sym, ap, ◌∙◌, subst}
+use Rattle.std.proofs.Common.{◌≡◌, inl, inr, ℕ, ◌≤◌, Bool, true, List, map, sym, ap, ◌∙◌, subst}
 use Rattle.lisp_records.proofs.AddressLemmas.{cleared-wider}
 use Rattle.lisp_records.specs.declared.address.Addr.{Addr}
 use Rattle.lisp_records.specs.Address.{PrefixValue, addr_eq, cleared, holds, max_len, prefix_around}

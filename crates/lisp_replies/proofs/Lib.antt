@@ -5,3 +5,4 @@ pub mod LongestLaws
 pub mod KeptLaws
 pub mod AlikeLaws
 pub mod NarrowingLaws
+pub mod ServerLaws

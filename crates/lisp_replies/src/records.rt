@@ -144,7 +144,10 @@ fn not_local<C: Memory + Copy>(
     let mut copies = Vec::new(alloc);
     copies.make_room_for(locators)?;
     for locator in locators {
-        copies.try_push(Locator { local: false, ..*locator })?;
+        copies.try_push(Locator {
+            local: false,
+            ..*locator
+        })?;
     }
     Ok(copies)
 }

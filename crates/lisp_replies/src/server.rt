@@ -1,7 +1,8 @@
 //! What a Map-Server sends.
 
 ghost use Rattle.std.specs.Prelude.{◌≡◌, ◌⊎◌, ◌<◌, None, IfOk, IfSome, OnErr};
-ghost use Rattle.lisp_records.specs.Address.{max_len};
+ghost use Rattle.std.specs.List.{All};
+ghost use Rattle.lisp_records.specs.Address.{IsPrefix, IsWhole, max_len};
 ghost use Rattle.lisp_lookup.specs.Covering.{alone, NoneAnswersFor};
 ghost use Rattle.lisp_lookup.specs.Table.{OneEach};
 ghost use Rattle.lisp_replies.specs.Reply.{IsReply, IsUnanswered, RepliesFor, RepliesNone, negative_ttl};
@@ -67,6 +68,7 @@ fn reply_for<A: Allocator + Copy, B: Allocator, C: Memory + Copy>(
     ensures inner { IfOk result (λ found. found ≡ None
         → NoneAnswersFor table.now.rows asked.now now
         ⊎ (asked.now.mask_len < max_len asked.now.addr)) }
+    ensures blocks { All (λ h. IsPrefix h.mapping.eid) table.now.rows }
     ensures memory { OnErr result C.may_refuse }
 {
     let Some(best) = table.best_for(asked, now) else {
@@ -92,7 +94,9 @@ fn negative<A: Allocator + Copy, B: Allocator, C: Memory + Copy>(
     starting: bool,
     now: u64,
 ) -> Reply<C>
-    requires { NoneAnswersFor table.now.rows (alone addr.now) now }
+    requires none { NoneAnswersFor table.now.rows (alone addr.now) now }
+    requires blocks { All (λ h. IsPrefix h.mapping.eid) table.now.rows }
+    requires whole { IsWhole addr.now }
     ensures { RepliesNone table.now.rows sites.now addr.now starting now result }
 {
     if starting {

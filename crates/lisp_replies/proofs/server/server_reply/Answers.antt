@@ -1,14 +1,18 @@
-use Rattle.std.proofs.Common.{rules, ◌≡◌, ◌⊎◌, ◌<◌, None, IfOk, IfSome, OnErr, ℕ, ◌+◌, ◌-◌, ◌*◌, ◌≤◌, length, ◌/◌, ◌%◌, Bool, true, false, nat_eq, nat_lt, List, [], ◌∷◌, ◌++◌, slice_index_or, slice_set, bit_and, bit_or, Fits, w8, w32, w64, Bor, MutBor}
-use Rattle.lisp_records.specs.Address.{max_len}
-use Rattle.lisp_lookup.specs.Covering.{alone, NoneAnswersFor}
-use Rattle.lisp_lookup.specs.Table.{OneEach}
-use Rattle.lisp_replies.specs.Reply.{IsReply, IsUnanswered, RepliesFor, RepliesNone, negative_ttl}
+use Rattle.std.proofs.Common.{◌*◌, inl, inr, ap, ◌∙◌, subst}
+use Rattle.lisp_records.specs.declared.address.Addr.{Addr}
+use Rattle.lisp_records.specs.declared.address.Family.{Family}
+use Rattle.lisp_records.specs.Address.{PrefixValue, prefix_around, width}
+use Rattle.lisp_lookup.specs.Covering.{alone}
+use Rattle.lisp_replies.specs.Reply.{RepliesFor, RepliesNone}
+use Rattle.lisp_replies.proofs.NarrowingLaws.{of_found}
 use Rattle.lisp_replies.proofs.server.server_reply.Goals as goal
 
--- src/server.rt:47:9
 pub returns-in-Some-2-clause-reply : goal.returns-in-Some-2-clause-reply
-returns-in-Some-2-clause-reply g c = ?
+returns-in-Some-2-clause-reply g c =
+    let long = c.max_mask_len.ensures ∙ ap (λ (f : Family). 8 * width f) c.family.ensures in
+    let its = of_found _ _ _ c.unwrap-alone.ensures c.new.ensures.value ∙ ap (prefix_around c.addr-addr.result) long ∙ ap alone c.addr-addr.ensures.addr in
+    let reply = of_found _ _ _ c.in-Some-2.is c.in_ok-reply-2.ensures.reply in
+    inr (c.in_ok-reply.ensures.unanswered c.in_default.is, inl (subst (λ (b : PrefixValue). RepliesFor c.args.table.now.rows c.args.sites.now b c.args.starting c.args.now c.in-Some-2.reply) its reply))
 
--- src/server.rt:29:1
 pub returns-clause-reply : goal.returns-clause-reply
-returns-clause-reply g c = ?
+returns-clause-reply g c = inr (c.in_ok-reply.ensures.unanswered c.in_default.is, inr (subst (λ (a : Addr). RepliesNone c.args.table.now.rows c.args.sites.now a c.args.starting c.args.now c.negative.result) c.addr-addr.ensures.addr c.negative.ensures))
