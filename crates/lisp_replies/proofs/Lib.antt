@@ -6,3 +6,4 @@ pub mod KeptLaws
 pub mod AlikeLaws
 pub mod NarrowingLaws
 pub mod ServerLaws
+pub mod Examples

@@ -1,0 +1,298 @@
+-- What a Map-Server sends.
+use Rattle.std.proofs.Common.{List, [], arith, Bool, false, true, inl, inr, refl, sym, ap, ◌∙◌, subst, true≢false, ℕ, ◌≤◌, ◌∷◌, ◌≡◌}
+use Rattle.std.proofs.lemmas.List.Elements.{All-cons, All-nil}
+use Rattle.std.specs.List.{All, Contains}
+use Rattle.lisp_records.specs.declared.address.Addr.{Addr}
+use Rattle.lisp_records.specs.Address.{PrefixValue, addr_eq, covers, masked, prefix_around}
+use Rattle.lisp_records.specs.Record.{MapRecordValue}
+use Rattle.lisp_records.specs.Row.{RowValue, is_alive}
+use Rattle.lisp_records.specs.Written.{written}
+use Rattle.lisp_policy.specs.Site.{SiteValue, is_configured}
+use Rattle.lisp_policy.specs.declared.site.SitePrefix.{SitePrefix}
+use Rattle.lisp_lookup.specs.Covering.{IsBestFor, NoneAnswersFor, may_answer_for}
+use Rattle.lisp_lookup.specs.Hole.{IsHole, KeepsBeside, KeepsSites}
+use Rattle.lisp_lookup.specs.Inside.{IsBestOfOwn, is_inside, is_live_inside}
+use Rattle.lisp_lookup.specs.Replies.{AreRecords, IsNarrowed, RepliesWith}
+use Rattle.lisp_lookup.proofs.Examples.Rows.{all_below, below, block, each, everything, fails, fails_below, four, gaps, in_eight, in_sixteen, ipv4, no, none_above, none_of, row, silent}
+use Rattle.lisp_replies.specs.Reply.{IsReply, IsTooLarge, is_held_back}
+use Rattle.lisp_replies.specs.declared.reply.Reply.{Reply}
+use Rattle.lisp_replies.specs.declared.reply.Reply.TheVariants.{Records, Negative, Forward, Silent}
+use Rattle.lisp_replies.proofs.Examples.Early.{site}
+use Rattle.lisp_replies.proofs.Examples.Narrowing.{address, address_narrowed, address_records, crowded, none_fit, of_address, sixteen_nowhere}
+use Rattle.lisp_replies.proofs.Examples.Records.{asked, mixed, mixed_reply, mixed_three, narrowed, none_inside, replied, sixteen, three, three_records, three_reply}
+
+-- no row is there, and no site
+in_none : {P : Type 0} → (h : RowValue) → Contains [] h → P
+in_none h (k, lt, is) = absurd (omega (arith, lt))
+
+no_site : (addr : Addr) (eid : PrefixValue) → KeepsSites [] addr eid
+no_site addr eid = All-nil (λ (s : SiteValue). All (λ (p : SitePrefix). KeepsBeside p.eid addr false eid) s.prefixes)
+
+-- beside a site with one prefix
+one_site : (of_site : PrefixValue) (addr : Addr) (eid : PrefixValue) → KeepsBeside of_site addr (is_configured (site of_site) addr) eid → KeepsSites (site of_site) addr eid
+one_site of_site addr eid keeps = All-cons OfSite the_site [] (All-cons Beside the_prefix [] keeps (All-nil Beside)) (All-nil OfSite)
+  where
+    the_prefix : SitePrefix
+    the_prefix = record { eid = of_site; more_specifics = true }
+
+    the_site : SiteValue
+    the_site = record { id = 1; keys = record { id = 1; secret = [] } ∷ []; prefixes = the_prefix ∷ [] }
+
+    Beside : SitePrefix → Type 0
+    Beside p = KeepsBeside p.eid addr (is_configured (site of_site) addr) eid
+
+    OfSite : SiteValue → Type 0
+    OfSite s = All Beside s.prefixes
+
+kept : (of_site : PrefixValue) (addr : Addr) (eid : PrefixValue) → KeepsSites (site of_site) addr eid → KeepsBeside of_site addr (is_configured (site of_site) addr) eid
+kept of_site addr eid keeps = keeps 0 (record { id = 0; keys = []; prefixes = [] }) (omega arith) 0 (record { eid = of_site; more_specifics = true }) (omega arith)
+
+-- between 10.0.0.0/24 and 10.0.2.0/24
+abbrev pub between : PrefixValue
+between = block 10 0 1 1 32
+
+pub gap : IsHole gaps [] (ipv4 10 0 1 1) 0 (block 10 0 1 0 24)
+unfolding masked all_below
+gap = record {
+  around = (omega arith, refl);
+  alike = record {
+    empty = none_of (λ h. is_alive h 0) (λ h. covers (block 10 0 1 0 24) h.mapping.eid) gaps refl;
+    bare = none_of (λ h. is_alive h 0) (λ h. covers h.mapping.eid (block 10 0 1 0 24)) gaps refl;
+    keeps = no_site (ipv4 10 0 1 1) (block 10 0 1 0 24);
+  };
+  widest = λ wider less alike. absurd (true≢false (sym (below 24 (λ n. covers (prefix_around (ipv4 10 0 1 1) n) (block 10 0 0 0 24)) refl wider less) ∙ alike.empty (row 1 (block 10 0 0 0 24) 60) (0, omega arith, refl) refl));
+}
+
+-- all of a site's 10.0.0.0/16, where no row is
+pub of_site : IsHole [] (site (block 10 0 0 0 16)) (ipv4 10 0 1 1) 0 (block 10 0 0 0 16)
+unfolding masked all_below
+of_site = record {
+  around = (omega arith, refl);
+  alike = record { empty = λ h has. in_none h has; bare = λ h has. in_none h has; keeps = one_site (block 10 0 0 0 16) (ipv4 10 0 1 1) (block 10 0 0 0 16) ((λ has. refl), (λ none. absurd (true≢false none))) };
+  widest = λ wider less alike. absurd (true≢false (sym ((kept (block 10 0 0 0 16) (ipv4 10 0 1 1) (prefix_around (ipv4 10 0 1 1) wider) alike.keeps).0 refl) ∙ fails_below 16 (λ n. covers (block 10 0 0 0 16) (prefix_around (ipv4 10 0 1 1) n)) refl wider less));
+}
+
+pub none_between : NoneAnswersFor gaps between 0
+unfolding masked
+none_between = fails (may_answer_for between 0) gaps refl
+
+-- the one record of 10.1.0.0/16, and that of 10.0.0.0/24 for its first address
+own_reply : RepliesWith (in_sixteen ∷ []) asked 0 (replied 2 sixteen 1440 ∷ [])
+unfolding masked written
+own_reply = record {
+  best = in_sixteen;
+  is_best = record { held = (0, omega arith, refl); may = refl; most = none_above (may_answer_for asked 0) in_sixteen (in_sixteen ∷ []) refl };
+  proxy = refl;
+  eid = sixteen;
+  narrowed = narrowed;
+  are = record {
+    inside = [];
+    are = none_inside in_sixteen sixteen refl;
+    ttl = 1440;
+    least = record { its = in_sixteen; held = (0, omega arith, refl); is = refl; least = each (λ (h : RowValue). 1440 ≤ h.mapping.ttl) (in_sixteen ∷ []) (omega arith, tt) };
+    is = refl;
+  };
+  fit = refl;
+  widest = λ wider more from less are. absurd (omega (arith, from.from, less));
+}
+
+abbrev gap_row : RowValue
+gap_row = row 1 (block 10 0 0 0 24) 60
+
+gap_reply : RepliesWith gaps (block 10 0 0 0 32) 0 (replied 1 (block 10 0 0 0 24) 60 ∷ [])
+unfolding masked written
+gap_reply = record {
+  best = gap_row;
+  is_best = record { held = (0, omega arith, refl); may = refl; most = none_above (may_answer_for (block 10 0 0 0 32) 0) gap_row gaps refl };
+  proxy = refl;
+  eid = block 10 0 0 0 24;
+  narrowed = record { around = refl; from = omega arith; to = omega arith };
+  are = record {
+    inside = [];
+    are = record {
+      rising = λ i j d less within. absurd (omega (arith, less, within));
+      best = each (λ (h : RowValue). IsBestOfOwn gaps 0 h × (is_inside (block 10 0 0 0 24) h.mapping.eid ≡ true)) [] tt;
+      all = each (λ (h : RowValue). is_live_inside (block 10 0 0 0 24) 0 h ≡ true → (own : RowValue) × Contains [] own × (own.mapping.eid ≡ h.mapping.eid)) gaps (no, (no, tt));
+    };
+    ttl = 60;
+    least = record { its = gap_row; held = (0, omega arith, refl); is = refl; least = each (λ (h : RowValue). 60 ≤ h.mapping.ttl) (gap_row ∷ []) (omega arith, tt) };
+    is = refl;
+  };
+  fit = refl;
+  widest = λ wider more from less are. absurd (omega (arith, from.from, less));
+}
+
+-- ---- records that fit no message
+
+too_large : IsTooLarge crowded [] sixteen false 0
+unfolding masked
+too_large = record {
+  best = in_sixteen;
+  is_best = record { held = (0, omega arith, refl); may = refl; most = none_above (may_answer_for sixteen 0) in_sixteen crowded refl };
+  proxy = refl;
+  free = refl;
+  nowhere = sixteen_nowhere;
+}
+
+address_reply : RepliesWith crowded address 0 of_address
+unfolding masked written
+address_reply = record {
+  best = in_sixteen;
+  is_best = record { held = (0, omega arith, refl); may = refl; most = none_above (may_answer_for address 0) in_sixteen crowded refl };
+  proxy = refl;
+  eid = block 10 1 0 0 24;
+  narrowed = address_narrowed;
+  are = address_records;
+  fit = refl;
+  widest = λ wider more from less are. none_fit wider.mask_len less in_sixteen more (subst (λ (b : PrefixValue). AreRecords crowded b 0 in_sixteen more) from.around are);
+}
+
+-- three records fit
+best_of_four : (h : RowValue) → Contains four h → IsBestFor four asked 0 h → h ≡ in_sixteen
+unfolding masked
+best_of_four = each (λ (x : RowValue). IsBestFor four asked 0 x → x ≡ in_sixteen) four ((λ b. absurd (b.most in_sixteen (1, omega arith, refl) refl refl)), ((λ b. refl), ((λ b. no b.may), ((λ b. no b.may), tt))))
+
+three_too_large : IsTooLarge four [] asked false 0 → ⊥
+unfolding masked written
+three_too_large large =
+    let best : large.best ≡ in_sixteen = best_of_four large.best large.is_best.held large.is_best in
+    let from = subst (λ (h : RowValue). IsNarrowed asked h sixteen) (sym best) narrowed in
+    true≢false (large.nowhere sixteen from three (subst (λ (h : RowValue). AreRecords four sixteen 0 h three) (sym best) three_records))
+
+-- a row without proxy replies isn't too large, nor is one that isn't replied with yet
+without_proxy_too_large : IsTooLarge (silent in_sixteen ∷ []) [] asked false 0 → ⊥
+without_proxy_too_large large = each (λ (h : RowValue). h.proxy ≡ true → ⊥) (silent in_sixteen ∷ []) (no, tt) large.best large.is_best.held large.proxy
+
+held_back_too_large : IsTooLarge (in_eight ∷ []) (site sixteen) asked true 0 → ⊥
+unfolding masked
+held_back_too_large large = each (λ (h : RowValue). is_held_back true (site sixteen) asked h ≡ false → ⊥) (in_eight ∷ []) (true≢false, tt) large.best large.is_best.held large.free
+
+-- the source of another router's Map-Register
+abbrev elsewhere : RowValue
+elsewhere = record (silent gap_row) { from = ipv4 192 0 2 7 }
+
+not_seven : ipv4 192 0 2 7 ≡ ipv4 192 0 2 1 → ⊥
+not_seven same = true≢false (ap (λ (a : Addr). addr_eq a (ipv4 192 0 2 7)) same)
+
+module _ (A : Type 0) where
+  abbrev Sends : List RowValue → List SiteValue → PrefixValue → Bool → Reply A → Type 0
+  Sends rows sites eid starting reply = IsReply rows sites eid starting 0 reply
+
+  -- ---- a row answers
+
+  -- two longer prefixes are inside that of the row
+  two_inside_it : Sends four [] asked false (Records three)
+  two_inside_it = inl (three_reply, refl)
+
+  -- one of them without proxy replies: ACT 2
+  one_asked_again : Sends mixed [] asked false (Records mixed_three)
+  one_asked_again = inl (mixed_reply, refl)
+
+  -- the router replies itself: the request goes to the source of its Map-Register
+  forwarded : Sends (silent in_sixteen ∷ in_eight ∷ []) [] asked false (Forward (ipv4 192 0 2 1))
+  unfolding masked
+  forwarded = inl (silent in_sixteen, record { held = (0, omega arith, refl); may = refl; most = none_above (may_answer_for asked 0) (silent in_sixteen) (silent in_sixteen ∷ in_eight ∷ []) refl }, refl, refl)
+
+  forwarded_elsewhere : Sends (silent in_sixteen ∷ []) [] asked false (Forward (ipv4 192 0 2 7)) → ⊥
+  forwarded_elsewhere (inl (h, best, no_proxy, to)) = each (λ (x : RowValue). ipv4 192 0 2 7 ≡ x.from → ⊥) (silent in_sixteen ∷ []) (not_seven, tt) h best.held to
+  forwarded_elsewhere (inr (none, inl (h, best, no_proxy, to))) = each (λ (x : RowValue). ipv4 192 0 2 7 ≡ x.from → ⊥) (silent in_sixteen ∷ []) (not_seven, tt) h best.held to
+  forwarded_elsewhere (inr (none, inr never)) = absurd never
+
+  forwarded_with_proxy : Sends (in_sixteen ∷ []) [] asked false (Forward (ipv4 192 0 2 1)) → ⊥
+  forwarded_with_proxy (inl (h, best, no_proxy, to)) = each (λ (x : RowValue). x.proxy ≡ false → ⊥) (in_sixteen ∷ []) (true≢false, tt) h best.held no_proxy
+  forwarded_with_proxy (inr (none, inl (h, best, no_proxy, to))) = each (λ (x : RowValue). x.proxy ≡ false → ⊥) (in_sixteen ∷ []) (true≢false, tt) h best.held no_proxy
+  forwarded_with_proxy (inr (none, inr never)) = absurd never
+
+  -- ---- none does
+
+  -- nobody is between two prefixes: for 15 minutes, or for 1 where a site has the prefix
+  nobody : Sends gaps [] between false (Negative (record { eid = block 10 0 1 0 24; ttl = 15 }))
+  unfolding masked
+  nobody = inr (inl none_between, inr (refl, gap, refl))
+
+  nobody_of_a_site : Sends [] (site (block 10 0 0 0 16)) between false (Negative (record { eid = block 10 0 0 0 16; ttl = 1 }))
+  unfolding masked
+  nobody_of_a_site = inr (inl (λ h has. in_none h has), inr (refl, of_site, refl))
+
+  kept_too_long : Sends [] (site (block 10 0 0 0 16)) between false (Negative (record { eid = block 10 0 0 0 16; ttl = 15 })) → ⊥
+  unfolding masked
+  kept_too_long (inl never) = absurd never
+  kept_too_long (inr (none, inl never)) = absurd never
+  kept_too_long (inr (none, inr (started, hole, ttl))) = absurd (let clash : ◌≡◌ {A = ℕ} 15 1 = ttl in omega (arith, clash))
+
+  too_narrow_a_hole : Sends gaps [] between false (Negative (record { eid = block 10 0 1 0 25; ttl = 15 })) → ⊥
+  unfolding masked
+  too_narrow_a_hole (inl never) = absurd never
+  too_narrow_a_hole (inr (none, inl never)) = absurd never
+  too_narrow_a_hole (inr (none, inr (started, hole, ttl))) = hole.widest 24 (omega arith) gap.alike
+
+  -- ---- its address does
+
+  -- no row covers 10.0.0.0/16, and 10.0.0.0/24 has its address
+  by_its_address : Sends gaps [] (block 10 0 0 0 16) false (Records (replied 1 (block 10 0 0 0 24) 60 ∷ []))
+  unfolding masked
+  by_its_address = inr (inl (fails (may_answer_for (block 10 0 0 0 16) 0) gaps refl), inl (gap_reply, refl))
+
+  -- or the records of one that does fit no message
+  by_its_address_alone : Sends crowded [] sixteen false (Records of_address)
+  unfolding masked
+  by_its_address_alone = inr (inr too_large, inl (address_reply, refl))
+
+  -- but not where a row covers it
+  though_covered : Sends (silent everything ∷ elsewhere ∷ []) [] (block 10 0 0 0 16) false (Forward (ipv4 192 0 2 7)) → ⊥
+  unfolding masked
+  though_covered (inl (h, best, no_proxy, to)) = each (λ (x : RowValue). may_answer_for (block 10 0 0 0 16) 0 x ≡ true → ipv4 192 0 2 7 ≡ x.from → ⊥) (silent everything ∷ elsewhere ∷ []) ((λ may. not_seven), ((λ may to. no may), tt)) h best.held best.may to
+  though_covered (inr (inl none, how)) = true≢false (none (silent everything) (0, omega arith, refl))
+  though_covered (inr (inr large, how)) = each (λ (x : RowValue). x.proxy ≡ true → ⊥) (silent everything ∷ elsewhere ∷ []) (no, (no, tt)) large.best large.is_best.held large.proxy
+
+  -- ---- rows haven't come back yet
+
+  -- for an address that no row has nothing is sent
+  silent_for_none : Sends gaps [] between true Silent
+  unfolding masked
+  silent_for_none = inr (inl none_between, inr (refl, none_between))
+
+  negative_at_once : Sends gaps [] between true (Negative (record { eid = block 10 0 1 0 24; ttl = 15 })) → ⊥
+  negative_at_once (inl never) = absurd never
+  negative_at_once (inr (none, inl never)) = absurd never
+  negative_at_once (inr (none, inr (started, hole, ttl))) = true≢false started
+
+  -- nor for one that has a row of a shorter prefix than the site's
+  silent_for_shorter : Sends (in_eight ∷ []) (site sixteen) asked true Silent
+  unfolding masked
+  silent_for_shorter = inl (in_eight, record { held = (0, omega arith, refl); may = refl; most = none_above (may_answer_for asked 0) in_eight (in_eight ∷ []) refl }, refl, refl)
+
+  shorter_at_once : (records : List MapRecordValue) → Sends (in_eight ∷ []) (site sixteen) asked true (Records records) → ⊥
+  unfolding masked
+  shorter_at_once records (inl (with, free)) = each (λ (h : RowValue). is_held_back true (site sixteen) asked h ≡ false → ⊥) (in_eight ∷ []) (true≢false, tt) with.best with.is_best.held free
+  shorter_at_once records (inr (none, inl (with, free))) = each (λ (h : RowValue). is_held_back true (site sixteen) asked h ≡ false → ⊥) (in_eight ∷ []) (true≢false, tt) with.best with.is_best.held free
+  shorter_at_once records (inr (none, inr never)) = absurd never
+
+  -- that of the site's own prefix is replied with
+  own_prefix_at_once : Sends (in_sixteen ∷ []) (site sixteen) asked true (Records (replied 2 sixteen 1440 ∷ []))
+  unfolding masked own_reply
+  own_prefix_at_once = inl (own_reply, refl)
+
+  silent_for_own_prefix : Sends (in_sixteen ∷ []) (site sixteen) asked true Silent → ⊥
+  unfolding masked
+  silent_for_own_prefix (inl (h, best, proxy, held)) = each (λ (x : RowValue). is_held_back true (site sixteen) asked x ≡ true → ⊥) (in_sixteen ∷ []) (no, tt) h best.held held
+  silent_for_own_prefix (inr (none, inl (h, best, proxy, held))) = each (λ (x : RowValue). is_held_back true (site sixteen) asked x ≡ true → ⊥) (in_sixteen ∷ []) (no, tt) h best.held held
+  silent_for_own_prefix (inr (none, inr (starts, no_row))) = true≢false (no_row in_sixteen (0, omega arith, refl))
+
+  -- a request goes on to a router at once
+  forwarded_at_once : Sends (silent in_eight ∷ []) (site sixteen) asked true (Forward (ipv4 192 0 2 1))
+  unfolding masked
+  forwarded_at_once = inl (silent in_eight, record { held = (0, omega arith, refl); may = refl; most = none_above (may_answer_for asked 0) (silent in_eight) (silent in_eight ∷ []) refl }, refl, refl)
+
+  silent_though_forwarded : Sends (silent in_eight ∷ []) (site sixteen) asked true Silent → ⊥
+  unfolding masked
+  silent_though_forwarded (inl (h, best, proxy, held)) = each (λ (x : RowValue). x.proxy ≡ true → ⊥) (silent in_eight ∷ []) (no, tt) h best.held proxy
+  silent_though_forwarded (inr (none, inl (h, best, proxy, held))) = each (λ (x : RowValue). x.proxy ≡ true → ⊥) (silent in_eight ∷ []) (no, tt) h best.held proxy
+  silent_though_forwarded (inr (none, inr (starts, no_row))) = true≢false (no_row (silent in_eight) (0, omega arith, refl))
+
+  -- later on something is sent for each
+  silent_later : Sends gaps [] between false Silent → ⊥
+  unfolding masked
+  silent_later (inl (h, best, proxy, held)) = true≢false (sym held)
+  silent_later (inr (none, inl (h, best, proxy, held))) = true≢false (sym held)
+  silent_later (inr (none, inr (starts, no_row))) = true≢false (sym starts)
