@@ -106,7 +106,7 @@ first_length : List MapRecordValue → ℕ
 first_length [] = 0
 first_length (r ∷ rs) = r.eid.mask_len
 
-too_narrow : (records : List MapRecordValue) → first_length records ≡ 24 → AreWidest four asked 0 in_sixteen records → ⊥
+too_narrow : (records : List MapRecordValue) → first_length records ≡ 17 → AreWidest four asked 0 in_sixteen records → ⊥
 unfolding written first_length
 too_narrow records length widest =
     let its : first_length records ≡ widest.eid.mask_len = ap first_length widest.fit.0.is in
