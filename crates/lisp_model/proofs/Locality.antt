@@ -14,6 +14,7 @@ use Rattle.lisp_model.specs.Keys.{keys_since_loss_after, keys_before_loss_after}
 use Rattle.lisp_model.specs.Held.{Acceptance}
 use Rattle.lisp_model.specs.Timers.{RoundTimes, Notice, round_after, notices_after, last_notice_after}
 use Rattle.lisp_model.specs.Bag.{Arrival, arrival_of, junk_arrival, since_start_after}
+use Rattle.lisp_model.specs.Life.{began_after}
 use Rattle.lisp_model.specs.Accepted.{acceptances_after, tried_nonces_after}
 use Rattle.lisp_model.specs.Counted.{latest_nonce_after, acked_after}
 use Rattle.lisp_model.specs.Context.{Context}
@@ -126,6 +127,10 @@ module _ (node k : ℕ) (other : k ≢ node) where
   last_notice_other (lines.Restarted named) is old = unless named k None old (differs named is)
   last_notice_other _ is old = refl
 
+  pub began_other : (line : Line) → IsBy line node → (now old : ℕ) → began_after line now k old ≡ old
+  began_other (lines.Restarted named) is now old = unless named k now old (differs named is)
+  began_other _ is now old = refl
+
   pub up_other : (e : EventValue) (line : Line) → IsBy line node → (old : Bool) → up_after e line k old ≡ old
   up_other (events.Restart _ _ _) (lines.Refused named _) is old = unless named k false old (differs named is)
   up_other (events.Restart _ _ _) (lines.Restarted named) is old = unless named k true old (differs named is)
@@ -204,6 +209,7 @@ leaves_others o T s l =
         since = since_other s.actor k other s.line by _ _;
         notices = notices_other s.actor k other o.config s.line by _ _;
         last_notice = last_notice_other s.actor k other s.line by _;
+        began = began_other s.actor k other s.line by _ _;
       };
       router = λ k kind other. record {
         shown = unless s.actor k s.shown (shown_store o T k) (differs s.actor k other s.actor refl);

@@ -7,6 +7,7 @@ pub mod History
 pub mod Held
 pub mod Timers
 pub mod Bag
+pub mod Life
 pub mod Accepted
 pub mod Counted
 pub mod Context

@@ -20,6 +20,7 @@ use Rattle.lisp_model.specs.History.{SentRegister, message_of, record_in, histor
 use Rattle.lisp_model.specs.Held.{Acceptance, held_row}
 use Rattle.lisp_model.specs.Timers.{round, Notice, notices, last_notice}
 use Rattle.lisp_model.specs.Bag.{Item, since_start, bag}
+use Rattle.lisp_model.specs.Life.{began}
 use Rattle.lisp_model.specs.Accepted.{acceptances, acceptances_in_step, nonces_of, tried_nonces}
 use Rattle.lisp_model.specs.Counted.{latest_nonce, Acknowledged, counted_nonces, acked}
 use Rattle.lisp_model.specs.Sending.{last_sent, start_values}
@@ -52,6 +53,7 @@ pub record SameServer (o : Opening) (T U : List Step) (server : ℕ) : Type 0 wh
   pub since : since_start o U server ≡ since_start o T server
   pub notices : notices o U server ≡ notices o T server
   pub last_notice : last_notice U server ≡ last_notice T server
+  pub began : began U server ≡ began T server
 
 -- and a router's
 pub record SameRouter (o : Opening) (T U : List Step) (router : ℕ) : Type 0 where

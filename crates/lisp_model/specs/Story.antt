@@ -17,7 +17,7 @@
 --
 -- Where to go on: Trace (steps, and what they make of clock, databases and stores), Context (a step as its node sees it),
 -- Sending, Receiving, Hearing, Notifying (what may come of each event), Legal (all of them: the table of legal steps);
--- Bag, Held, Counted, Timers (what is in flight, held, counted, due); then Clean (nobody outside knows a secret) and
+-- Bag, Held, Counted, Timers, Life (what is in flight, held, counted, due, and when a life began); then Clean (nobody outside knows a secret) and
 -- Promises (what is promised of every legal trace).
 use Rattle.std.specs.Prelude.{ℕ, List, [], ◌∷◌, Some, None, true, false}
 use Rattle.std.specs.FinMap.{empty, insert}

@@ -127,6 +127,9 @@ restarted_by_another : LeavesOthers opening one_taken (step (events.Restart 0 0 
 unfolding cut cut_from written
 restarted_by_another leaves = let clash : ◌≡◌ {A = List Acceptance} [] (arrived (mapping wide 1440 ∷ []) 1 ∷ []) = (leaves.server 0 refl (λ e. absurd (omega (arith, e)))).since in absurd cc
 
+begun_by_another : LeavesOthers opening later_counted (step (events.Restart 0 0 None) (lines.Restarted 0) 1 blank) → ⊥
+begun_by_another leaves = let began : ◌≡◌ {A = ℕ} 5 0 = (leaves.server 0 refl (λ e. absurd (omega (arith, e)))).began in absurd (omega (arith, began))
+
 router_restarted_by_another : LeavesOthers opening one_taken (step (events.Restart 2 0 None) (lines.Restarted 2) 3 (at one_taken 3)) → ⊥
 router_restarted_by_another leaves = let clash : ◌≡◌ {A = Option ℕ} None (Some 1) = (leaves.router 2 refl (λ e. absurd (omega (arith, e)))).last_sent in absurd cc
 

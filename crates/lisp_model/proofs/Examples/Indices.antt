@@ -11,6 +11,7 @@ use Rattle.lisp_model.specs.Bag.{bag, register_item, reply_item, since_start}
 use Rattle.lisp_model.specs.Counted.{acked, counted_nonces, latest_nonce}
 use Rattle.lisp_model.specs.Faults.{world_fault_number}
 use Rattle.lisp_model.specs.Held.{Acceptance, heard_last, held_row, last_of, rows}
+use Rattle.lisp_model.specs.Life.{began}
 use Rattle.lisp_model.specs.Sending.{last_sent, start_values}
 use Rattle.lisp_model.specs.Timers.{due, last_notice, notice_to, notices as standing}
 use Rattle.lisp_model.specs.Trace.{Step, database, fate_of, is_up, etr_config}
@@ -119,6 +120,22 @@ last_sent_stays = refl
 
 acked_stays : acked (step (events.Restart 3 0 None) (lines.Restarted 3) 3 blank ∷ one_counted) 2 0 0 ≡ Some (1, 1)
 acked_stays = refl
+
+-- a life begins at the moment of the node's last restart, and at 0 where there was none
+abbrev begun : List Step
+begun = ticks (restarts later 0 ∷ later) 1000 1005 ∷ restarts later 0 ∷ later
+
+began_at_first : began later 0 ≡ 0
+began_at_first = refl
+
+began_at_a_restart : began begun 0 ≡ 5
+began_at_a_restart = refl
+
+began_at_the_last_restart : began (restarts begun 0 ∷ begun) 0 ≡ 1005
+began_at_the_last_restart = refl
+
+began_beside_it : began begun 1 ≡ 0
+began_beside_it = refl
 
 -- a meaning of one node or pair of nodes isn't another's
 none_told_by_another : standing opening first_told 1 ≡ []

@@ -1,0 +1,16 @@
+-- Life: when the present life of a node began. A Map-Server that has just started holds no rows yet, so that it doesn't
+-- know which prefixes are missing (RFC 9301 section 8.3).
+use Rattle.std.specs.Prelude.{ℕ, ◌==◌, List, [], ◌∷◌, if◌then◌else◌}
+use Rattle.lisp_model.specs.declared.line.Line.{Line}
+use Rattle.lisp_model.specs.declared.line.Line.TheVariants as lines
+use Rattle.lisp_model.specs.Trace.{Step, clock}
+
+-- a restart begins a life at its moment
+abbrev pub began_after : Line → ℕ → ℕ → ℕ → ℕ
+began_after (lines.Restarted node) now k old = if node == k then now else old
+began_after _ now k old = old
+
+-- the moment, in ms, of a node's last restart; 0 where there was none
+abbrev pub began : List Step → ℕ → ℕ
+began [] k = 0
+began (s ∷ T) k = began_after s.line (clock T) k (began T k)
