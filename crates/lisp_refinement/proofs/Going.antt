@@ -79,6 +79,7 @@ module _ (o : Opening) (T U : List Step) (k : ℕ) (n : ServerNodeState) (stand 
     contacts = held_row.contacts;
     notices = λ router. subst (λ (p : Option Notice × Option StandingNoticeValue). SameNotice o U k p.0 p.1) (λ i. (sym (found router) i, sym (stood router) i))
         (notice_goes o T U k stay (notice_to o T k router) (notice_at n.core.notices router) (stand.notices router));
+    started = ap (λ (x : ServerNodeState). x.started) rest ∙ stand.started ∙ sym same.began;
   }
     where
       found : (router : RouterId) → notice_to o U k router ≡ notice_to o T k router

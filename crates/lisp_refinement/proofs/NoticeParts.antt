@@ -20,6 +20,7 @@ use Rattle.lisp_model.specs.Trace.{Step, Opening, router_at, is_router, clock}
 use Rattle.lisp_model.specs.Held.{held_row, last_of, heard_last}
 use Rattle.lisp_model.specs.Timers.{Notice, notice_to, last_notice, resent_at, notices_to_others}
 use Rattle.lisp_model.specs.Bag.{since_start}
+use Rattle.lisp_model.specs.Life.{began}
 use Rattle.lisp_refinement.specs.World.{ServerNodeState, RouterNodeState, WorldState}
 use Rattle.lisp_refinement.specs.Stands.{IsStanding, SameNotice, StandsForServer, Stands}
 use Rattle.lisp_refinement.proofs.Acting.{router_is, router_stands}
@@ -120,16 +121,17 @@ module _ (o : Opening) (T : List Step) (s : Step) (server : ℕ) (n m : ServerNo
   contacts_stay : (router : RouterId) (eid : PrefixValue) (h : RowValue) → held_row (since_start o (s ∷ T) server) router eid (clock (s ∷ T)) ≡ Some h → contact_at m.core.contacts router ≡ option_map (λ a. contact_of a.message a.from) (heard_last router (since_start o (s ∷ T) server))
   contacts_stay router eid h is = rw (quiet, ap (λ (c : ServerState). c.contacts) core) (stand.contacts router eid h (rw (time, quiet) at is))
 
-  -- with its nonces and notices it stands for the trace with the step
-  pub part_after : ((pair : Pair) → pair ≢ notice_pair → nonce_at m.core.nonces pair ≡ nonce_at n.core.nonces pair) → nonce_at m.core.nonces notice_pair ≡ last_notice (s ∷ T) server
+  -- with its nonces, its notices and the moment at which its life began it stands for the trace with the step
+  pub part_after : m.started ≡ began (s ∷ T) server → ((pair : Pair) → pair ≢ notice_pair → nonce_at m.core.nonces pair ≡ nonce_at n.core.nonces pair) → nonce_at m.core.nonces notice_pair ≡ last_notice (s ∷ T) server
       → ((router : RouterId) → SameNotice o (s ∷ T) server (notice_to o (s ∷ T) server router) (notice_at m.core.notices router)) → StandsForServer o (s ∷ T) server m
-  part_after nonces notice_nonce notices = record {
+  part_after started nonces notice_nonce notices = record {
     sites = ap (λ (c : ServerState). c.sites) core ∙ stand.sites;
     rows = rows_stay;
     nonces = λ pair differ. nonces pair differ ∙ stand.nonces pair differ ∙ ap (last_of pair) (sym quiet);
     notice_nonce = notice_nonce;
     contacts = contacts_stay;
     notices = notices;
+    started = started;
   }
 
 -- the router that a turn names by its number among all nodes

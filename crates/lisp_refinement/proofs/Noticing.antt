@@ -288,7 +288,7 @@ module _ (old new : WorldState) (server router : ℕ) (fate : Fate) (line : Line
 
     -- the Map-Server stands for the trace with the step
     sent_part : StandsForServer o (step sent ∷ T) server turn.acts.after
-    sent_part = part_after o T (step sent) server turn.acts.before turn.acts.after part (time sent) refl announced.rest
+    sent_part = part_after o T (step sent) server turn.acts.before turn.acts.after part (time sent) refl announced.rest (turn.notifies.started ∙ part.started)
         (λ pair differ. announced.nonces.others pair differ) (announced.nonces.here ∙ sym last_is) (λ other. each_notice other (same_or_other other me))
 
     -- and so does the network, with the line that names the contact's key and the nonce
@@ -383,7 +383,7 @@ module _ (old new : WorldState) (server router : ℕ) (fate : Fate) (line : Line
 
     -- it stands for the trace with the step
     refused_part : StandsForServer o (step refused ∷ T) server turn.acts.after
-    refused_part = part_after o T (step refused) server turn.acts.before turn.acts.after part (time refused) refl its_core
+    refused_part = part_after o T (step refused) server turn.acts.before turn.acts.after part (time refused) refl its_core (turn.notifies.started ∙ part.started)
         (λ pair differ. ap (λ (c : ServerState). nonce_at c.nonces pair) same) (ap (λ (c : ServerState). nonce_at c.nonces notice_pair) same ∙ part.notice_nonce)
         (λ other. subst (λ (c : ServerState). SameNotice o (step refused ∷ T) server (notice_to o T server other) (notice_at c.notices other)) (sym same) (notice_goes o T (step refused ∷ T) server ([], refused_bag) (notice_to o T server other) (notice_at core.notices other) (part.notices other)))
 

@@ -36,6 +36,7 @@ use Rattle.lisp_model.specs.Trace.{EventValue, Step, Opening, fate_of, shown_sto
 use Rattle.lisp_model.specs.Held.{Acceptance, last_of, heard_last, held_row}
 use Rattle.lisp_model.specs.Timers.{notices, notice_to, last_notice, notices_to_others}
 use Rattle.lisp_model.specs.Bag.{Arrival, bytes_of, arrival_in, acceptances_in, reply_item, bag, since_start}
+use Rattle.lisp_model.specs.Life.{began}
 use Rattle.lisp_model.specs.Legal.{Arrives, LegalTrace, context_of}
 use Rattle.lisp_model.specs.Promises.{is_timeless}
 use Rattle.lisp_model.specs.Receiving.{Admits, IsAccepted, IsDone, RefusesMessage}
@@ -84,7 +85,7 @@ asked : (b : Bool) (bytes x : List ℕ) → Some x ≡ (if b then Some bytes els
 asked true bytes x e = cc
 asked false bytes x e = absurd cc
 
-module _ (o : Opening) (T : List Step) (node : ℕ) (kind : is_server o.config node ≡ true) (before after : ServerNodeState) (part : StandsForServer o T node before)
+module _ (o : Opening) (T : List Step) (node : ℕ) (kind : is_server o.config node ≡ true) (before after : ServerNodeState) (part : StandsForServer o T node before) (lives : after.started ≡ before.started)
     (armed called : StoreState) (shows : Shows armed (shown_store o T node)) (event : EventValue) (fated : IsTrue (shown_store o T node).is_obedient → armed.fate ≡ fate_of event) (timeless : is_timeless event ≡ true) (from : Addr) (bytes : List ℕ) where
   -- the step, by its line
   abbrev step : Line → Step
@@ -97,7 +98,7 @@ module _ (o : Opening) (T : List Step) (node : ℕ) (kind : is_server o.config n
   still = no_time event timeless (clock T)
 
   -- all but the notices stays
-  module _ (line : Line) (same_since : since_start o (step line ∷ T) node ≡ since_start o T node) (same_last : last_notice (step line ∷ T) node ≡ last_notice T node) (rest : after.core ≡ record before.core { notices = after.core.notices }) where
+  module _ (line : Line) (same_since : since_start o (step line ∷ T) node ≡ since_start o T node) (same_last : last_notice (step line ∷ T) node ≡ last_notice T node) (same_life : began (step line ∷ T) node ≡ began T node) (rest : after.core ≡ record before.core { notices = after.core.notices }) where
     stays : ((router : RouterId) → SameNotice o (step line ∷ T) node (notice_to o (step line ∷ T) node router) (notice_at after.core.notices router)) → StandsForServer o (step line ∷ T) node after
     stays standing = record {
       sites = ap (λ (c : ServerState). c.sites) rest ∙ part.sites;
@@ -109,6 +110,7 @@ module _ (o : Opening) (T : List Step) (node : ℕ) (kind : is_server o.config n
           ∙ part.contacts router eid h ((λ i. held_row (sym same_since i) router eid (sym still i)) ∙ is)
           ∙ ap (λ (xs : List Acceptance). option_map (λ a. contact_of a.message a.from) (heard_last router xs)) (sym same_since);
       notices = standing;
+      started = lives ∙ part.started ∙ sym same_life;
     }
 
   -- a refusal changes nothing
@@ -117,7 +119,7 @@ module _ (o : Opening) (T : List Step) (node : ℕ) (kind : is_server o.config n
   refused why read core refusal = record {
     row = (acts, refusal);
     adds = adds_none o T (step (lines.Refused node (refusals.Receive why))) refl;
-    part = stays (lines.Refused node (refusals.Receive why)) refl refl (ap (λ (c : ServerState). record c { notices = after.core.notices }) core)
+    part = stays (lines.Refused node (refusals.Receive why)) refl refl refl (ap (λ (c : ServerState). record c { notices = after.core.notices }) core)
         (λ router. subst (λ (c : ServerState). SameNotice o (step (lines.Refused node (refusals.Receive why)) ∷ T) node (notice_to o T node router) (notice_at c.notices router)) (sym core)
         (notice_goes o T (step (lines.Refused node (refusals.Receive why)) ∷ T) node ([], refl) (notice_to o T node router) (notice_at before.core.notices router) (part.notices router)));
   }
@@ -152,7 +154,7 @@ module _ (o : Opening) (T : List Step) (node : ℕ) (kind : is_server o.config n
     done = record {
       row = done_row;
       adds = adds_none o T (step (lines.Done node router nonce)) refl;
-      part = stays (lines.Done node router nonce) refl refl e.rest done_notices;
+      part = stays (lines.Done node router nonce) refl refl refl e.rest done_notices;
     }
 
   -- a Map-Register is accepted
@@ -229,6 +231,7 @@ module _ (o : Opening) (T : List Step) (node : ℕ) (kind : is_server o.config n
           ∙ ap (λ (xs : List Acceptance). option_map (λ x. contact_of x.message x.from) (heard_last q xs)) (sym since_is);
       notices = λ q. subst (λ (ns : List StandingNoticeValue). SameNotice o (step (said reply) ∷ T) node (notice_to o T node q) (notice_at ns q)) (sym a.notices)
           (notice_goes o T (step (said reply) ∷ T) node (adds.items, adds.added) (notice_to o T node q) (notice_at before.core.notices q) (part.notices q));
+      started = lives ∙ part.started;
     }
 
     accepted : Received o T (step (said reply)) (arriving from bytes (Ok (Registers m))) node after (replies {A = A} (address_at o.config node) from (Ok (Accepted router key nonce reply)))

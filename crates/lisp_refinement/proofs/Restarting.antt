@@ -28,6 +28,7 @@ use Rattle.lisp_model.specs.Keys.{keys_since_loss, keys_before_loss}
 use Rattle.lisp_model.specs.Held.{Acceptance, last_of, held_row}
 use Rattle.lisp_model.specs.Timers.{round, Notice, notices, last_notice}
 use Rattle.lisp_model.specs.Bag.{since_start}
+use Rattle.lisp_model.specs.Life.{began}
 use Rattle.lisp_model.specs.Context.{Context, Restarts, Picks}
 use Rattle.lisp_model.specs.Counted.{latest_nonce, acked}
 use Rattle.lisp_model.specs.Sending.{pair_at, last_sent, start_values}
@@ -118,6 +119,7 @@ module _ (old new : WorldState) (node pick : ℕ) (line : Line) (restarts : Netw
     contacts = λ router eid h is. absurd (none_is_some (ap (λ (all : List Acceptance). held_row all router eid (clock later)) (sym forgets) ∙ is));
     notices = λ router. subst (λ (p : List Notice × List StandingNoticeValue). SameNotice o later node (find (λ n. router_eq n.router router) p.0) (notice_at p.1 router))
         (λ i. (sym ends i, ap (λ (c : ServerState). c.notices) (sym restarts.core) i)) (no_notice o later node router);
+    started = restarts.started ∙ stand.bag.moment ∙ sym (here node (clock T) (began T node));
   }
 
   -- and so does all

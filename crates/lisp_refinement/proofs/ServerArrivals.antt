@@ -88,7 +88,7 @@ module _ (A : Type 0) (old new : WorldState) (node : ℕ) (fate : Fate) (from : 
   -- the Map-Server's part of the step
   leaves : (event : EventValue) → fate_of event ≡ fate → is_timeless event ≡ true → arrival_in (bag o T) event ≡ Some (junk_arrival from bytes)
       → Received o T (step event says) (junk_arrival from bytes) node at.acts.after (replies (address_at o.config node) from at.answer)
-  leaves event fated timeless arrives = received o T node (server_is old o T stand node at.acts.before at.acts.was) at.acts.before at.acts.after (stand.servers node at.acts.before at.acts.was)
+  leaves event fated timeless arrives = received o T node (server_is old o T stand node at.acts.before at.acts.was) at.acts.before at.acts.after (stand.servers node at.acts.before at.acts.was) at.receives.started
       at.receives.armed at.receives.called uses.armed_shows event (λ obeys. uses.fated obeys ∙ sym fated) timeless from bytes stand.steps.legal (message_at bytes) at.answer arrives
       (subst (λ (now : ℕ). IfOk at.answer (λ took. ServerTakes (message_at bytes) from bytes at.acts.before.core at.acts.after.core at.receives.armed at.receives.called now took)) stand.bag.moment at.receives.taken)
       at.receives.refused at.receives.err at.receives.head

@@ -64,6 +64,7 @@ pub record NodeReceives {A : Type 0} (old new : ServerNodeState) (fate : Fate) (
   pub taken : IfOk answer (λ took. ServerTakes (message_at bytes) from bytes old.core new.core armed called now took)
   pub refused : IfErr answer (λ why. ServerRefuses (message_at bytes) from bytes old.core armed called why)
   pub err : OnErr answer (new.core ≡ old.core)
+  pub started : new.started ≡ old.started
   pub head : IsErrOf answer refuseds.OutOfMemory → HasHead bytes
 
 -- a Map-Server was asked to send a router a notice: to which address which bytes, or why not
@@ -75,6 +76,7 @@ pub record NodeNotifies (old new : ServerNodeState) (fate : Fate) (router : Rout
   pub announces : IfOk answer (λ x. Announces old.core new.core armed called router now x.0 x.1)
   pub refused : IfErr answer (λ fault. RefusesNotice old.core armed called router now fault)
   pub err : OnErr answer (new.core ≡ old.core)
+  pub started : new.started ≡ old.started
   pub one_each : OneEach old.core.rows
 
 -- what a router's store keeps of the nonces that it sends under

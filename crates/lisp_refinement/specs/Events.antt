@@ -228,11 +228,12 @@ pub record NetworkDelivers (A : Type 0) (old new : WorldState) (k : ℕ) (fate :
   pub sent : slice_get old.bag k ≡ Some datagram
   pub arrives : ArrivesWhere A old new k fate datagram (node_with old datagram.to) line
 
--- a Map-Server stops, its store crashes, and it starts with its sites alone
+-- a Map-Server stops, its store crashes, and it starts with its sites alone, at the network's clock
 pub record NetworkRestartsServer (old new : WorldState) (node pick : ℕ) (line : Line) : Type 0 where
   pub acts : ServerActs old new node []
   pub core : acts.after.core ≡ fresh_server acts.before.core.sites
   pub crashes : StoreRestarts acts.before.store acts.after.store pick
+  pub started : acts.after.started ≡ old.clock
   pub said : line ≡ lines.Restarted node
 
 abbrev pub start_line : ℕ → Result (Unit {0}) StartFault → Line

@@ -27,6 +27,7 @@ use Rattle.lisp_model.specs.declared.line.Line.{Line}
 use Rattle.lisp_model.specs.Held.{last_of, heard_last, held_row}
 use Rattle.lisp_model.specs.Timers.{round, Notice, notice_to, last_notice}
 use Rattle.lisp_model.specs.Bag.{Item, bytes_of, bag, since_start}
+use Rattle.lisp_model.specs.Life.{began}
 use Rattle.lisp_model.specs.Counted.{latest_nonce, acked}
 use Rattle.lisp_model.specs.Sending.{pair_at, CountsFrom}
 use Rattle.lisp_model.specs.Legal.{LegalTrace}
@@ -149,6 +150,7 @@ pub record StandsForServer (o : Opening) (T : List Step) (server : ℕ) (n : Ser
       ≡ option_map (λ a. contact_of a.message a.from) (heard_last router (since_start o T server))
   pub notices : (router : RouterId)
       → SameNotice o T server (notice_to o T server router) (notice_at n.core.notices router)
+  pub started : n.started ≡ began T server
 
 -- the network stands for the trace: its steps and stores, clock and bag, each server and each router
 pub record Stands (w : WorldState) (o : Opening) (T : List Step) : Type 0 where

@@ -15,10 +15,11 @@ pub record DatagramValue : Type 0 where
   pub to : Addr
   pub bytes : List ℕ
 
--- a Map-Server with its store
+-- a Map-Server with its store, and the moment, in ms, at which its life began
 pub record ServerNodeState : Type 0 where
   pub core : ServerState
   pub store : StoreState
+  pub started : ℕ
 
 -- a router: up, or down with its configuration and its database
 pub data RouterCoreState : Type 0 where
