@@ -27,6 +27,8 @@ use std::marker::Model;
 pub struct ServerNode<S: WorldStore, A: Allocator = Global> {
     core: Server<A>,
     store: S,
+    // the moment, in ms, at which its present life began: what it holds was registered since
+    started: u64,
 }
 
 impl<S: WorldStore, A: Allocator> Model for ServerNode<S, A> {
@@ -39,7 +41,7 @@ impl<S: WorldStore, A: Allocator> Model for ServerNode<S, A> {
 
     ghost coded = { Prim.hlevel (codes, nonces_code, kept_code) };
 
-    ghost view = { λ n. record { core = n.core; store = S.seen n.store } };
+    ghost view = { λ n. record { core = n.core; store = S.seen n.store; started = n.started } };
 }
 
 impl<S: WorldStore, A: Allocator> ServerNode<S, A> {
@@ -56,27 +58,39 @@ impl<S: WorldStore, A: Allocator> ServerNode<S, A> {
     {
         &self.store
     }
+
+    /// The moment, in ms, at which its present life began: that of its last restart, 0 where there was none. Takes no
+    /// memory.
+    pub fn started(&self) -> u64
+        ensures { result ≡ self.now.started }
+    {
+        self.started
+    }
 }
 
 impl<S: WorldStore, A: Memory + Copy> ServerNode<S, A> {
-    /// A Map-Server of these sites that holds nothing, over its store. Takes no memory; what it holds later lies in
-    /// memory of `alloc`.
+    /// A Map-Server of these sites that holds nothing, over its store, at the moment 0. Takes no memory; what it holds
+    /// later lies in memory of `alloc`.
     pub fn start(alloc: A, sites: Sites<A>, store: S) -> ServerNode<S, A>
-        ensures { result ≡ record { core = fresh_server sites; store = S.seen store } }
+        ensures { result
+            ≡ record { core = fresh_server sites; store = S.seen store; started = 0 } }
     {
         ServerNode {
             core: Server::start(alloc, sites),
             store,
+            started: 0,
         }
     }
 
-    /// It stops, its store crashes, and it starts with its sites alone. Takes no memory.
-    pub fn restart(&mut self, alloc: A, pick: u64)
+    /// It stops, its store crashes, and it starts with its sites alone, at a moment, in ms. Takes no memory.
+    pub fn restart(&mut self, alloc: A, pick: u64, now: u64)
         ensures core { self.new.core ≡ fresh_server self.old.core.sites }
         ensures crashes { StoreRestarts self.old.store self.new.store pick }
+        ensures started { self.new.started ≡ now }
     {
         self.store.restart(pick);
         replace_with(&mut self.core, alloc, started_again);
+        self.started = now;
     }
 
     /// It drops the rows that are dead at a moment, in ms; the rest is left unchanged, its store too. Takes no memory.

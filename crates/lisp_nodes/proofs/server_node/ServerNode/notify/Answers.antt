@@ -1,3 +1,4 @@
+use Rattle.std.proofs.Common.{refl}
 use Rattle.lisp_nodes.proofs.NodeCalls.{err_is}
 use Rattle.lisp_nodes.proofs.server_node.ServerNode.notify.Goals as goal
 
@@ -12,6 +13,7 @@ returns-in_err-to-clause-notifies g c =
       announces = tt;
       refused = c.in_err-to.ensures.refused;
       err = c.in_err-to.ensures.err;
+      started = refl;
       one_each = c.in_err-to.ensures.one_each;
     }))
 
@@ -25,5 +27,6 @@ returns-clause-notifies g c =
       announces = rw c.from_vec.ensures c.in_ok-to.ensures.announces;
       refused = tt;
       err = tt;
+      started = refl;
       one_each = c.in_ok-to.ensures.one_each;
     })

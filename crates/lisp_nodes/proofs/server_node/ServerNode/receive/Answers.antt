@@ -1,3 +1,4 @@
+use Rattle.std.proofs.Common.{refl}
 use Rattle.lisp_nodes.proofs.server_node.ServerNode.receive.Goals as goal
 
 pub returns-clause-receives : goal.returns-clause-receives
@@ -10,5 +11,6 @@ returns-clause-receives g c =
       taken = c.receive-answer.ensures.taken;
       refused = c.receive-answer.ensures.refused;
       err = c.receive-answer.ensures.err;
+      started = refl;
       head = c.receive-answer.ensures.head;
     })
