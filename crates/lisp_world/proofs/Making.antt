@@ -175,6 +175,7 @@ module _ (c : ConfigValue) (stores : List StoreState) (w : WorldState) (count : 
       notice_nonce = no_nonce _;
       contacts = λ router eid h is. absurd (none_is_some is);
       notices = λ router. no_notice o [] k router;
+      started = refl;
     }
 
     -- a router that has started

@@ -20,9 +20,9 @@ use Rattle.lisp_model.specs.declared.world_fault.WorldFault.TheVariants as world
 use Rattle.lisp_world.specs.Openings.{repeats}
 use Rattle.lisp_world.specs.Quiet.{AllCalm}
 
--- a Map-Server of a configuration that holds nothing, over its store
+-- a Map-Server of a configuration that holds nothing, over its store, and whose life began at the moment 0
 abbrev pub server_over : ConfigValue → StoreState → ServerNodeState
-server_over c store = record { core = fresh_server c.sites; store = store }
+server_over c store = record { core = fresh_server c.sites; store = store; started = 0 }
 
 -- a router of a configuration that is down, over its store
 abbrev pub router_over : ConfigValue → RouterEntryValue → StoreState → RouterNodeState

@@ -57,8 +57,8 @@ impl<S: WorldStore, A: Memory + Copy> World<S, A> {
         requires { node < length self.old.servers }
         ensures { NetworkRestartsServer self.old self.new node pick result }
     {
-        let alloc = self.alloc;
-        self.servers[node].restart(alloc, pick);
+        let (alloc, clock) = (self.alloc, self.clock);
+        self.servers[node].restart(alloc, pick, clock);
         Line::Restarted { node }
     }
 

@@ -12,6 +12,7 @@ returns g c =
       acts = server_acted _ c.args.node c.index_mut.result.now c.restart.new.self bag [] server c.index_mut.ensures.value (sym (append-nil bag));
       core = c.restart.ensures.core;
       crashes = c.restart.ensures.crashes;
+      started = c.restart.ensures.started;
       said = refl;
     })
 
