@@ -40,7 +40,7 @@ use Rattle.lisp_turns.proofs.DeadRows.{tells_none}
 
 -- a Map-Server that holds nothing takes a turn in which no datagram comes
 abbrev pub silent : ServerNodeState
-silent = record { core = fresh_server []; store = memory_state empty_memory }
+silent = record { core = fresh_server []; store = memory_state empty_memory; started = 0 }
 
 abbrev pub none_failed : Pause
 none_failed = record { next_try = 0; next_line = 0 }
