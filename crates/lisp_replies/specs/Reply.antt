@@ -1,5 +1,5 @@
 -- What a Map-Server does for an EID-Prefix that a Map-Request asks for (RFC 9301 sections 8.3 and 8.4).
-use Rattle.std.specs.Prelude.{◌≡◌, ◌⊎◌, ℕ, Bool, true, false, not, ◌&&◌, nat_lt, List}
+use Rattle.std.specs.Prelude.{◌≡◌, ◌⊎◌, ℕ, Bool, true, false, not, ◌&&◌, ◌-◌, nat_lt, List}
 use Rattle.std.specs.List.{list_any}
 use Rattle.lisp_records.specs.declared.address.Addr.{Addr}
 use Rattle.lisp_records.specs.Address.{PrefixValue, covers, prefix_eq}
@@ -18,6 +18,10 @@ negative_ttl true = 1
 negative_ttl false = 15
 
 -- ---- in the first moments of a life, when rows haven't come back yet
+
+-- a life that began at a moment is in them, where they last for so many ms
+abbrev pub is_starting : ℕ → ℕ → ℕ → Bool
+is_starting began quiet now = nat_lt (now - began) quiet
 
 -- the prefix is one of a site
 abbrev pub is_of_site : List SiteValue → PrefixValue → Bool

@@ -3,11 +3,21 @@
 ghost use Rattle.std.specs.Prelude.{◌≡◌, ◌&&◌, nat_lt};
 ghost use Rattle.std.specs.List.{list_any};
 ghost use Rattle.lisp_records.specs.Address.{covers, prefix_eq};
-ghost use Rattle.lisp_replies.specs.Reply.{is_held_back, is_of_site, is_longer_of_site};
+ghost use Rattle.lisp_replies.specs.Reply.{is_starting, is_held_back, is_of_site, is_longer_of_site};
 
 use lisp_policy::{Site, Sites};
 use lisp_records::{Prefix, Row};
 use std::alloc::Allocator;
+
+/// How long, in ms, a life is starting, unless another time is asked for: as long as routers may take to register again.
+pub const QUIET: u64 = 60_000;
+
+/// Whether a life that began at a moment, in ms, is still starting at another, where that lasts for so many ms.
+pub fn is_starting(began: u64, quiet: u64, now: u64) -> bool
+    ensures { result ≡ is_starting began quiet now }
+{
+    now.saturating_sub(began) < quiet
+}
 
 /// Whether a row isn't replied with, because the Map-Server is starting: rows of longer prefixes may come back, unless its prefix is the
 /// longest of a site that covers the one that is asked for.

@@ -16,5 +16,6 @@ mod records;
 mod reply;
 mod server;
 
+pub use early::{QUIET, is_starting};
 pub use reply::{Negative, Reply};
 pub use server::server_reply;

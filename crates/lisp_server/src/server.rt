@@ -17,6 +17,7 @@ ghost use Rattle.lisp_admission.specs.Refused.{load_out_of_memory, save_out_of_m
 ghost use Rattle.lisp_admission.specs.declared.refused.Refused.{Refused};
 ghost use Rattle.lisp_admission.specs.declared.notice_fault.NoticeFault.{NoticeFault};
 ghost use Rattle.lisp_admission.specs.NoticeFault.{notice_load_out_of_memory, notice_save_out_of_memory};
+ghost use Rattle.lisp_replies.specs.Reply.{IsReply};
 ghost use Rattle.lisp_server.specs.Server.{empty_server};
 
 use crate::arrival::Arrival;
@@ -35,6 +36,7 @@ use lisp_messages::{Message, read_message};
 use lisp_nonces::{NonceStore, Pair};
 use lisp_policy::Sites;
 use lisp_records::{Addr, Prefix, RouterId, Row};
+use lisp_replies::{Reply, server_reply};
 use std::alloc::{AllocError, Allocator, Global};
 use std::marker::Model;
 
@@ -158,6 +160,21 @@ impl<A: Allocator + Copy> Server<A> {
 }
 
 impl<A: Memory + Copy> Server<A> {
+    /// What it sends at a time, in ms, for an EID-Prefix that a Map-Request asks for, by the rows that are held (RFC 9301 sections 8.3 and
+    /// 8.4): see [`server_reply`]. `starting` says whether its life has just begun, so that rows may not have come back yet.
+    pub fn reply_to(
+        &self,
+        asked: &Prefix,
+        starting: bool,
+        now: u64,
+    ) -> Result<Reply<A>, AllocError>
+        ensures reply { IfOk result
+            (λ reply. IsReply self.now.rows self.now.sites asked.now starting now reply) }
+        ensures memory { OnErr result A.may_refuse }
+    {
+        server_reply(self.alloc, &self.tables.rows, &self.sites, asked, starting, now)
+    }
+
     /// Receives a message that came from an address at a time, in ms. It refuses bytes that are no message
     /// (`Read`) and a Map-Notify (`NotMine`). A refusal changes nothing here.
     ///
