@@ -22,6 +22,7 @@ pub mod Must
 pub mod Memory
 pub mod Change
 pub mod Answer
+pub mod Reply
 pub mod Clean
 pub mod Promises
 pub mod Network

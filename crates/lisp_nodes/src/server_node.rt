@@ -1,6 +1,6 @@
 //! A Map-Server of a network, with its store.
 
-ghost use Rattle.std.specs.Prelude.{◌≡◌, ◌≤◌, None, true, IfSome, IsErrOf};
+ghost use Rattle.std.specs.Prelude.{◌≡◌, ◌≤◌, None, true, IfOk, IfSome, IsErrOf, OnErr};
 ghost use Rattle.std.specs.List.{All};
 ghost use Rattle.lisp_records.specs.Moment.{max_moment};
 ghost use Rattle.lisp_records.specs.Row.{is_alive};
@@ -10,6 +10,7 @@ ghost use Rattle.lisp_admission.specs.declared.notice_fault.NoticeFault.{NoticeF
 ghost use Rattle.lisp_refinement.specs.Calls.{NodeReceives, NodeNotifies, StoreRestarts};
 ghost use Rattle.lisp_refinement.specs.Events.{ExpiresNode, NodeResends, ChangesNoticesAlone};
 ghost use Rattle.lisp_refinement.specs.Nodes.{fresh_server};
+ghost use Rattle.lisp_refinement.specs.Replied.{NodeReplies};
 ghost use Rattle.lisp_nodes.specs.Memory.{no_store_memory_to_load, no_store_memory_to_save, no_store_memory_to_load_notice, no_store_memory_to_save_notice};
 
 use crate::arming::arm;
@@ -18,8 +19,9 @@ use lisp_memory::Memory;
 use lisp_nonces::{Fate, WorldStore};
 use lisp_policy::Sites;
 use lisp_records::{Addr, Bytes, Prefix, RouterId};
+use lisp_replies::{Reply, is_starting};
 use lisp_server::{NoticeFault, Refused, Server, Took};
-use std::alloc::{Allocator, Global};
+use std::alloc::{AllocError, Allocator, Global};
 use std::marker::Model;
 
 /// A Map-Server with its store.
@@ -114,6 +116,21 @@ impl<S: WorldStore, A: Memory + Copy> ServerNode<S, A> {
         ensures one_each { OneEach self.new.core.rows }
     {
         self.core.expire_one(now)
+    }
+
+    /// What it sends at a moment, in ms, for an EID-Prefix that a Map-Request asks for, where its life is starting for so many ms
+    /// (RFC 9301 sections 8.3 and 8.4).
+    pub fn reply_to(
+        &self,
+        asked: &Prefix,
+        quiet: u64,
+        now: u64,
+    ) -> Result<Reply<A>, AllocError>
+        ensures reply { IfOk result (NodeReplies self.now asked.now quiet now) }
+        ensures memory { OnErr result A.may_refuse }
+    {
+        let starting = is_starting(self.started, quiet, now);
+        self.core.reply_to(asked, starting, now)
     }
 
     /// It receives bytes from an address, its store's calls as the fate says.

@@ -6,3 +6,4 @@ pub mod Stands
 pub mod Taking
 pub mod Asked
 pub mod Headline
+pub mod Replied

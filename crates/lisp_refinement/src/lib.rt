@@ -12,3 +12,4 @@
 pub mod asked;
 pub mod headline;
 pub mod laws;
+pub mod replied;

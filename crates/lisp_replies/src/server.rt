@@ -37,6 +37,7 @@ pub fn server_reply<A: Allocator + Copy, B: Allocator, C: Memory + Copy>(
 ) -> Result<Reply<C>, AllocError>
     ensures reply { IfOk result
         (λ reply. IsReply table.now.rows sites.now asked.now starting now reply) }
+    ensures one_each { OneEach table.now.rows }
     ensures memory { OnErr result C.may_refuse }
 {
     if let Some(reply) = reply_for(alloc, table, sites, asked, starting, now)? {
@@ -68,6 +69,7 @@ fn reply_for<A: Allocator + Copy, B: Allocator, C: Memory + Copy>(
     ensures inner { IfOk result (λ found. found ≡ None
         → NoneAnswersFor table.now.rows asked.now now
         ⊎ (asked.now.mask_len < max_len asked.now.addr)) }
+    ensures one_each { OneEach table.now.rows }
     ensures blocks { All (λ h. IsPrefix h.mapping.eid) table.now.rows }
     ensures memory { OnErr result C.may_refuse }
 {

@@ -170,6 +170,7 @@ impl<A: Memory + Copy> Server<A> {
     ) -> Result<Reply<A>, AllocError>
         ensures reply { IfOk result
             (λ reply. IsReply self.now.rows self.now.sites asked.now starting now reply) }
+        ensures one_each { OneEach self.now.rows }
         ensures memory { OnErr result A.may_refuse }
     {
         server_reply(self.alloc, &self.tables.rows, &self.sites, asked, starting, now)

@@ -22,6 +22,7 @@ mod lose;
 mod new;
 mod nodes;
 mod notice;
+mod request;
 mod resend;
 mod restart;
 mod room;
