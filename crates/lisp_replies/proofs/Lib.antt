@@ -7,3 +7,7 @@ pub mod AlikeLaws
 pub mod NarrowingLaws
 pub mod ServerLaws
 pub mod Examples
+pub mod OwnWalkLaws
+pub mod OwnFitLaws
+pub mod OwnHoleLaws
+pub mod OwnKeptLaws

@@ -1,10 +1,12 @@
 //! What holds of replies themselves: each function's contract is a law, and its body is empty.
 
 ghost use Rattle.std.specs.Prelude.{List};
+ghost use Rattle.lisp_records.specs.Record.{MapRecordValue};
 ghost use Rattle.lisp_records.specs.Row.{RowValue};
 ghost use Rattle.lisp_policy.specs.Site.{SiteValue};
 ghost use Rattle.lisp_replies.specs.Kept.{HaveOneInside, RepliesMayBeKept, ReplyAlike};
 ghost use Rattle.lisp_replies.specs.Narrowing.{WiderFitsNot};
+ghost use Rattle.lisp_replies.specs.OwnKept.{OwnRepliesMayBeKept};
 
 use std::alloc::Allocator;
 
@@ -29,4 +31,11 @@ pub fn replies_may_be_kept<A: Allocator>()
 pub fn replies_are_alike<A: Allocator>()
     ensures { (one other : List RowValue) (sites : List SiteValue)
         → ReplyAlike A one other sites }
+{}
+
+/// What an ITR that keeps a router's reply says of an address of the first record's prefix is what the router's database says of it: one record
+/// is the longest that has the address, and it is the longest that the database has for it, but authoritative and for the TTL of all. Of
+/// a negative reply the database has no record for any address of its prefix (RFC 9301 section 5.5).
+pub fn own_replies_may_be_kept<A: Allocator>()
+    ensures { (database : List MapRecordValue) → OwnRepliesMayBeKept A database }
 {}

@@ -7,15 +7,23 @@
 //!   list of the prefixes isn't kept beside that of the records.
 //! - Where records don't fit one message, the length of the prefix is halved: a wider prefix never needs less
 //!   (`laws::wider_fits_not`).
+//! - A router's database is walked whole for each question: it has at most 1,024 records. Whether the records fit is seen by their count and
+//!   size alone, before any is made.
+//! - The prefix of a router's negative reply is found in one walk: the length that is enough for the records so far only grows.
 #![tactic(auto)]
 
 mod early;
 pub mod laws;
 mod narrowing;
+mod own_hole;
+mod own_narrowing;
+mod own_records;
 mod records;
 mod reply;
+mod router;
 mod server;
 
 pub use early::{QUIET, is_starting};
 pub use reply::{Negative, Reply};
+pub use router::router_reply;
 pub use server::server_reply;
