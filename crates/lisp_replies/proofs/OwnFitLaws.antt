@@ -118,6 +118,16 @@ wider_fits_not database longest addr n k le unfit = not_true (own_fit database l
 
 -- ---- the widest prefix for which they fit
 
+most : (a : Addr) → max_len a ≤ 128
+most (V4 bytes) = omega arith
+most (V6 bytes) = omega arith
+
+-- a prefix over another has at most the longest mask
+pub few_bits : (one other : PrefixValue) → covers one other ≡ true → IsPrefix other → one.mask_len ≤ 128
+few_bits one other over block =
+    let le = leb-true one.mask_len other.mask_len (and_parts (nat_le one.mask_len other.mask_len) (holds one other.addr) over).0 in
+    omega (arith, le, block.0, most other.addr)
+
 module _ (database : List MapRecordValue) (longest : MapRecordValue) (asked : PrefixValue) where
   abbrev fit_at : ℕ → Bool
   fit_at n = own_fit database longest (prefix_around asked.addr n)

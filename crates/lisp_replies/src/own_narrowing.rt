@@ -23,10 +23,11 @@ pub(crate) fn widest_that_fits<A: Allocator>(
     ensures nowhere { result ≡ None → FitsNowhere records.now longest.now asked.now }
     ensures some { result ≡ None → own_inside records.now asked.now ≢ [] }
 {
-    // Nearly always all records fit.
+    let addr = asked.addr();
     let widest = longest.eid_ref().mask_len();
+    // Nearly always all records fit.
     if fit_around(records, longest, asked, widest) {
-        return Prefix::new(asked.addr(), widest);
+        return Prefix::new(addr, widest);
     }
     let mut low = widest + 1;
     let mut high = asked.mask_len();
@@ -41,7 +42,7 @@ pub(crate) fn widest_that_fits<A: Allocator>(
             low = middle + 1;
         }
     }
-    Prefix::new(asked.addr(), high)
+    Prefix::new(addr, high)
 }
 
 // Whether one message can carry the records for the prefix of a length around the one that is asked for.
