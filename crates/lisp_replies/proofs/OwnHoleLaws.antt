@@ -1,13 +1,14 @@
 -- The widest prefix around an address in which no record of a router's database lies.
 use Rattle.std.proofs.Common.{◌≡◌, ◌⊎◌, inl, inr, ℕ, ◌+◌, ◌<◌, ◌≤◌, true, false, List, [], ◌∷◌, ◌++◌, Option, Some, None, refl, sym, ap, ◌∙◌, subst, true≢false, arith}
 use Rattle.std.specs.List.{Contains}
-use Rattle.std.specs.Prelude.{◌↔◌}
+use Rattle.std.specs.Prelude.{◌↔◌, IfSome}
 use Rattle.std.proofs.lemmas.List.Elements.{Contains-append_left, Contains-push, Contains-push_cases}
 use Rattle.lisp_records.specs.declared.address.Addr.{Addr}
 use Rattle.lisp_records.specs.Address.{PrefixValue, IsPrefix, cleared, covers, holds, max_len, prefix_around}
 use Rattle.lisp_records.specs.Record.{MapRecordValue}
 use Rattle.lisp_policy.proofs.Found.{not_true}
 use Rattle.lisp_lookup.specs.Covering.{alone}
+use Rattle.lisp_lookup.proofs.BestLaws.{same_family}
 use Rattle.lisp_lookup.proofs.Blocks.{is_addr}
 use Rattle.lisp_lookup.proofs.CachedLaws.{covers_through, nested}
 use Rattle.lisp_lookup.proofs.SitesLaws.{beside_within, in_longest, in_wider}
@@ -64,3 +65,13 @@ hole_is database addr least none is = record {
 -- it is what was made
 pub hole_made : (database : List MapRecordValue) (addr : Addr) (least : ℕ) (made : PrefixValue) → made ≡ prefix_around addr least → NoneIsFor database (alone addr) → IsLeastFree database addr least → IsOwnHole database addr made
 hole_made database addr least made value none is = subst (λ (b : PrefixValue). IsOwnHole database addr b) (sym value) (hole_is database addr least none is)
+
+-- ---- the prefix of the address alone, as it is made
+
+pub alone_made : (made : Option PrefixValue) (p : PrefixValue) (addr : Addr) (n : ℕ) → made ≡ Some p → IfSome made (λ b. b ≡ prefix_around addr n) → n ≡ max_len addr → p ≡ alone addr
+alone_made made p addr n is value full =
+    let its : p ≡ prefix_around addr n = subst (λ (o : Option PrefixValue). IfSome o (λ b. b ≡ prefix_around addr n)) is value in
+    its ∙ ap (prefix_around addr) full
+
+pub alone_full : (p : PrefixValue) (addr : Addr) → p ≡ alone addr → p.mask_len ≡ max_len p.addr
+alone_full p addr is = ap (λ (b : PrefixValue). b.mask_len) is ∙ sym (same_family addr (max_len addr)) ∙ ap (λ (b : PrefixValue). max_len b.addr) (sym is)

@@ -20,7 +20,7 @@ pub(crate) fn longest_for<'a, A: Allocator>(
     ensures longest { IsLongestForOf records.now asked.now (option_map (λ m. m.now) result) }
 
     // What the type promises of every record.
-    ensures blocks { All (λ m. IsPrefix m.eid) records.now }
+    ensures prefixes { All (λ m. IsPrefix m.eid) records.now }
 {
     let mut longest: Option<&MapRecord<A>> = None;
     for record in records {

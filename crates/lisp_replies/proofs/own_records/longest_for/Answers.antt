@@ -29,5 +29,5 @@ loop-record-preserved g c =
           (All-push (λ (m : MapRecordValue). IsPrefix m.eid) seen c.record-item.result c.loop-record.invariant.blocks (subst IsPrefix c.eid_ref.ensures c.addr-first.ensures.block));
     }
 
-pub returns-clause-blocks : goal.returns-clause-blocks
-returns-clause-blocks g c = subst (λ (ms : List MapRecordValue). All (λ m. IsPrefix m.eid) ms) (take_all c.loop-record.record-index c.args.records.now c.loop-record-test.false) c.loop-record.invariant.blocks
+pub returns-clause-prefixes : goal.returns-clause-prefixes
+returns-clause-prefixes g c = subst (λ (ms : List MapRecordValue). All (λ m. IsPrefix m.eid) ms) (take_all c.loop-record.record-index c.args.records.now c.loop-record-test.false) c.loop-record.invariant.blocks
