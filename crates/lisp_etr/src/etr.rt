@@ -7,6 +7,7 @@ ghost use Rattle.lisp_etr.specs.Config.{EtrConfigValue};
 ghost use Rattle.lisp_records.specs.Database.{database_of};
 ghost use Rattle.lisp_records.specs.Moment.{max_moment};
 ghost use Rattle.lisp_records.specs.Parts.{part_count};
+ghost use Rattle.lisp_replies.specs.Own.{IsOwnReply};
 ghost use Rattle.lisp_etr.specs.Rounds.{acked_at};
 ghost use Rattle.lisp_etr.specs.Faults.{store_out_of_memory};
 ghost use Rattle.lisp_etr.specs.Etr.{etr_started, etr_changed, due_at};
@@ -33,8 +34,9 @@ use lisp_hmac::Key;
 use lisp_memory::{FallibleCopies, Memory};
 use lisp_messages::{MapNotify, write_notify_under};
 use lisp_nonces::{FIRST_NOTICE_NONCE, LAST_ROUTER_NONCE, NonceStore};
-use lisp_records::{Addr, Bytes, Database};
-use std::alloc::{Allocator, Global};
+use lisp_records::{Addr, Bytes, Database, Prefix};
+use lisp_replies::{Reply, router_reply};
+use std::alloc::{AllocError, Allocator, Global};
 use std::marker::Model;
 
 /// A site router: what it registers, its last nonce, and how it stands with its Map-Servers.
@@ -327,6 +329,22 @@ impl<A: Memory + Copy> Etr<A> {
         ensures { result ≡ self.now.safe }
     {
         self.safe
+    }
+
+    /// What it sends for an EID-Prefix that a Map-Request asks for, by its present database, in memory of `alloc`: see
+    /// [`router_reply`]. Where an address is `probed` (P of the Map-Request), each locator of that address has the probe
+    /// bit (RFC 9301 sections 5.5, 7.1 and 8.2).
+    pub fn reply_to<C: Memory + Copy>(
+        &self,
+        alloc: C,
+        asked: &Prefix,
+        probed: Option<Addr>,
+    ) -> Result<Reply<C>, AllocError>
+        ensures reply { IfOk result
+            (λ reply. IsOwnReply self.now.database asked.now probed reply) }
+        ensures memory { OnErr result C.may_refuse }
+    {
+        router_reply(alloc, &self.database, asked, probed)
     }
 
     /// What it registers. Takes no memory.
