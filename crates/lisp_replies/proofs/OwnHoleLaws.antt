@@ -1,5 +1,5 @@
 -- The widest prefix around an address in which no record of a router's database lies.
-use Rattle.std.proofs.Common.{◌≡◌, ◌⊎◌, inl, inr, ℕ, ◌+◌, ◌<◌, ◌≤◌, true, false, List, [], ◌∷◌, ◌++◌, Option, Some, None, refl, sym, ap, ◌∙◌, subst, true≢false, arith}
+use Rattle.std.proofs.Common.{◌≡◌, ◌⊎◌, inl, inr, ℕ, ◌<◌, ◌≤◌, true, false, List, [], ◌∷◌, ◌++◌, Option, Some, refl, sym, ap, ◌∙◌, subst, true≢false, arith}
 use Rattle.std.specs.List.{Contains}
 use Rattle.std.specs.Prelude.{◌↔◌, IfSome}
 use Rattle.std.proofs.lemmas.List.Elements.{Contains-append_left, Contains-push, Contains-push_cases}
@@ -44,10 +44,13 @@ free_first addr = (omega arith, λ n within. (λ _. omega arith, λ _ m at. none
     none m (k, lt, is) = absurd (omega (arith, lt))
 
 pub free_next : (seen : List MapRecordValue) (m : MapRecordValue) (addr : Addr) (least next : ℕ) → IsLeastFree seen addr least → next ≤ max_len addr → IsLeastWithout m.eid addr least next → IsLeastFree (seen ++ m ∷ []) addr next
-free_next seen m addr least next before fits its = (fits, λ n within. (
+free_next seen m addr least next before fits its = (
+  fits,
+  λ n within. (
     λ each. (its n within).0 ((before.1 n within).0 (λ x at. each x (Contains-append_left seen (m ∷ []) x at)), each m (Contains-push seen m)),
     λ le x at. either n within ((its n within).1 le) x (Contains-push_cases seen m x at),
-  ))
+  ),
+)
   where
     either : (n : ℕ) → n ≤ max_len addr → (least ≤ n) × (covers (prefix_around addr n) m.eid ≡ false) → (x : MapRecordValue) → Contains seen x ⊎ (m ≡ x) → covers (prefix_around addr n) x.eid ≡ false
     either n within known x (inl was) = (before.1 n within).1 known.0 x was

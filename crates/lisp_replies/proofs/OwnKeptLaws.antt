@@ -6,14 +6,13 @@ use Rattle.std.proofs.lemmas.Bool.Decides.{Decides-ltb}
 use Rattle.std.proofs.lemmas.List.{get_or-map, get_or_default, length-map}
 use Rattle.std.proofs.lemmas.List.Elements.{Contains-append_right}
 use Rattle.lisp_records.specs.declared.address.Addr.{Addr}
-use Rattle.lisp_records.specs.Address.{PrefixValue, addr_eq, cleared, covers, holds, max_len, prefix_around}
+use Rattle.lisp_records.specs.Address.{PrefixValue, addr_eq, cleared, covers, holds, max_len}
 use Rattle.lisp_records.specs.Record.{MapRecordValue}
-use Rattle.lisp_records.proofs.AddressLemmas.{cleared-wider}
 use Rattle.lisp_policy.proofs.Found.{not_true}
 use Rattle.lisp_lookup.specs.Covering.{alone}
 use Rattle.lisp_lookup.specs.Inside.{is_inside}
 use Rattle.lisp_lookup.specs.Replies.{IsLongest}
-use Rattle.lisp_lookup.proofs.Blocks.{addr_is, is_addr}
+use Rattle.lisp_lookup.proofs.Blocks.{is_addr}
 use Rattle.lisp_lookup.proofs.CachedLaws.{covers_through, has_wider, nested}
 use Rattle.lisp_replies.specs.Own.{IsLongestFor, IsOwnHole, IsOwnNarrowed, IsOwnReply, OwnRepliesFor, OwnRepliesNone, OwnRepliesWith, own_inside, own_record}
 use Rattle.lisp_replies.specs.OwnKept.{IsOwnAnswered, IsOwnKept, IsOwnKeptNone, OwnMayBeKept, OwnRepliesMayBeKept}

@@ -1,19 +1,18 @@
 -- Walks over a router's database: what is so of the records so far, and of one more.
-use Rattle.std.proofs.Common.{◌≡◌, ◌⊎◌, inl, inr, not, ℕ, ◌+◌, ◌*◌, ◌<◌, ◌≤◌, Bool, true, false, nat_lt, nat_le, List, [], ◌∷◌, ◌++◌, length, map, min, take, slice_index_or, Option, Some, None, refl, sym, ap, ◌∙◌, subst, true≢false, arith, length-append}
-use Rattle.std.specs.List.{All, Contains, filter, sum_by}
+use Rattle.std.proofs.Common.{◌≡◌, ◌⊎◌, inl, inr, not, ℕ, ◌+◌, ◌<◌, ◌≤◌, Bool, true, false, List, [], ◌∷◌, ◌++◌, length, map, min, take, slice_index_or, Option, Some, None, refl, sym, ap, ◌∙◌, subst, true≢false, arith, length-append}
+use Rattle.std.specs.List.{Contains, filter}
 use Rattle.std.proofs.lemmas.Bool.{cases_lt, ltb-false}
 use Rattle.std.proofs.lemmas.Bool.Decides.{Decides-ltb}
 use Rattle.std.proofs.lemmas.List.{append-nil, map-append, take_more}
-use Rattle.std.proofs.lemmas.List.Elements.{All-contains, All-contains_itself, All-filter, All-push, Contains-append_cases, Contains-append_left, Contains-push, Contains-push_cases, filter-append, filter_passes}
+use Rattle.std.proofs.lemmas.List.Elements.{All-contains, All-contains_itself, All-filter, Contains-append_cases, Contains-append_left, Contains-push, Contains-push_cases, filter-append, filter_passes}
 use Rattle.std.proofs.lemmas.List.Sorted.{Contains-permutation, IsPermutation-filter_both}
 use Rattle.std.proofs.lemmas.List.Sums.{sum_by-append}
 use Rattle.lisp_records.specs.declared.address.Addr.{Addr}
 use Rattle.lisp_records.specs.declared.locator.Locator.{Locator}
-use Rattle.lisp_records.specs.Address.{PrefixValue, IsPrefix, covers}
+use Rattle.lisp_records.specs.Address.{PrefixValue, covers}
 use Rattle.lisp_records.specs.Parts.{size}
 use Rattle.lisp_records.specs.Record.{MapRecordValue}
 use Rattle.lisp_records.specs.Written.{written}
-use Rattle.lisp_policy.proofs.Found.{not_true}
 use Rattle.lisp_lookup.specs.Inside.{is_inside}
 use Rattle.lisp_replies.specs.Own.{IsLeastOwnTtl, IsLongestFor, IsLongestForOf, own_inside, own_locator, own_record}
 use Rattle.lisp_replies.specs.OwnSteps.{is_longer}

@@ -76,11 +76,7 @@ pub(crate) fn own_records<A: Allocator, C: Memory + Copy>(
 }
 
 // The least TTL of a record and of those of longer prefixes inside `eid`, in minutes.
-fn least_ttl<A: Allocator>(
-    records: &[MapRecord<A>],
-    longest: &MapRecord<A>,
-    eid: &Prefix,
-) -> u32
+fn least_ttl<A: Allocator>(records: &[MapRecord<A>], longest: &MapRecord<A>, eid: &Prefix) -> u32
     ensures { IsLeastOwnTtl (longest.now ∷ own_inside records.now eid.now) result }
 {
     let mut least = longest.ttl();

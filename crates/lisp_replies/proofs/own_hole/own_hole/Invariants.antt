@@ -1,5 +1,4 @@
-use Rattle.std.proofs.Common.{◌≤◌, take}
-use Rattle.lisp_records.specs.Address.{max_len}
+use Rattle.std.proofs.Common.{take}
 use Rattle.lisp_replies.proofs.OwnHoleLaws.{IsLeastFree}
 use Rattle.lisp_replies.proofs.own_hole.own_hole.Given as goal
 

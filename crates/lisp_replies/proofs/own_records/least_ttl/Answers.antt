@@ -1,5 +1,4 @@
-use Rattle.std.proofs.Common.{◌∷◌, min, inl, inr, List, take, sym, ap, ◌∙◌, subst}
-use Rattle.lisp_records.specs.Record.{MapRecordValue}
+use Rattle.std.proofs.Common.{◌∷◌, min, inl, inr, take, sym, ap, ◌∙◌, subst}
 use Rattle.lisp_lookup.specs.Inside.{is_inside}
 use Rattle.lisp_replies.specs.Own.{IsLeastOwnTtl, own_inside}
 use Rattle.lisp_replies.proofs.OwnWalkLaws.{inside_step, least_next}

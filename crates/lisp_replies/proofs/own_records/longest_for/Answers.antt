@@ -18,13 +18,13 @@ loop-record-preserved g c =
     record {
       longest = subst (λ (ms : List MapRecordValue). IsLongestForOf ms c.args.asked.now (option_map (λ m. m.now) c.if-covers.longest)) (sym more)
           (longest_next c.args.asked.now seen c.record-item.result (option_map (λ m. m.now) c.loop-record.longest) (option_map (λ m. m.now) c.if-covers.longest) c.loop-record.invariant.longest
-              (elim c.if-covers.branch [
-                | then-covers+then-is_longer w ↦ inl (over ∙ w.if-covers.true, sym w.is_longer.ensures ∙ w.if-is_longer.true, ap (option_map (λ m. m.now)) w.longest-is)
-                | else-covers w ↦ elim w.else-covers.branch [
-                  | else-covers-via-then-covers+else-is_longer v ↦ inr (inr (sym v.is_longer.ensures ∙ v.if-is_longer.false), ap (option_map (λ m. m.now)) w.longest-is)
-                  | else-covers-via-else-covers v ↦ inr (inl (over ∙ v.if-covers.false), ap (option_map (λ m. m.now)) w.longest-is)
-                ]
-              ]));
+          (elim c.if-covers.branch [
+            | then-covers+then-is_longer w ↦ inl (over ∙ w.if-covers.true, sym w.is_longer.ensures ∙ w.if-is_longer.true, ap (option_map (λ m. m.now)) w.longest-is)
+            | else-covers w ↦ elim w.else-covers.branch [
+              | else-covers-via-then-covers+else-is_longer v ↦ inr (inr (sym v.is_longer.ensures ∙ v.if-is_longer.false), ap (option_map (λ m. m.now)) w.longest-is)
+              | else-covers-via-else-covers v ↦ inr (inl (over ∙ v.if-covers.false), ap (option_map (λ m. m.now)) w.longest-is)
+            ]
+          ]));
       blocks = subst (λ (ms : List MapRecordValue). All (λ m. IsPrefix m.eid) ms) (sym more)
           (All-push (λ (m : MapRecordValue). IsPrefix m.eid) seen c.record-item.result c.loop-record.invariant.blocks (subst IsPrefix c.eid_ref.ensures c.addr-first.ensures.block));
     }
