@@ -1,8 +1,9 @@
-//! Lookups at a Map-Server, and dropping rows where none is dead.
+//! Lookups at a Map-Server, what it sends for Map-Requests, and dropping rows where none is dead.
 
 use crate::stopwatch::Stopwatch;
 use lisp_lookup::Answer;
-use lisp_records::Addr;
+use lisp_records::{Addr, Prefix};
+use lisp_replies::Reply;
 use lisp_server::Server;
 use std::rt::Clock;
 
@@ -20,22 +21,31 @@ const NO_HOST: Addr = Addr::V4([10, 255, 255, 255]);
 enum Call {
     Found,
     NotFound,
+    Record,
+    Hole,
     Expire,
 }
 
-static NAMES: [(&str, Call); 3] = [
+static NAMES: [(&str, Call); 5] = [
     ("a lookup that finds the longest prefix first", Call::Found),
     ("a lookup that finds none", Call::NotFound),
+    ("a Map-Reply of one record", Call::Record),
+    ("the prefix of a negative Map-Reply", Call::Hole),
     ("expire of nothing", Call::Expire),
 ];
 
-/// Prints how long each call takes at a server that holds so many rows; `None` where anything fails.
-pub(crate) fn measure<R: Print + Clock>(rt: &R, server: &mut Server, held: u32) -> Option<()> {
+/// Prints how long each call takes at a server that holds so many rows, and answers how many nanoseconds all those of a Map-Reply of
+/// one record took; `None` where anything fails.
+pub(crate) fn measure<R: Print + Clock>(rt: &R, server: &mut Server, held: u32) -> Option<u128> {
+    let mut of_record = 0;
     for (name, call) in &NAMES {
         let nanos = nanos(rt, server, *call)?;
         print_mean(rt, held, name, nanos / u128::from(CALLS))?;
+        if let Call::Record = call {
+            of_record = nanos;
+        }
     }
-    Some(())
+    Some(of_record)
 }
 
 fn print_mean<R: Print>(rt: &R, held: u32, name: &str, mean: u128) -> Option<()> {
@@ -58,9 +68,16 @@ fn is_answered(server: &mut Server, call: Call) -> bool {
     match call {
         Call::Found => matches!(server.answer(&HOST, 0), Answer::Reply(_)),
         Call::NotFound => matches!(server.answer(&NO_HOST, 0), Answer::NotRegistered),
+        Call::Record => matches!(server.reply_to(&whole(HOST), false, 0), Ok(Reply::Records(_))),
+        Call::Hole => matches!(server.reply_to(&whole(NO_HOST), false, 0), Ok(Reply::Negative(_))),
         Call::Expire => {
             server.expire(0);
             true
         }
     }
+}
+
+// The prefix of one address.
+fn whole(addr: Addr) -> Prefix {
+    Prefix::new(addr, addr.family().max_mask_len()).unwrap()
 }

@@ -15,6 +15,9 @@ use std::rt::Clock;
 /// How many rows the server holds; they only become more.
 static HELD: [u32; 3] = [1, 1_000, 100_000];
 
+/// The rows beside which what is held is compared.
+const FEW: u32 = 10;
+
 /// How many records the Map-Register has that is timed.
 static RECORDS: [u32; 3] = [1, 10, MOST_RECORDS];
 
@@ -88,12 +91,16 @@ impl Network {
     }
 
     fn measure<R: Print + Clock>(&mut self, rt: &R) -> Option<()> {
+        self.register(0, FEW)?;
+        let with_few = lookups::measure(rt, &mut self.server, FEW)?;
         let mut before = 0;
         for held in &HELD {
             self.fill(before, *held)?;
             before = *held;
             self.measure_registrations(rt, *held)?;
-            lookups::measure(rt, &mut self.server, before.max(MOST_RECORDS))?;
+            let rows = before.max(MOST_RECORDS);
+            let nanos = lookups::measure(rt, &mut self.server, rows)?;
+            print_ratio(rt, rows, nanos, with_few)?;
         }
         Some(())
     }
@@ -109,13 +116,16 @@ impl Network {
     // Registers rows, where it holds so many, until it holds `held`; both are whole blocks, but for less than one.
     fn fill(&mut self, before: u32, held: u32) -> Option<()> {
         for block in before / BLOCK..held / BLOCK {
-            self.name_hosts(block.saturating_mul(BLOCK), BLOCK)?;
-            self.write()?;
-            if !self.is_accepted() {
-                return None;
-            }
+            self.register(block.saturating_mul(BLOCK), BLOCK)?;
         }
         Some(())
+    }
+
+    // Registers so many host prefixes from one on.
+    fn register(&mut self, first: u32, count: u32) -> Option<()> {
+        self.name_hosts(first, count)?;
+        self.write()?;
+        if self.is_accepted() { Some(()) } else { None }
     }
 
     // The next Map-Registers have a record for each of so many host prefixes from one on.
@@ -193,6 +203,15 @@ fn print_means<R: Print>(
 ) -> Option<()> {
     println!(rt;
         "{held} rows held, {records} records: {mean} ns, their two tags alone {tags} ns, the mean of {calls} calls"
+    ).ok()
+}
+
+// Prints how much longer a Map-Reply takes than with few rows.
+fn print_ratio<R: Print>(rt: &R, held: u32, nanos: u128, with_few: u128) -> Option<()> {
+    let hundredths = nanos.saturating_mul(100) / with_few.max(1);
+    let (whole, rest) = (hundredths / 100, hundredths % 100);
+    println!(rt;
+        "{held} rows held: a Map-Reply of one record takes {whole}.{rest:02} times as long as with {FEW} rows"
     ).ok()
 }
 
