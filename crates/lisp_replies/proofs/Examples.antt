@@ -5,3 +5,5 @@ pub mod Walk
 pub mod Narrowing
 pub mod Replies
 pub mod Kept
+-- Examples: a few records, what the definitions make of them, and what they don't allow.
+pub mod Own

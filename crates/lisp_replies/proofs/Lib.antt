@@ -11,3 +11,4 @@ pub mod OwnWalkLaws
 pub mod OwnFitLaws
 pub mod OwnHoleLaws
 pub mod OwnKeptLaws
+pub mod Examples
