@@ -263,7 +263,6 @@ sixteen_kept (m, longest, is) = by m longest.kept longest is
     Other m = IsLongest four (ipv4 10 1 1 7) m → sent 2 (block 10 1 0 0 16) 30 ≡ own_record None 30 (block 10 1 0 0 16) m → ⊥
 
     by : (m : MapRecordValue) → Contains four m → Other m
-    unfolding masked
     by = each Other four ((λ l e. no l.has), ((λ l e. absurd (omega (arith, l.longest of_first (2, omega arith, refl) refl))), ((λ l e. absurd (let version : ◌≡◌ {A = ℕ} 2 3 = ap (λ (r : MapRecordValue). r.version) e in omega (arith, version))), ((λ l e. absurd (omega (arith, l.longest of_first (2, omega arith, refl) refl))), tt))))
 
 first_of : List MapRecordValue → MapRecordValue
@@ -272,10 +271,10 @@ first_of (r ∷ rs) = r
 
 -- so says the law, of another address than the one that was asked for
 law_says : OwnRepliesMayBeKept ℕ four → (r : MapRecordValue) → IsLongest three (ipv4 10 1 1 7) r → IsOwnAnswered four None 30 (ipv4 10 1 1 7) r
+unfolding masked first_of
 law_says law r longest = by (law (block 10 1 5 5 32) None (Records three) reply_of_three)
   where
     by : IsOwnKept four None (ipv4 10 1 5 5) three → IsOwnAnswered four None 30 (ipv4 10 1 1 7) r
-    unfolding masked first_of
     by kept =
         let first : sent 2 (block 10 1 0 0 16) 30 ≡ kept.first = ap first_of kept.is in
         let has : holds kept.first.eid (ipv4 10 1 1 7) ≡ true = subst (λ (m : MapRecordValue). holds m.eid (ipv4 10 1 1 7) ≡ true) first refl in
