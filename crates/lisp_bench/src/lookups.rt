@@ -68,8 +68,14 @@ fn is_answered(server: &mut Server, call: Call) -> bool {
     match call {
         Call::Found => matches!(server.answer(&HOST, 0), Answer::Reply(_)),
         Call::NotFound => matches!(server.answer(&NO_HOST, 0), Answer::NotRegistered),
-        Call::Record => matches!(server.reply_to(&whole(HOST), false, 0), Ok(Reply::Records(_))),
-        Call::Hole => matches!(server.reply_to(&whole(NO_HOST), false, 0), Ok(Reply::Negative(_))),
+        Call::Record => matches!(
+            server.reply_to(&whole(HOST), false, 0),
+            Ok(Reply::Records(_))
+        ),
+        Call::Hole => matches!(
+            server.reply_to(&whole(NO_HOST), false, 0),
+            Ok(Reply::Negative(_))
+        ),
         Call::Expire => {
             server.expire(0);
             true

@@ -120,12 +120,7 @@ impl<S: WorldStore, A: Memory + Copy> ServerNode<S, A> {
 
     /// What it sends at a moment, in ms, for an EID-Prefix that a Map-Request asks for, where its life is starting for so many ms
     /// (RFC 9301 sections 8.3 and 8.4).
-    pub fn reply_to(
-        &self,
-        asked: &Prefix,
-        quiet: u64,
-        now: u64,
-    ) -> Result<Reply<A>, AllocError>
+    pub fn reply_to(&self, asked: &Prefix, quiet: u64, now: u64) -> Result<Reply<A>, AllocError>
         ensures reply { IfOk result (NodeReplies self.now asked.now quiet now) }
         ensures memory { OnErr result A.may_refuse }
     {

@@ -162,18 +162,20 @@ impl<A: Allocator + Copy> Server<A> {
 impl<A: Memory + Copy> Server<A> {
     /// What it sends at a time, in ms, for an EID-Prefix that a Map-Request asks for, by the rows that are held (RFC 9301 sections 8.3 and
     /// 8.4): see [`server_reply`]. `starting` says whether its life has just begun, so that rows may not have come back yet.
-    pub fn reply_to(
-        &self,
-        asked: &Prefix,
-        starting: bool,
-        now: u64,
-    ) -> Result<Reply<A>, AllocError>
+    pub fn reply_to(&self, asked: &Prefix, starting: bool, now: u64) -> Result<Reply<A>, AllocError>
         ensures reply { IfOk result
             (λ reply. IsReply self.now.rows self.now.sites asked.now starting now reply) }
         ensures one_each { OneEach self.now.rows }
         ensures memory { OnErr result A.may_refuse }
     {
-        server_reply(self.alloc, &self.tables.rows, &self.sites, asked, starting, now)
+        server_reply(
+            self.alloc,
+            &self.tables.rows,
+            &self.sites,
+            asked,
+            starting,
+            now,
+        )
     }
 
     /// Receives a message that came from an address at a time, in ms. It refuses bytes that are no message
