@@ -67,6 +67,7 @@ too_many c verbs.Resend a b e f h k words change restart lose = refl
 too_many c verbs.Hold a b e f h k words change restart lose = refl
 too_many c verbs.Acks a b e f h k words change restart lose = refl
 too_many c verbs.Ask a b e f h k words change restart lose = refl
+too_many c verbs.Request a b e f h k words change restart lose = refl
 too_many c verbs.Due a b e f h k words change restart lose = refl
 
 -- no word behind a verb
@@ -85,6 +86,7 @@ too_few c verbs.Resend = refl
 too_few c verbs.Hold = refl
 too_few c verbs.Acks = refl
 too_few c verbs.Ask = refl
+too_few c verbs.Request = refl
 too_few c verbs.Due = refl
 
 -- a number of words that no verb takes that no records follow

@@ -3,6 +3,7 @@ use Rattle.std.proofs.Common.{◌≢◌, ℕ, Bool, true, false, cond, nat_lt, L
 use Rattle.std.specs.Option.{ok_or}
 use Rattle.hex.specs.Hex.{decode_of}
 use Rattle.lisp_records.specs.Result.{◌>>=◌}
+use Rattle.lisp_records.specs.declared.address.Addr.{Addr}
 use Rattle.lisp_nonces.specs.declared.fate.Fate.{Fate}
 use Rattle.lisp_nonces.specs.declared.fate.Fate.TheVariants as fates
 use Rattle.lisp_policy.specs.Configuration.{ConfigValue}
@@ -10,8 +11,8 @@ use Rattle.lisp_script.specs.declared.fault.ScriptWhat.{ScriptWhat}
 use Rattle.lisp_script.specs.declared.fault.ScriptWhat.TheVariants as whats
 use Rattle.lisp_script.specs.declared.verb.Verb.{Verb}
 use Rattle.lisp_script.specs.declared.verb.Verb.TheVariants as verbs
-use Rattle.lisp_script.specs.Spelling.{verb_of, change_of, part_in, send_of, deliver_of, notice_of, given_to, restart_of, restart_with, rotate_of, lose_of, lose_with, spelt, command_of, is_comment, in_words, in_line}
-use Rattle.lisp_script.specs.Words.{words_of, is_word, node_of, server_of, router_of, number_in, as_key, key_in, address_in, or_fault, bytes_in, doubt_in, load_fails_in, fate_in, records_in, some_records, database_in}
+use Rattle.lisp_script.specs.Spelling.{verb_of, change_of, part_in, send_of, source_in, request_of, deliver_of, notice_of, given_to, restart_of, restart_with, rotate_of, lose_of, lose_with, spelt, command_of, is_comment, in_words, in_line}
+use Rattle.lisp_script.specs.Words.{words_of, is_word, node_of, server_of, router_of, number_in, as_key, key_in, address_in, prefix_in, or_fault, bytes_in, doubt_in, load_fails_in, fate_in, records_in, some_records, database_in}
 
 -- a value, or a fault that isn't of memory
 abbrev Plain : {X : Type 0} → Result X ScriptWhat → Type 0
@@ -80,6 +81,9 @@ key w = then _ _ (numeral w) key_number
 address : (w : List ℕ) → Plain (address_in w)
 address w = or_plain _ _ entry
 
+prefix : (w : List ℕ) → Plain (prefix_in w)
+prefix w = or_plain _ _ entry
+
 bytes : (w : List ℕ) → Plain (bytes_in w)
 bytes w = either (is_word w (codes "-")) (Ok []) _ tt (fault_plain whats.Hex (decode_of w) hex)
 
@@ -119,6 +123,13 @@ part w i = either (is_word (codes "part") w) (number_in i) (Err whats.Word) (num
 send : (c : ConfigValue) (r s : List ℕ) (which : Result ℕ ScriptWhat) (becomes : Result Fate ScriptWhat) → Plain which → Plain becomes → Plain (send_of c r s which becomes)
 unfolding send_of
 send c r s which becomes named plain = then _ _ (router c r) (λ router. then _ _ (server c s) (λ server. then _ _ named (λ part. then _ _ plain (λ fate. tt))))
+
+source : (w a : List ℕ) → Plain (source_in w a)
+source w a = either (is_word (codes "from") w) _ (Err whats.Word) (then _ _ (address a) (λ from. tt)) word
+
+request : (c : ConfigValue) (s p : List ℕ) (source : Result (Option Addr) ScriptWhat) → Plain source → Plain (request_of c s p source)
+unfolding request_of
+request c s p source plain = then _ _ (server c s) (λ server. then _ _ (prefix p) (λ asked. then _ _ plain (λ from. tt)))
 
 deliver : (d : List ℕ) (becomes : Result Fate ScriptWhat) → Plain becomes → Plain (deliver_of d becomes)
 unfolding deliver_of
@@ -207,6 +218,12 @@ spelt_plain c verbs.Ask [] = count
 spelt_plain c verbs.Ask (a ∷ []) = count
 spelt_plain c verbs.Ask (s ∷ a ∷ []) = then _ _ (server c s) (λ server. then _ _ (address a) (λ addr. tt))
 spelt_plain c verbs.Ask (a ∷ b ∷ d ∷ ws) = count
+spelt_plain c verbs.Request [] = count
+spelt_plain c verbs.Request (a ∷ []) = count
+spelt_plain c verbs.Request (s ∷ p ∷ []) = request c s p (Ok None) tt
+spelt_plain c verbs.Request (a ∷ b ∷ d ∷ []) = count
+spelt_plain c verbs.Request (s ∷ p ∷ w ∷ a ∷ []) = request c s p (source_in w a) (source w a)
+spelt_plain c verbs.Request (a ∷ b ∷ d ∷ e ∷ f ∷ ws) = count
 spelt_plain c verbs.Due [] = count
 spelt_plain c verbs.Due (n ∷ []) = then _ _ (node c n) (λ node. tt)
 spelt_plain c verbs.Due (a ∷ b ∷ ws) = count

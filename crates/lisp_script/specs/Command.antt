@@ -11,4 +11,5 @@ command_value (commands.Act event) = commands.Act (event_value event)
 command_value (commands.Hold server) = commands.Hold server
 command_value (commands.Acks router) = commands.Acks router
 command_value (commands.Ask server addr) = commands.Ask server addr
+command_value (commands.Request server asked from) = commands.Request server asked from
 command_value (commands.Due node) = commands.Due node

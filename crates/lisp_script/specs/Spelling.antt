@@ -5,25 +5,27 @@ use Rattle.std.specs.List.{find}
 use Rattle.std.specs.Option.{option_map, option_to_list, ok_or}
 use Rattle.std.specs.Str.Lines.{lines}
 use Rattle.lisp_records.specs.Result.{◌>>=◌}
+use Rattle.lisp_records.specs.declared.address.Addr.{Addr}
 use Rattle.lisp_nonces.specs.declared.fate.Fate.{Fate}
 use Rattle.lisp_nonces.specs.declared.fate.Fate.TheVariants.{Done}
 use Rattle.lisp_policy.specs.Configuration.{ConfigValue}
 use Rattle.lisp_model.specs.declared.event.Event.TheVariants as events
-use Rattle.lisp_script.specs.declared.command.Command.TheVariants.{Act, Hold, Acks, Ask, Due}
+use Rattle.lisp_script.specs.declared.command.Command.TheVariants.{Act, Hold, Acks, Ask, Request, Due}
 use Rattle.lisp_script.specs.declared.verb.Verb.{Verb}
 use Rattle.lisp_script.specs.declared.verb.Verb.TheVariants as verbs
 use Rattle.lisp_script.specs.declared.fault.ScriptWhat.{ScriptWhat}
 use Rattle.lisp_script.specs.declared.fault.ScriptWhat.TheVariants as whats
 use Rattle.lisp_script.specs.declared.fault.ScriptFault.{ScriptFault}
 use Rattle.lisp_script.specs.Command.{CommandValue}
-use Rattle.lisp_script.specs.Words.{words_of, is_word, node_of, server_of, router_of, number_in, key_in, address_in, bytes_in, doubt_in, load_fails_in, fate_in, database_in}
+use Rattle.lisp_script.specs.Words.{words_of, is_word, node_of, server_of, router_of, number_in, key_in, address_in, prefix_in, bytes_in, doubt_in, load_fails_in, fate_in, database_in}
 
 -- the first words
 abbrev pub first_words : List (List ℕ × Verb)
 first_words =
     (codes "change", verbs.Change) ∷ (codes "send", verbs.Send) ∷ (codes "deliver", verbs.Deliver) ∷ (codes "junk", verbs.Junk)
     ∷ (codes "tick", verbs.Tick) ∷ (codes "restart", verbs.Restart) ∷ (codes "rotate", verbs.Rotate) ∷ (codes "lose", verbs.Lose)
-    ∷ (codes "notice", verbs.Notice) ∷ (codes "resend", verbs.Resend) ∷ (codes "hold", verbs.Hold) ∷ (codes "acks", verbs.Acks) ∷ (codes "ask", verbs.Ask) ∷ (codes "due", verbs.Due) ∷ []
+    ∷ (codes "notice", verbs.Notice) ∷ (codes "resend", verbs.Resend) ∷ (codes "hold", verbs.Hold) ∷ (codes "acks", verbs.Acks) ∷ (codes "ask", verbs.Ask)
+    ∷ (codes "request", verbs.Request) ∷ (codes "due", verbs.Due) ∷ []
 
 abbrev pub verb_of : List ℕ → Result Verb ScriptWhat
 verb_of word = ok_or (option_map (λ p. p.1) (find (λ p. is_word p.0 word) first_words)) whats.Word
@@ -106,6 +108,24 @@ lose_with c r k records = do
   db ← database_in records
   Ok (Act (events.Lose router key (Some db)))
 
+-- an address is named
+abbrev pub some_source : Result Addr ScriptWhat → Result (Option Addr) ScriptWhat
+some_source read = do
+  addr ← read
+  Ok (Some addr)
+
+-- from A
+abbrev pub source_in : List ℕ → List ℕ → Result (Option Addr) ScriptWhat
+source_in word a = if is_word (codes "from") word then some_source (address_in a) else Err whats.Word
+
+-- request S P, and from which address, from none where none is named
+unfoldable pub request_of : ConfigValue → List ℕ → List ℕ → Result (Option Addr) ScriptWhat → Result CommandValue ScriptWhat
+request_of c s p source = do
+  server ← server_of c s
+  asked ← prefix_in p
+  from ← source
+  Ok (Request server asked from)
+
 -- a line of the table for each form of a command: what its words stand for
 unfoldable pub spelt : ConfigValue → Verb → List (List ℕ) → Result CommandValue ScriptWhat
 spelt c verbs.Change (r ∷ first ∷ more) = change_of c r (first ∷ more)
@@ -145,6 +165,8 @@ spelt c verbs.Ask (s ∷ a ∷ []) = do
   server ← server_of c s
   addr ← address_in a
   Ok (Ask server addr)
+spelt c verbs.Request (s ∷ p ∷ []) = request_of c s p (Ok None)
+spelt c verbs.Request (s ∷ p ∷ from ∷ a ∷ []) = request_of c s p (source_in from a)
 spelt c verbs.Due (n ∷ []) = do
   node ← node_of c n
   Ok (Due node)

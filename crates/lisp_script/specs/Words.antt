@@ -6,13 +6,14 @@ use Rattle.std.specs.Option.{option_map, ok_or}
 use denote.Ref.{Bor}
 use Rattle.hex.specs.Hex.{decode_of}
 use Rattle.lisp_records.specs.declared.address.Addr.{Addr}
+use Rattle.lisp_records.specs.Address.{PrefixValue}
 use Rattle.lisp_records.specs.Record.{MapRecordValue}
 use Rattle.lisp_records.specs.Database.{database_of}
 use Rattle.lisp_records.specs.Result.{◌>>=◌}
 use Rattle.lisp_nonces.specs.declared.fate.Fate.{Fate}
 use Rattle.lisp_nonces.specs.declared.fate.Fate.TheVariants.{Doubt, LoadFails}
 use Rattle.lisp_texts.specs.Number.{number_of}
-use Rattle.lisp_texts.specs.Reading.{address_of, record_text_of}
+use Rattle.lisp_texts.specs.Reading.{address_of, prefix_of, record_text_of}
 use Rattle.lisp_policy.specs.Configuration.{ConfigValue, names}
 use Rattle.lisp_script.specs.declared.fault.ScriptWhat.{ScriptWhat}
 use Rattle.lisp_script.specs.declared.fault.ScriptWhat.TheVariants.{Word, Name, Number, Record, Hex}
@@ -55,6 +56,10 @@ key_in word = do
 -- an address
 abbrev pub address_in : List ℕ → Result Addr ScriptWhat
 address_in word = ok_or (address_of word) Record
+
+-- an EID-Prefix
+abbrev pub prefix_in : List ℕ → Result PrefixValue ScriptWhat
+prefix_in word = ok_or (prefix_of word) Record
 
 -- bytes in hexadecimal digits, or '-' for none
 abbrev pub or_fault : {X E : Type 0} → ScriptWhat → Result X E → Result X ScriptWhat

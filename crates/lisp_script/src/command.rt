@@ -1,7 +1,7 @@
 //! The commands of a script.
 
 use lisp_model::Event;
-use lisp_records::Addr;
+use lisp_records::{Addr, Prefix};
 use std::alloc::{Allocator, Global};
 
 /// A command: an event, or what is asked of a node. Nodes are named by their numbers: Map-Servers, then routers, in the
@@ -20,6 +20,15 @@ pub enum Command<A: Allocator = Global> {
         server: usize,
         /// The address.
         addr: Addr,
+    },
+    /// What a Map-Server would send for an EID-Prefix that a Map-Request asks for.
+    Request {
+        /// The Map-Server.
+        server: usize,
+        /// The EID-Prefix.
+        asked: Prefix,
+        /// The ITR-RLOC to which a Map-Reply would go, where one is named.
+        from: Option<Addr>,
     },
     /// Which Map-Server is due to a router, or to which router a notice of a Map-Server is.
     Due(usize),

@@ -23,8 +23,8 @@ pub enum ScriptWhat {
     /// A word that is no decimal number of 1 to 20 digits, of at most 2^64 - 1; or of at most 255, for a Key ID.
     #[error("a decimal number is meant, of at most 255 for a Key ID")]
     Number,
-    /// Words that are no records of a database, or no address.
-    #[error("records of different prefixes, the word empty, or an address are meant")]
+    /// Words that are no records of a database, no EID-Prefix, or no address.
+    #[error("records of different prefixes, the word empty, a prefix, or an address are meant")]
     Record,
     /// A word that is neither hexadecimal nor `-`.
     #[error("hexadecimal digits, or - for no bytes, are meant")]

@@ -4,7 +4,7 @@ ghost use Rattle.std.specs.Prelude.{◌≡◌, [], ◌∷◌};
 ghost use Rattle.lisp_records.specs.Result.{Reads};
 ghost use Rattle.lisp_script.specs.Command.{command_value};
 ghost use Rattle.lisp_script.specs.Words.{texts};
-ghost use Rattle.lisp_script.specs.Spelling.{change_of, part_in, send_of, deliver_of, restart_of, rotate_of, lose_of, notice_of, given_to, spelt, command_of};
+ghost use Rattle.lisp_script.specs.Spelling.{change_of, part_in, send_of, source_in, request_of, deliver_of, restart_of, rotate_of, lose_of, notice_of, given_to, spelt, command_of};
 ghost use Rattle.lisp_script.specs.Answers.{GivesCommand, GivesRestart, GivesLose, Spells, SpellsPlainly};
 ghost use Rattle.lisp_script.specs.declared.verb.Verb.TheVariants as verbs;
 
@@ -12,11 +12,12 @@ use crate::command::Command;
 use crate::fault::ScriptWhat;
 use crate::verb::Verb;
 use crate::words::{
-    address, bytes, database, doubt, fate, key, load_fails, node, number, router, server,
+    address, bytes, database, doubt, fate, key, load_fails, node, number, prefix, router, server,
 };
 use lisp_memory::Memory;
 use lisp_model::Event;
 use lisp_nonces::Fate;
+use lisp_records::Addr;
 use lisp_sites::Config;
 use std::alloc::Allocator;
 
@@ -102,6 +103,7 @@ fn with_two<A: Allocator, E: Allocator>(
             let addr = address(second)?;
             Ok(Command::Ask { server, addr })
         }
+        Verb::Request => requested(config, first, second, Ok(None)),
         _ => Err(ScriptWhat::Count),
     }
 }
@@ -147,6 +149,7 @@ fn with_four<A: Allocator, E: Allocator>(
 {
     match verb {
         Verb::Send => sent(config, first, second, part(third, fourth), Ok(Fate::Done)),
+        Verb::Request => requested(config, first, second, source(third, fourth)),
         _ => Err(ScriptWhat::Count),
     }
 }
@@ -262,6 +265,37 @@ fn sent<A: Allocator, E: Allocator>(
         part,
         fate,
     }))
+}
+
+// from A
+fn source(word: &str, from: &str) -> Result<Option<Addr>, ScriptWhat>
+    ensures { result ≡ source_in word.now from.now }
+{
+    if word == "from" {
+        Ok(Some(address(from)?))
+    } else {
+        Err(ScriptWhat::Word)
+    }
+}
+
+// request S P, and from which address
+#[tactic(auto, unfolding(crate::specs::Spelling::request_of))]
+fn requested<A: Allocator, E: Allocator>(
+    config: &Config<E>,
+    name: &str,
+    asked: &str,
+    source: Result<Option<Addr>, ScriptWhat>,
+) -> Result<Command<A>, ScriptWhat>
+    ensures { Reads command_value result (request_of config.now name.now asked.now source) }
+{
+    let server = server(config, name)?;
+    let asked = prefix(asked)?;
+    let from = source?;
+    Ok(Command::Request {
+        server,
+        asked,
+        from,
+    })
 }
 
 // deliver D, and what becomes of a load or a save

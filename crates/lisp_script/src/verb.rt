@@ -22,6 +22,7 @@ pub(crate) enum Verb {
     Hold,
     Acks,
     Ask,
+    Request,
     Due,
 }
 
@@ -44,6 +45,7 @@ impl Verb {
             "hold" => Ok(Verb::Hold),
             "acks" => Ok(Verb::Acks),
             "ask" => Ok(Verb::Ask),
+            "request" => Ok(Verb::Request),
             "due" => Ok(Verb::Due),
             _ => Err(ScriptWhat::Word),
         }

@@ -2,15 +2,15 @@
 
 ghost use Rattle.std.specs.Prelude.{◌≡◌, ◌≢◌, [], IfOk, OnErr};
 ghost use Rattle.lisp_script.specs.Fault.{Gives};
-ghost use Rattle.lisp_script.specs.Words.{texts, words_of, node_of, server_of, router_of, number_in, key_in, address_in, bytes_in, doubt_in, load_fails_in, fate_in, records_in, some_records, database_in};
+ghost use Rattle.lisp_script.specs.Words.{texts, words_of, node_of, server_of, router_of, number_in, key_in, address_in, prefix_in, bytes_in, doubt_in, load_fails_in, fate_in, records_in, some_records, database_in};
 ghost use Rattle.lisp_script.specs.declared.fault.ScriptWhat.TheVariants.{Memory};
 
 use crate::fault::ScriptWhat;
 use lisp_memory::{FallibleCopies, FallibleVec, Memory};
 use lisp_nonces::Fate;
-use lisp_records::{Addr, Bytes, Database, MapRecord};
+use lisp_records::{Addr, Bytes, Database, MapRecord, Prefix};
 use lisp_sites::Config;
-use lisp_texts::{addr_from_text, number_from_text, record_from_text};
+use lisp_texts::{addr_from_text, number_from_text, prefix_from_text, record_from_text};
 use std::alloc::{AllocError, Allocator};
 
 /// The words of a line, which spaces separate.
@@ -76,6 +76,13 @@ pub(crate) fn address(word: &str) -> Result<Addr, ScriptWhat>
     ensures { result ≡ address_in word.now }
 {
     addr_from_text(word).ok_or(ScriptWhat::Record)
+}
+
+/// An EID-Prefix.
+pub(crate) fn prefix(word: &str) -> Result<Prefix, ScriptWhat>
+    ensures { result ≡ prefix_in word.now }
+{
+    prefix_from_text(word).ok_or(ScriptWhat::Record)
 }
 
 /// The bytes that hexadecimal digits stand for; none for `-`.

@@ -5,7 +5,7 @@ use Rattle.lisp_script.proofs.verb.Verb.from_word.Goals as goal
 pub returns-in_default : goal.returns-in_default
 returns-in_default c =
     let other = c.in_default in
-    sym (unknown c.args.word.now other.not-change other.not-send other.not-deliver other.not-junk other.not-tick other.not-restart other.not-rotate other.not-lose other.not-notice other.not-resend other.not-hold other.not-acks other.not-ask other.not-due)
+    sym (unknown c.args.word.now other.not-change other.not-send other.not-deliver other.not-junk other.not-tick other.not-restart other.not-rotate other.not-lose other.not-notice other.not-resend other.not-hold other.not-acks other.not-ask other.not-request other.not-due)
 
 pub returns-in-change : goal.returns-in-change
 returns-in-change c = rw c.in-change.is refl
@@ -45,6 +45,9 @@ returns-in-acks c = rw c.in-acks.is refl
 
 pub returns-in-ask : goal.returns-in-ask
 returns-in-ask c = rw c.in-ask.is refl
+
+pub returns-in-request : goal.returns-in-request
+returns-in-request c = rw c.in-request.is refl
 
 pub returns-in-due : goal.returns-in-due
 returns-in-due c = rw c.in-due.is refl
