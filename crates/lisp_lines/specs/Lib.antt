@@ -6,6 +6,7 @@ pub mod Parts
 pub mod Query
 pub mod Writing
 pub mod Records
+pub mod Reply
 pub mod Output
 pub mod Server
 pub mod Router

@@ -2,6 +2,7 @@
 
 ghost use Rattle.lisp_lines.specs.Front.{Adds, GivesText};
 ghost use Rattle.lisp_lines.specs.Records.{records_head, record_line, records_text};
+ghost use Rattle.std.specs.List.{flat_map};
 ghost use Rattle.std.specs.Prelude.{OnErr};
 
 use crate::name::node_name;
@@ -22,9 +23,7 @@ pub fn records_text<A: Memory + Copy, E: Allocator, F: Allocator>(
     ensures memory { OnErr result A.may_refuse }
 {
     let mut text = records_head(alloc, node_name(config, router), records.len())?;
-    for entry in records {
-        put_entry(alloc, &mut text, entry)?;
-    }
+    put_entries(alloc, &mut text, records)?;
     Ok(text)
 }
 
@@ -34,6 +33,21 @@ fn records_head<A: Memory>(alloc: A, router: &str, records: usize) -> Result<Str
     ensures memory { OnErr result A.may_refuse }
 {
     String::try_format(alloc, format_args!("records {router} {records}\n"))
+}
+
+/// Appends a line for each of some records. Out of memory, it may leave a part of them.
+pub(crate) fn put_entries<A: Memory + Copy, F: Allocator>(
+    alloc: A,
+    text: &mut String<A>,
+    records: &[MapRecord<F>],
+) -> Result<(), AllocError>
+    ensures text { Adds result text.old text.new (flat_map record_line records.now) }
+    ensures memory { OnErr result A.may_refuse }
+{
+    for entry in records {
+        put_entry(alloc, text, entry)?;
+    }
+    Ok(())
 }
 
 // Appends the line of a record. Out of memory, it may leave a part of it.
