@@ -47,6 +47,7 @@ question_of c number (commands.Hold server) = asked_of number server (Server of_
 question_of c number (commands.Ask server addr) = asked_of number server (Server (of_server.Ask addr))
 question_of c number (commands.Acks router) = asked_of number router (Router of_router.Acks)
 question_of c number (commands.Due node) = asked_of number node (due_at c number)
+question_of c number (commands.Request server asked from) = Err whats.Word
 question_of c number (commands.Act event) = told (order_of number event)
 
 -- a line of a script: the name of a node behind its first word, with spaces (32) between them
