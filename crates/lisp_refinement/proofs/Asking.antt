@@ -37,11 +37,11 @@ use Rattle.lisp_refinement.proofs.PartLists.{list_by_parts, first_by_parts, firs
 -- a Map-Server that stands for a trace
 module _ (o : Opening) (T : List Step) (k : ℕ) (n : ServerNodeState) (part : StandsForServer o T k n) where
   -- all that it holds, by the trace
-  abbrev all_held : List RowValue
+  abbrev pub all_held : List RowValue
   all_held = rows (since_start o T k) (clock T)
 
   -- that lists its live rows
-  lists_held : IsHeld n.core.rows (clock T) all_held
+  pub lists_held : IsHeld n.core.rows (clock T) all_held
   unfolding row_at
   lists_held = held_alike (accepted_rows (since_start o T k)) n.core.rows (clock T) (λ router eid. sym (part.rows router eid)) all_held (rows_are_held (since_start o T k) (clock T))
 

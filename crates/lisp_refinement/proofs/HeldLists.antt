@@ -21,6 +21,7 @@ use Rattle.lisp_lookup.specs.Answer.{may_answer, IsBest, NoneAnswers, Answers}
 use Rattle.lisp_lookup.specs.Table.{is_row_of, row_key, row_at, row_cmp, if_alive, OneEach, IsHeld}
 use Rattle.lisp_lookup.proofs.Orders.{key_total}
 use Rattle.lisp_lookup.proofs.TableLaws.{found_own, found_holds}
+use Rattle.lisp_replies.specs.Kept.{SameLive}
 use Rattle.lisp_model.proofs.ListLemmas.{at_head, in_tail, head_or_tail, in_none}
 use Rattle.lisp_refinement.proofs.Gets.{none_is_some, same_some}
 
@@ -147,3 +148,11 @@ module _ (table listed : List RowValue) (now : ℕ) (one : OneEach table) (is : 
   answers_listed sites (Forward to) answers = (answers.0, best_listed answers.0 answers.1, answers.2, answers.3)
   answers_listed sites NotRegistered answers = (none_listed answers.0, answers.1)
   answers_listed sites NoSite answers = (none_listed answers.0, answers.1)
+
+-- the list has the rows that are alive, and no others
+pub same_live : (table listed : List RowValue) (now : ℕ) → OneEach table → IsHeld table now listed → SameLive table listed now
+unfolding row_at
+same_live table listed now one is h alive = (
+  λ has. (is.each h).1 (found_own table h one has, (Decides-ltb (now - h.accepted) h.life).0 alive),
+  λ has. (found_holds (is_row_of h.router h.mapping.eid) table h ((is.each h).0 has).0).0,
+)

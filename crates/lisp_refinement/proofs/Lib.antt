@@ -33,3 +33,4 @@ pub mod Taking
 pub mod HeldLists
 pub mod Asking
 pub mod Headlines
+pub mod Replying
