@@ -11,4 +11,3 @@ pub mod OwnWalkLaws
 pub mod OwnFitLaws
 pub mod OwnHoleLaws
 pub mod OwnKeptLaws
-pub mod Examples
