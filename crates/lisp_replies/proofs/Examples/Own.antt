@@ -1,7 +1,6 @@
 -- What a router sends over its database.
-use Rattle.std.proofs.Common.{List, [], ◌∷◌, Option, Some, None, inl, inr, arith, false, true, refl, sym, ap, ◌∙◌, subst, true≢false, ℕ, ◌≤◌, ◌≡◌}
+use Rattle.std.proofs.Common.{List, [], ◌∷◌, Some, None, inl, inr, arith, false, true, refl, sym, ap, ◌∙◌, subst, true≢false, ℕ, ◌≤◌, ◌≡◌}
 use Rattle.std.specs.List.{Contains}
-use Rattle.lisp_records.specs.declared.address.Addr.{Addr}
 use Rattle.lisp_records.specs.declared.locator.Locator.{Locator}
 use Rattle.lisp_records.specs.Address.{PrefixValue, covers, holds, masked, prefix_around, prefix_eq}
 use Rattle.lisp_records.specs.Parts.{fits_message}
@@ -9,8 +8,8 @@ use Rattle.lisp_records.specs.Record.{MapRecordValue}
 use Rattle.lisp_records.specs.Written.{written}
 use Rattle.lisp_lookup.specs.Replies.{IsLongest}
 use Rattle.lisp_lookup.proofs.Examples.Rows.{all_below, below, block, each, fails, ipv4, locator, no, registered}
-use Rattle.lisp_replies.specs.Own.{AreOwnRecords, IsFreeOf, IsLeastOwnTtl, IsLongestFor, IsOwnHole, IsOwnNarrowed, IsOwnReply, IsOwnUnanswered, NoneIsFor, OwnFitNot, OwnRepliesWith, own_inside, own_locator, own_record}
-use Rattle.lisp_replies.specs.OwnKept.{IsOwnAnswered, IsOwnKept, IsOwnKeptNone, OwnRepliesMayBeKept}
+use Rattle.lisp_replies.specs.Own.{AreOwnRecords, IsFreeOf, IsLeastOwnTtl, IsLongestFor, IsOwnHole, IsOwnNarrowed, IsOwnReply, IsOwnUnanswered, NoneIsFor, OwnFitNot, OwnRepliesWith, own_inside, own_record}
+use Rattle.lisp_replies.specs.OwnKept.{IsOwnAnswered, IsOwnKept, OwnRepliesMayBeKept}
 use Rattle.lisp_replies.specs.declared.reply.Reply.{Reply}
 use Rattle.lisp_replies.specs.declared.reply.Reply.TheVariants.{Records, Negative}
 
