@@ -7,8 +7,8 @@
 # make mutants  tries all wrong bodies, over what the gate kept; NAME=lisp_server those of one crate. mutants/MUTANTS.log has the last answers
 # make slips    prints the table of wrong definitions and plants them: an example of theirs has to refuse each; NAME=lisp_client those of one list
 # make docs     writes what is generated of the documents: docs/CONTRACTS.md, and tables of docs/ARCHITECTURE.md and docs/EMBEDDING.md
-# make fuzz     plays schedules that are drawn: COUNT of them from SEED on, over out/lispd; and reads as many drawn Map-Requests,
-#               Map-Replies and encapsulated messages
+# make fuzz     plays schedules that are drawn: COUNT of them from SEED on, over out/lispd; as many of which Map-Requests are made, whose
+#               replies an ITR keeps; and reads as many drawn Map-Requests, Map-Replies and encapsulated messages
 # make bench    measures the codec, the tag and registrations, also through the library for C programs; and of out/lispd saves on a disk, the
 #               reading of configurations, plays, and a server
 # make install  installs the program (out/lispd), its manual pages, completions, units and samples: PREFIX=/usr/local, DESTDIR=
@@ -60,6 +60,7 @@ SEED = 1
 COUNT = 10000
 fuzz: lispd
 	@tests/fuzz.py out/lispd $(SEED) $(COUNT)
+	@tests/replies.py out/lispd $(SEED) $(COUNT)
 	@mkdir -p out
 	@cd crates/lisp_fields && rt run < /dev/null > ../../out/fields.log 2>&1 || { cat ../../out/fields.log >&2; exit 1; }
 	@tests/requests.py crates/lisp_fields/out/lisp_fields $(SEED) $(COUNT)

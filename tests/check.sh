@@ -21,6 +21,7 @@ stage 'changed messages' ./changed.py "$program"
 stage 'beside a list of rows' ./rows.py "$program"
 stage 'calls that fail' ./failing.py "$program"
 stage 'drawn schedules' ./fuzz.py "$program" 1 200
+stage 'replies that are kept' ./replies.py "$program" 1 300
 stage 'messages by which others ask' ./requests.py ../crates/lisp_fields/out/lisp_fields 1 300
 stage pictures ./draw.py "$program"
 stage 'running nodes' ./running.py "$program"
