@@ -8,3 +8,4 @@ pub mod Entries
 pub mod Rows
 pub mod Counts
 pub mod Stores
+pub mod Looking

@@ -51,7 +51,7 @@ fn heard<A: Memory + Copy>(
 }
 
 // A network of the configuration, over stores in memory, after the events.
-fn run<A: Memory + Copy, E: Allocator, F: Allocator>(
+pub(crate) fn run<A: Memory + Copy, E: Allocator, F: Allocator>(
     alloc: A,
     config: &Config<E>,
     events: &[Event<F>],

@@ -3,8 +3,10 @@
 
 mod answers;
 mod client;
+mod look;
 mod question;
 
 pub use answers::Answers;
 pub use client::ask;
+pub use look::look;
 pub use question::Question;

@@ -3,3 +3,4 @@ pub mod NodeCalls
 pub mod RouterCalls
 pub mod ServerCalls
 pub mod ArrivalCalls
+pub mod Replying

@@ -13,3 +13,4 @@ pub mod Telling
 pub mod Noticing
 pub mod Sending
 pub mod Refusing
+pub mod Requesting
