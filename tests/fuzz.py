@@ -106,7 +106,7 @@ def command(network, draw, sent):
     server, router = draw.choice(network.servers), draw.choice(list(network.routers))
     fails = draw.choice(["", "", "", " doubt", " loadfails"])
     word = draw.choice(["send"] * 4 + ["deliver"] * 6 + ["tick"] * 2 + ["change", "junk", "restart", "restart", "rotate", "rotate", "lose", "notice",
-                                                                        "resend", "hold", "acks", "ask", "due"])
+                                                                        "resend", "hold", "acks", "ask", "request", "due"])
     number = draw.randint(0, sent) if draw.random() < 0.9 else draw.choice(NUMBERS)
     key = draw.choice(network.keys[router]) if draw.random() < 0.9 else draw.randint(0, 256)
     node = draw.choice([server, router])
@@ -127,6 +127,8 @@ def command(network, draw, sent):
         "hold": f"hold {server}",
         "acks": f"acks {router}",
         "ask": f"ask {server} 10.1.{draw.randint(0, 3)}.1",
+        "request": f"request {server} 10.1.{draw.randint(0, 3)}.{draw.choice([0, 1])}/{draw.choice([0, 8, 15, 16, 17, 24, 32])}"
+                   + draw.choice(["", " from 127.0.0.9"]),
         "due": f"due {node}",
     }[word]
 

@@ -46,7 +46,9 @@ fn sign<A: Allocator>(command: &Command<A>, line: Option<&Line>) -> Option<(usiz
         Command::Hold(node) | Command::Acks(node) | Command::Due(node) => {
             Some((*node, Sign::Asked))
         }
-        Command::Ask { server, .. } => Some((*server, Sign::Asked)),
+        Command::Ask { server, .. } | Command::Request { server, .. } => {
+            Some((*server, Sign::Asked))
+        }
     }
 }
 

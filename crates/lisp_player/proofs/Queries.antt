@@ -7,11 +7,13 @@ use Rattle.std.proofs.lemmas.Bool.{ltb-true, ltb-false, lt-ltb, le-ltb, cases_lt
 use Rattle.std.proofs.lemmas.Option.{slice_get_within, get_or_from_slice_get}
 use Rattle.lisp_records.specs.declared.address.Addr.{Addr}
 use Rattle.lisp_records.specs.declared.router.RouterId.{RouterId}
+use Rattle.lisp_records.specs.Address.{PrefixValue}
 use Rattle.lisp_records.specs.Row.{RowValue}
 use Rattle.lisp_policy.specs.Configuration.{ConfigValue, RouterEntryValue}
 use Rattle.lisp_lookup.specs.declared.answer.Answer.{Answer}
 use Rattle.lisp_lookup.specs.Answer.{Answers}
 use Rattle.lisp_lookup.specs.Table.{OneEach, IsHeld}
+use Rattle.lisp_replies.specs.declared.reply.Reply.{Reply}
 use Rattle.lisp_etr.specs.Etr.{EtrState}
 use Rattle.lisp_etr.specs.Rounds.{first_part}
 use Rattle.lisp_server.specs.Server.{ServerState}
@@ -22,12 +24,14 @@ use Rattle.lisp_refinement.specs.World.{WorldState, ServerNodeState, RouterNodeS
 use Rattle.lisp_refinement.specs.Nodes.{server_at, up_in, etr_at}
 use Rattle.lisp_refinement.specs.Stands.{StandsForCore, Stands}
 use Rattle.lisp_refinement.specs.Asked.{ServerTells, RouterTells}
+use Rattle.lisp_refinement.specs.Replied.{Replies, IsPromised}
 use Rattle.lisp_refinement.proofs.Gets.{none_is_some, same_some, get_within}
 use Rattle.lisp_refinement.proofs.Asking.{servers_tell, routers_tell}
 use Rattle.lisp_lines.specs.Query.{hold_text, ack_text, ask_text, due_text, due_server, due_router}
+use Rattle.lisp_lines.specs.Reply.{request_text}
 use Rattle.lisp_lines.specs.Router.{CountedFrom, due_of, due_in}
 use Rattle.lisp_sites.specs.Numbers.{router_at as entry_at}
-use Rattle.lisp_player.specs.Asked.{Where, Holds, Asks, Acknowledges, IsDue, IsDueAtRouter, OfTraces, acked_parts, is_router, of_router, down_text, fault_text, missing_text}
+use Rattle.lisp_player.specs.Asked.{Where, Holds, Asks, Requests, first_minute, Acknowledges, IsDue, IsDueAtRouter, OfTraces, acked_parts, is_router, of_router, down_text, fault_text, missing_text}
 use Rattle.lisp_model.specs.declared.world_fault.WorldFault.{WorldFault}
 use Rattle.lisp_model.specs.declared.world_fault.WorldFault.TheVariants.{NoNode, WrongKind}
 
@@ -183,6 +187,19 @@ ask_told A w c server core addr now answer text at moment one answers is =
 pub ask_missing : (A : Type 0) (w : WorldState) (c : ConfigValue) (server : ℕ) (addr : Addr) (text : List ℕ) → None ≡ server_at w server → text ≡ missing_text c server → OfTraces w c (λ o T. Asks A o T server addr text)
 ask_missing A w c server addr text at is =
     of_config w c (λ (c : ConfigValue). text ≡ missing_text c server) (λ o T. Asks A o T server addr text) is (λ o T stand said. where_false _ _ _ (server_missing w o T stand server at) said)
+
+-- what it would send for an EID-Prefix
+pub request_told : (A : Type 0) (w : WorldState) (c : ConfigValue) (server : ℕ) (asked : PrefixValue) (from : Option Addr) (reply : Reply A) (text : List ℕ)
+    → Replies w server asked first_minute reply → IsPromised w server asked first_minute reply → text ≡ request_text c server asked from reply → OfTraces w c (λ o T. Requests A o T server asked from text)
+request_told A w c server asked from reply text replies promised is =
+    of_config w c (λ (c : ConfigValue). text ≡ request_text c server asked from reply) (λ o T. Requests A o T server asked from text) is (λ o T stand said.
+    let at : Some replies.node.core ≡ server_at w server = sym (ap (option_map (λ (n : ServerNodeState). n.core)) replies.running) in
+    let tells = server_told w o T stand A server replies.node.core at in
+    where_true _ _ _ tells.0 (reply, (promised o T stand).is, said))
+
+pub request_missing : (A : Type 0) (w : WorldState) (c : ConfigValue) (server : ℕ) (asked : PrefixValue) (from : Option Addr) (text : List ℕ) → None ≡ server_at w server → text ≡ missing_text c server → OfTraces w c (λ o T. Requests A o T server asked from text)
+request_missing A w c server asked from text at is =
+    of_config w c (λ (c : ConfigValue). text ≡ missing_text c server) (λ o T. Requests A o T server asked from text) is (λ o T stand said. where_false _ _ _ (server_missing w o T stand server at) said)
 
 -- to which router a notice is due
 pub due_told : (w : WorldState) (c : ConfigValue) (node : ℕ) (core : ServerState) (now : ℕ) (router : Option RouterId) (text : List ℕ)

@@ -2,6 +2,7 @@
 use Rattle.std.proofs.Common.{◌≡◌, ℕ, List, ◌∷◌, Option, Some, None, Result, Ok, Err, refl, sym, ap, subst, ◌∙◌, inl, inr}
 use Rattle.std.specs.Prelude.{OnOk, OnErr}
 use Rattle.lisp_records.specs.declared.address.Addr.{Addr}
+use Rattle.lisp_records.specs.Address.{PrefixValue}
 use Rattle.lisp_policy.specs.Configuration.{ConfigValue}
 use Rattle.lisp_model.specs.Trace.{EventValue, Step, Opening, fate_of}
 use Rattle.lisp_model.specs.Memory.{MayTell}
@@ -14,10 +15,10 @@ use Rattle.lisp_model.specs.declared.world_fault.WorldFault.{WorldFault}
 use Rattle.lisp_model.specs.declared.world_fault.WorldFault.TheVariants.{OutOfMemory}
 use Rattle.lisp_lines.specs.declared.datagram_place.DatagramPlace.TheVariants.{Shown}
 use Rattle.lisp_lines.specs.Line.{line_text}
-use Rattle.lisp_script.specs.declared.command.Command.TheVariants.{Act, Hold, Acks, Ask, Due}
+use Rattle.lisp_script.specs.declared.command.Command.TheVariants.{Act, Hold, Acks, Ask, Request, Due}
 use Rattle.lisp_script.specs.declared.command.Command.{Command}
 use Rattle.lisp_script.specs.Command.{CommandValue, command_value}
-use Rattle.lisp_player.specs.Asked.{OfTraces, Holds, Asks, Acknowledges, IsDue, fault_text}
+use Rattle.lisp_player.specs.Asked.{OfTraces, Holds, Asks, Requests, Acknowledges, IsDue, fault_text}
 use Rattle.lisp_player.specs.Playing.{IsFaultOf, Tells, Moves, CommandLeads, Loses}
 use Rattle.lisp_player.specs.Outcomes.{IsLine}
 use Rattle.lisp_player.proofs.Failures.{none_failed}
@@ -84,6 +85,9 @@ module _ (A N S : Type 0) (old new : WorldState) (c : ConfigValue) (text : List 
 
   pub ask_turns : (server : ℕ) (addr : Addr) → OfTraces old c (λ o T. Asks A o T server addr text) → Told A N S old new c (Ask server addr) text None
   ask_turns server addr told = stays old new c _ same (λ o T stand config. ((told o T stand config, refl), refl))
+
+  pub request_turns : (server : ℕ) (asked : PrefixValue) (from : Option Addr) → OfTraces old c (λ o T. Requests A o T server asked from text) → Told A N S old new c (Request server asked from) text None
+  request_turns server asked from told = stays old new c _ same (λ o T stand config. ((told o T stand config, refl), refl))
 
   pub due_turns : (node : ℕ) → OfTraces old c (λ o T. IsDue o T node text) → Told A N S old new c (Due node) text None
   due_turns node told = stays old new c _ same (λ o T stand config. ((told o T stand config, refl), refl))

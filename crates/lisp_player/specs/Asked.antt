@@ -4,7 +4,9 @@ use Rattle.std.specs.Fmt.{decimal}
 use Rattle.std.specs.List.{flat_map}
 use Rattle.lisp_records.specs.declared.address.Addr.{Addr}
 use Rattle.lisp_records.specs.declared.router.RouterId.{RouterId}
+use Rattle.lisp_records.specs.Address.{PrefixValue}
 use Rattle.lisp_lookup.specs.declared.answer.Answer.{Answer}
+use Rattle.lisp_replies.specs.declared.reply.Reply.{Reply}
 use Rattle.lisp_policy.specs.Configuration.{ConfigValue, RouterEntryValue}
 use Rattle.lisp_model.specs.declared.line.Line.TheVariants as lines
 use Rattle.lisp_model.specs.Trace.{Step, Opening, router_at, clock, is_up}
@@ -14,6 +16,7 @@ use Rattle.lisp_model.specs.Counted.{acked}
 use Rattle.lisp_model.specs.Numbers.{part_numbers}
 use Rattle.lisp_model.specs.Timers.{due_part}
 use Rattle.lisp_model.specs.Answer.{IsAnswer}
+use Rattle.lisp_model.specs.Reply.{IsReplyOf}
 use Rattle.lisp_etr.specs.Rounds.{first_part}
 use Rattle.lisp_refinement.specs.World.{WorldState}
 use Rattle.lisp_refinement.specs.Stands.{Stands}
@@ -24,6 +27,7 @@ use Rattle.lisp_model.specs.Faults.{world_fault_number}
 use Rattle.lisp_lines.specs.declared.datagram_place.DatagramPlace.TheVariants.{Shown}
 use Rattle.lisp_lines.specs.Line.{line_text}
 use Rattle.lisp_lines.specs.Query.{hold_text, ack_text, ask_text, due_text, due_server, due_router}
+use Rattle.lisp_lines.specs.Reply.{request_text}
 use Rattle.lisp_lines.specs.Router.{due_of}
 
 -- a fault of the network
@@ -55,6 +59,13 @@ Holds o T server text = AsServer o.config server text (text ≡ hold_text o.conf
 -- who answers for an address there
 abbrev pub Asks : Type 0 → Opening → List Step → ℕ → Addr → List ℕ → Type 0
 Asks A o T server addr text = AsServer o.config server text ((answer : Answer A) × IsAnswer o T server addr answer × (text ≡ ask_text o.config server addr answer))
+
+-- what it would send to an ITR for an EID-Prefix: in the first minute of its life, in ms, as one whose rows haven't come back yet (RFC 9301 section 8.3)
+abbrev pub first_minute : ℕ
+first_minute = 60000
+
+abbrev pub Requests : Type 0 → Opening → List Step → ℕ → PrefixValue → Option Addr → List ℕ → Type 0
+Requests A o T server asked from text = AsServer o.config server text ((reply : Reply A) × IsReplyOf o T server asked first_minute reply × (text ≡ request_text o.config server asked from reply))
 
 -- what a router counted last of each part from each of its Map-Servers
 abbrev pub acked_parts : List Step → ℕ → ℕ → List (Option (ℕ × ℕ))

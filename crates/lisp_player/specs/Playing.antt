@@ -14,12 +14,12 @@ use Rattle.lisp_model.specs.declared.world_fault.WorldFault.TheVariants.{OutOfMe
 use Rattle.lisp_lines.specs.declared.datagram_place.DatagramPlace.TheVariants.{Shown}
 use Rattle.lisp_lines.specs.Line.{line_text}
 use Rattle.lisp_lines.specs.Output.{WroteFront}
-use Rattle.lisp_script.specs.declared.command.Command.TheVariants.{Act, Hold, Acks, Ask, Due}
+use Rattle.lisp_script.specs.declared.command.Command.TheVariants.{Act, Hold, Acks, Ask, Request, Due}
 use Rattle.lisp_script.specs.declared.command.Command.{Command}
 use Rattle.lisp_script.specs.Command.{CommandValue, command_value}
 use Rattle.lisp_policy.specs.Configuration.{ConfigValue}
 use Rattle.lisp_player.specs.declared.outcome.Outcome.{Outcome}
-use Rattle.lisp_player.specs.Asked.{OfTraces, fault_text, Holds, Asks, Acknowledges, IsDue}
+use Rattle.lisp_player.specs.Asked.{OfTraces, fault_text, Holds, Asks, Requests, Acknowledges, IsDue}
 
 -- In what follows A is where answers lie; `nodes` says that memory may be refused to the nodes, `stores` that it may be
 -- to their stores.
@@ -51,6 +51,7 @@ Tells A nodes stores o T (Act event) text after = EventIsTaken nodes stores o T 
 Tells A nodes stores o T (Hold server) text after = Holds o T server text × (after ≡ T)
 Tells A nodes stores o T (Acks router) text after = Acknowledges o T router text × (after ≡ T)
 Tells A nodes stores o T (Ask server addr) text after = Asks A o T server addr text × (after ≡ T)
+Tells A nodes stores o T (Request server asked from) text after = Requests A o T server asked from text × (after ≡ T)
 Tells A nodes stores o T (Due node) text after = IsDue o T node text × (after ≡ T)
 
 -- and of commands, one after the other

@@ -2,15 +2,17 @@
 
 ghost use Rattle.std.specs.Prelude.{◌≡◌, IfOk, OnErr};
 ghost use Rattle.std.specs.String.{string_bytes};
-ghost use Rattle.lisp_player.specs.Asked.{Acknowledges, Asks, Holds, IsDue, IsDueAtRouter, SaysOfTraces, fault_text, missing_text};
+ghost use Rattle.lisp_player.specs.Asked.{Acknowledges, Asks, Holds, IsDue, IsDueAtRouter, Requests, SaysOfTraces, fault_text, missing_text};
 
 use lisp_lines::{
-    DatagramPlace, RouterQuestion, ServerQuestion, line_text, router_answer, server_answer,
+    DatagramPlace, RouterQuestion, ServerQuestion, line_text, request_text, router_answer,
+    server_answer,
 };
 use lisp_memory::{FallibleString, Memory};
 use lisp_model::Line;
 use lisp_nonces::WorldStore;
-use lisp_records::Addr;
+use lisp_records::{Addr, Prefix};
+use lisp_replies::QUIET;
 use lisp_sites::Config;
 use lisp_world::{World, WorldFault};
 use std::alloc::{AllocError, Allocator};
@@ -60,6 +62,26 @@ pub(crate) fn ask_line<S: WorldStore, A: Memory + Copy, E: Allocator>(
         ServerQuestion::Ask(*addr),
         world.clock(),
     )
+}
+
+/// What a Map-Server would send for an EID-Prefix that a Map-Request asks for, to an ITR with this ITR-RLOC, where one is named.
+pub(crate) fn request_lines<S: WorldStore, A: Memory + Copy, E: Allocator>(
+    alloc: A,
+    world: &World<S, A>,
+    config: &Config<E>,
+    server: usize,
+    asked: &Prefix,
+    from: Option<Addr>,
+) -> Result<String<A>, AllocError>
+    ensures told { SaysOfTraces result world.now config.now
+        (λ o T. Requests A o T server asked.now from) }
+    ensures memory { OnErr result A.may_refuse }
+{
+    let Some(reply) = world.request(server, asked, QUIET) else {
+        return missing_line(alloc, config, server);
+    };
+    let reply = reply?;
+    request_text(alloc, config, server, asked, from, &reply)
 }
 
 /// What a router counted last of each part from each of its Map-Servers.

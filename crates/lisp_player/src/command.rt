@@ -5,7 +5,7 @@ ghost use Rattle.lisp_script.specs.declared.command.Command.TheVariants.{Act};
 ghost use Rattle.lisp_player.specs.Outcomes.{Leads, ListsKept, TellsLine};
 ghost use Rattle.lisp_player.specs.Playing.{LosesText};
 
-use crate::asked::{ack_lines, ask_line, due_line, fault_line, hold_lines};
+use crate::asked::{ack_lines, ask_line, due_line, fault_line, hold_lines, request_lines};
 use crate::outcome::Outcome;
 use lisp_lines::{DatagramPlace, line_text};
 use lisp_memory::Memory;
@@ -44,6 +44,14 @@ pub(crate) fn command_outcome<S: WorldStore, A: Memory + Copy, E: Allocator, F: 
         }
         Command::Ask { server, addr } => {
             let text = ask_line(alloc, world, config, *server, addr)?;
+            Ok(outcome(alloc, None, text))
+        }
+        Command::Request {
+            server,
+            asked,
+            from,
+        } => {
+            let text = request_lines(alloc, world, config, *server, asked, *from)?;
             Ok(outcome(alloc, None, text))
         }
         Command::Due(node) => {

@@ -34,6 +34,8 @@ pub(crate) const PLAY_FORM: &str =
   resend SERVER ROUTER           and sends it again
   hold SERVER, acks ROUTER, ask SERVER ADDRESS, due NODE
                                  what the node holds, counted, answers, has to send
+  request SERVER PREFIX [from ADDRESS]
+                                 what the Map-Server would send for a Map-Request (of an ITR with that address)
 `send` and `notice` may end in `doubt`, `deliver` and `notice` in `doubt` or `loadfails`, `rotate` in `loadfails`: the node's
 store fails.
 

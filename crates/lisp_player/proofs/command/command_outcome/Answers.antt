@@ -2,7 +2,7 @@ use Rattle.std.proofs.Common.{None, refl, ap}
 use Rattle.std.specs.String.{string_bytes}
 use Rattle.std.proofs.lemmas.Result.{IfOk-weaker}
 use Rattle.lisp_script.specs.Command.{command_value}
-use Rattle.lisp_player.proofs.Taking.{as_order, lost_order, err_more, hold_turns, acks_turns, ask_turns, due_turns}
+use Rattle.lisp_player.proofs.Taking.{as_order, lost_order, err_more, hold_turns, acks_turns, ask_turns, request_turns, due_turns}
 use Rattle.lisp_player.proofs.command.command_outcome.Goals as goal
 
 pub returns-in-Act-clause-turns : goal.returns-in-Act-clause-turns
@@ -19,6 +19,9 @@ returns-in_ok-text-in-Acks-clause-turns g c = rw (c.outcome-in-Acks.ensures.text
 
 pub returns-in_ok-text-in-Ask-clause-turns : goal.returns-in_ok-text-in-Ask-clause-turns
 returns-in_ok-text-in-Ask-clause-turns g c = rw (c.outcome-in-Ask.ensures.text, c.outcome-in-Ask.ensures.line) (as_order g.row.A.Denot g.A.Memory.may_refuse g.S.NonceStore.may_refuse _ _ _ _ None _ _ (ap command_value c.in-Ask.is) (ask_turns g.row.A.Denot g.A.Memory.may_refuse g.S.NonceStore.may_refuse _ _ _ _ refl c.in-Ask.server c.in-Ask.addr c.in_ok-text-in-Ask.ensures.told))
+
+pub returns-in_ok-text-in-Request-clause-turns : goal.returns-in_ok-text-in-Request-clause-turns
+returns-in_ok-text-in-Request-clause-turns g c = rw (c.outcome-in-Request.ensures.text, c.outcome-in-Request.ensures.line) (as_order g.row.A.Denot g.A.Memory.may_refuse g.S.NonceStore.may_refuse _ _ _ _ None _ _ (ap command_value c.in-Request.is) (request_turns g.row.A.Denot g.A.Memory.may_refuse g.S.NonceStore.may_refuse _ _ _ _ refl c.in-Request.server c.in-Request.asked c.in-Request.from c.in_ok-text-in-Request.ensures.told))
 
 pub returns-in_ok-text-in-Due-clause-turns : goal.returns-in_ok-text-in-Due-clause-turns
 returns-in_ok-text-in-Due-clause-turns g c = rw (c.outcome-in-Due.ensures.text, c.outcome-in-Due.ensures.line) (as_order g.row.A.Denot g.A.Memory.may_refuse g.S.NonceStore.may_refuse _ _ _ _ None _ _ (ap command_value c.in-Due.is) (due_turns g.row.A.Denot g.A.Memory.may_refuse g.S.NonceStore.may_refuse _ _ _ _ refl c.in-Due.node c.in_ok-text-in-Due.ensures.told))
