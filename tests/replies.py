@@ -153,7 +153,9 @@ class Network:
     def database(self, name):
         """Records that the router's site may register, of different prefixes."""
         draw, site = self.draw, self.sites[self.routers[name].site]
-        eids = draw.sample(addresses_of(self.space), draw.randint(200, 256)) if self.is_full and site.get(self.space) and draw.random() < 0.6 else []
+        eids = []
+        if self.is_full and site.get(self.space) and draw.random() < 0.6:
+            eids = draw.sample(addresses_of(self.space), draw.choice([draw.randint(120, 256), 253, 254, 255, 256]))
         for _ in range(draw.randint(0, 20 if self.is_wide else 8)):
             outer = draw.choice(list(site))
             eids.append(self.inside(outer) if site[outer] and draw.random() < 0.85 else outer)
@@ -196,7 +198,7 @@ class Network:
         """A prefix to ask for: of one address mostly; of the space, of a site, or a wide one."""
         draw, kind = self.draw, self.draw.random()
         if kind < 0.55:
-            return self.inside(self.space).alone()
+            return draw.choice(addresses_of(self.space))
         if kind < 0.8:
             return self.inside(self.space)
         if kind < 0.92:
@@ -335,8 +337,7 @@ class SlowItr:
 
     def answers_in(self, eid):
         """The addresses of the space in a prefix, with their answers."""
-        bits = range(eid.value, eid.value + 2**(BITS[eid.version] - eid.length))
-        return [(it, self.moment.answers[address_text(*it[:2])]) for it in addresses_of(self.network.space) if it.version == eid.version and it.value in bits]
+        return [(it, self.moment.answers[address_text(*it[:2])]) for it in addresses_of(self.network.space) if eid.covers(it)]
 
     def wrong(self, asked, told):
         word, _, rest = told[0].partition(" ")
