@@ -2,8 +2,9 @@
 use Rattle.std.proofs.Common.{◌≡◌, ◌⊎◌, inl, inr, ℕ, ◌≤◌, ◌-◌, nat_le, nat_lt, if◌then◌else◌, Bool, true, false, cond, List, ◌∷◌, map, Option, Some, None, Result, Ok, Err, refl, sym, ap, subst, ◌∙◌, true≢false, arith}
 use Rattle.std.proofs.lemmas.Bool.{and_from, and_parts, leb-true, ltb-true}
 use Rattle.std.proofs.lemmas.Bool.Decides.{Decides-eqb, Decides-ltb}
-use Rattle.std.specs.Prelude.{◌==◌}
+use Rattle.std.specs.Prelude.{◌==◌, IfNone, IfOk, IfSome, OnErr}
 use Rattle.std.specs.List.{Contains}
+use Rattle.std.specs.Result.{result_ok}
 use Rattle.std.specs.declared.cmp.Ordering.{Ordering}
 use Rattle.std.specs.declared.cmp.Ordering.TheVariants.{Less, Equal, Greater}
 use Rattle.std.specs.Ordering.{nat_cmp, bool_cmp, ordering_then}
@@ -194,3 +195,12 @@ no_server c events w ran server none = record {
   ran = ran;
   missing = subst (λ (d : ConfigValue). is_server d server ≡ false) ran.config (server_missing w ran.opening ran.trace ran.stands server none);
 }
+
+-- what is so of a result is so of its value, and of its fault
+pub ok_some : {X F : Type 0} (r : Result X F) (o : Option X) (P Q : X → Type 0) → o ≡ result_ok r → ((x : X) → P x → Q x) → IfOk r P → IfSome o Q
+ok_some {X = X} (Ok x) o P Q is follows holds = subst (λ (o : Option X). IfSome o Q) (sym is) (follows x holds)
+ok_some {X = X} (Err fault) o P Q is follows holds = subst (λ (o : Option X). IfSome o Q) (sym is) tt
+
+pub err_none : {X F : Type 0} (r : Result X F) (o : Option X) (P Q : Type 0) → o ≡ result_ok r → (P → Q) → OnErr r P → IfNone o Q
+err_none {X = X} (Ok x) o P Q is follows holds = subst (λ (o : Option X). IfNone o Q) (sym is) tt
+err_none {X = X} (Err fault) o P Q is follows holds = subst (λ (o : Option X). IfNone o Q) (sym is) (follows holds)
