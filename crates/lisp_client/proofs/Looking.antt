@@ -1,5 +1,5 @@
 -- From the network's contract of what a Map-Server sends to the client's.
-use Rattle.std.proofs.Common.{◌≡◌, ◌⊎◌, inl, inr, ℕ, ◌≤◌, ◌-◌, nat_le, nat_lt, if◌then◌else◌, Bool, true, false, cond, List, ◌∷◌, map, Option, Some, None, Result, Ok, Err, refl, sym, ap, subst, ◌∙◌, true≢false, arith}
+use Rattle.std.proofs.Common.{◌≡◌, ◌≢◌, ◌⊎◌, inl, inr, ℕ, ◌≤◌, ◌-◌, nat_le, nat_lt, if◌then◌else◌, Bool, true, false, cond, List, ◌∷◌, map, Option, Some, None, Result, Ok, Err, refl, sym, ap, subst, ◌∙◌, true≢false, arith}
 use Rattle.std.proofs.lemmas.Bool.{and_from, and_parts, leb-true, ltb-true}
 use Rattle.std.proofs.lemmas.Bool.Decides.{Decides-eqb, Decides-ltb}
 use Rattle.std.specs.Prelude.{◌==◌, IfNone, IfOk, IfSome, OnErr}
@@ -21,7 +21,6 @@ use Rattle.lisp_lookup.specs.Replies.{IsLongest, record_of}
 use Rattle.lisp_lookup.proofs.BestLaws.{for_address}
 use Rattle.lisp_replies.specs.Kept.{IsKept, IsKeptNone}
 use Rattle.lisp_replies.specs.Reply.{is_held_back, is_starting}
-use Rattle.lisp_replies.specs.declared.reply.Negative.{Negative as Hole}
 use Rattle.lisp_replies.specs.declared.reply.Reply.{Reply}
 use Rattle.lisp_replies.specs.declared.reply.Reply.TheVariants.{Records, Negative, Forward, Silent}
 use Rattle.lisp_model.specs.Trace.{EventValue, Step, Opening, clock, is_server}
@@ -45,15 +44,14 @@ rank_case true equal one two three low = inl refl
 rank_case false true one two three low = inr refl
 rank_case false false one two three low = absurd (low refl)
 
-no_longer : (a b : RowValue) → rank_cmp a b ≢ Greater → a.mapping.eid.mask_len ≤ b.mapping.eid.mask_len
-no_longer a b low = by (rank_case (nat_lt (len a) (len b)) (len a == len b) (bool_cmp a.proxy b.proxy) (nat_cmp a.accepted b.accepted) (router_cmp a.router b.router) low)
-  where
-    len : RowValue → ℕ
-    len h = h.mapping.eid.mask_len
+no_more : (a b : ℕ) → (nat_lt a b ≡ true) ⊎ ((a == b) ≡ true) → a ≤ b
+no_more a b (inl less) = (let lt = ltb-true a b less in omega (arith, lt))
+no_more a b (inr same) = (let is = (Decides-eqb a b).0 same in omega (arith, is))
 
-    by : (nat_lt (len a) (len b) ≡ true) ⊎ ((len a == len b) ≡ true) → len a ≤ len b
-    by (inl less) = (let lt = ltb-true (len a) (len b) less in omega (arith, lt))
-    by (inr same) = (let is = (Decides-eqb (len a) (len b)).0 same in omega (arith, is))
+no_longer : (a b : RowValue) → rank_cmp a b ≢ Greater → a.mapping.eid.mask_len ≤ b.mapping.eid.mask_len
+no_longer a b low =
+    no_more a.mapping.eid.mask_len b.mapping.eid.mask_len
+    (rank_case (nat_lt a.mapping.eid.mask_len b.mapping.eid.mask_len) (a.mapping.eid.mask_len == b.mapping.eid.mask_len) (bool_cmp a.proxy b.proxy) (nat_cmp a.accepted b.accepted) (router_cmp a.router b.router) low)
 
 -- which of two it is
 first_one : {X : Type 0} (b : Bool) (x y : X) → b ≡ true → (if b then x else y) ≡ x
@@ -146,7 +144,8 @@ module _ (o : Opening) (T : List Step) (server : ℕ) where
     each = λ clean addr has r is. says_of_longest legal addr r (sent clean kept.first kept.rest kept.is addr has r (record { kept = is.among; has = is.has; longest = is.longest }));
   }
 
-  module _ {A : Type 0} (legal : LegalTrace o T) (asked : PrefixValue) (quiet : ℕ) where
+  -- its life is starting where it is young
+  module _ (quiet : ℕ) where
     abbrev starting : Bool
     starting = is_starting (began T server) quiet (clock T)
 
@@ -156,24 +155,31 @@ module _ (o : Opening) (T : List Step) (server : ℕ) where
     old : starting ≡ false → IsYoung T server quiet → ⊥
     old is young = true≢false (sym ((Decides-ltb (clock T - began T server) quiet).1 young) ∙ is)
 
-    held_back : (eid : PrefixValue) (row : RowValue) → is_held_back starting o.config.sites eid row ≡ true → IsYoung T server quiet
-    held_back eid row is = young (and_parts starting _ is).0
+    held_back : (asked : PrefixValue) (row : RowValue) → is_held_back starting o.config.sites asked row ≡ true → IsYoung T server quiet
+    held_back asked row is = young (and_parts starting _ is).0
 
-    silent : IsReplyOf o T server asked quiet (Silent {A}) → IsYoung T server quiet
-    silent (inl (row, best, proxy, is)) = held_back asked row is
-    silent (inr (none, inl (row, best, proxy, is))) = held_back (alone asked.addr) row is
-    silent (inr (none, inr (starts, nobody))) = young starts
+  module _ {A : Type 0} (legal : LegalTrace o T) (asked : PrefixValue) (quiet : ℕ) where
+    abbrev StartsAs : Reply A → Type 0
+    StartsAs (Negative hole) = IsYoung T server quiet → ⊥
+    StartsAs Silent = IsYoung T server quiet
+    StartsAs (Records records) = Unit {0}
+    StartsAs (Forward to) = Unit {0}
+
+    starts_as : (reply : Reply A) → IsReplyOf o T server asked quiet reply → StartsAs reply
+    starts_as (Negative hole) (inl never) = absurd never
+    starts_as (Negative hole) (inr (none, inl never)) = absurd never
+    starts_as (Negative hole) (inr (none, inr (started, is_hole, ttl))) = old quiet started
+    starts_as Silent (inl (row, best, proxy, is)) = held_back quiet asked row is
+    starts_as Silent (inr (none, inl (row, best, proxy, is))) = held_back quiet (alone asked.addr) row is
+    starts_as Silent (inr (none, inr (starts, nobody))) = young quiet starts
+    starts_as (Records records) is = tt
+    starts_as (Forward to) is = tt
 
     says_so : (reply : Reply A) → IsPromisedReply o T server asked quiet reply → SaysSo o T server asked.addr quiet reply
     says_so (Records records) is = are_looked legal asked.addr records is.kept is.sent
-    says_so (Negative hole) is = (negative asked.addr hole.ttl hole.eid is.kept, not_starting hole is.is)
-      where
-        not_starting : (hole : Hole) → IsReplyOf o T server asked quiet (Negative {A} hole) → IsYoung T server quiet → ⊥
-        not_starting hole (inl never) = absurd never
-        not_starting hole (inr (none, inl never)) = absurd never
-        not_starting hole (inr (none, inr (started, is_hole, ttl))) = old started
+    says_so (Negative hole) is = (negative asked.addr hole.ttl hole.eid is.kept, starts_as (Negative hole) is.is)
     says_so (Forward to) is = λ clean. sent_on legal asked to (is.sent clean)
-    says_so Silent is = silent is.is
+    says_so Silent is = starts_as Silent is.is
 
 -- what a network that took the events sends is as promised
 pub is_looked : {A : Type 0} (c : ConfigValue) (events : List EventValue) (w : WorldState) → HasRun c events w → (server : ℕ) (asked : PrefixValue) (quiet : ℕ) (reply : Reply A)

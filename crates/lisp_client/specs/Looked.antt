@@ -1,6 +1,6 @@
 -- What a client is promised of what a Map-Server sent for a Map-Request, and why it may have got nothing (RFC 9301 sections
 -- 5.4, 5.5, 8.3 and 8.4). It is spelt out over the steps of the trace, so that a weaker promise below would fail here.
-use Rattle.std.specs.Prelude.{◌≡◌, ◌×◌, ◌⊎◌, ℕ, ◌-◌, ◌<◌, ◌≤◌, true, false, List, [], ◌∷◌, map, reverse}
+use Rattle.std.specs.Prelude.{◌≡◌, ◌⊎◌, ℕ, ◌-◌, ◌<◌, ◌≤◌, true, false, List, [], ◌∷◌, map, reverse}
 use Rattle.std.specs.FinMap.{empty}
 use Rattle.std.specs.List.{Contains}
 use Rattle.lisp_records.specs.declared.address.Addr.{Addr}
