@@ -1,5 +1,5 @@
 -- From the network's contract of what a Map-Server sends to the client's.
-use Rattle.std.proofs.Common.{◌≡◌, ◌≢◌, ◌⊎◌, inl, inr, ℕ, ◌≤◌, ◌-◌, nat_le, nat_lt, if◌then◌else◌, Bool, true, false, cond, List, ◌∷◌, map, Option, Some, None, Result, Ok, Err, refl, sym, ap, subst, ◌∙◌, true≢false, arith}
+use Rattle.std.proofs.Common.{◌≡◌, ◌≢◌, ◌⊎◌, inl, inr, ℕ, ◌≤◌, ◌-◌, nat_le, nat_lt, if◌then◌else◌, Bool, true, false, cond, List, ◌∷◌, Option, None, Result, Ok, Err, refl, sym, ap, subst, ◌∙◌, true≢false, arith}
 use Rattle.std.proofs.lemmas.Bool.{and_from, and_parts, leb-true, ltb-true}
 use Rattle.std.proofs.lemmas.Bool.Decides.{Decides-eqb, Decides-ltb}
 use Rattle.std.specs.Prelude.{◌==◌, IfNone, IfOk, IfSome, OnErr}
@@ -34,7 +34,7 @@ use Rattle.lisp_refinement.specs.World.{WorldState}
 use Rattle.lisp_refinement.specs.Nodes.{server_at}
 use Rattle.lisp_refinement.specs.Replied.{IsSentRecord, IsPromisedReply, IsPromised, GoesOn}
 use Rattle.lisp_client.specs.Answers.{HasRun}
-use Rattle.lisp_client.specs.Looked.{HasAddress, IsLongestRow, SaysOf, IsLongestRecord, SaysOfLongest, AreLooked, IsNegative, IsSentOn, IsYoung, SaysSo, IsLooked, IsNoServer}
+use Rattle.lisp_client.specs.Looked.{HasAddress, IsLongestRow, SaysOf, SaysOfLongest, AreLooked, IsNegative, IsSentOn, IsYoung, SaysSo, IsLooked, IsNoServer}
 use Rattle.lisp_client.proofs.Promise.{server_missing}
 use Rattle.lisp_client.proofs.Rows.{registered}
 

@@ -4,6 +4,7 @@ use Rattle.std.specs.Prelude.{◌≡◌, ◌⊎◌, ℕ, ◌-◌, ◌<◌, ◌�
 use Rattle.std.specs.FinMap.{empty}
 use Rattle.std.specs.List.{Contains}
 use Rattle.lisp_records.specs.declared.address.Addr.{Addr}
+use Rattle.lisp_records.specs.declared.locator.Locator.{Locator}
 use Rattle.lisp_records.specs.Address.{PrefixValue, holds}
 use Rattle.lisp_records.specs.Record.{MapRecordValue}
 use Rattle.lisp_records.specs.Row.{RowValue, IsAlive}
@@ -37,11 +38,15 @@ pub record IsLongestRow (o : Opening) (T : List Step) (server : ℕ) (addr : Add
 
 -- ---- the records of a Map-Reply
 
+-- a locator with L clear: it isn't local to the one that replies
+abbrev pub remote : Locator → Locator
+remote l = record l { local = false }
+
 -- a record says what a row has: where its router asked for proxy replies the row's record, but for its TTL and prefix, not
 -- authoritative and with no locator local; else to ask again (ACT 2), without locators
 abbrev pub SaysOf : MapRecordValue → RowValue → Type 0
 SaysOf r row = ((row.proxy ≡ true)
-    × (r ≡ record row.mapping { ttl = r.ttl; authoritative = false; eid = r.eid; locators = map (λ l. record l { local = false }) row.mapping.locators }))
+    × (r ≡ record row.mapping { ttl = r.ttl; authoritative = false; eid = r.eid; locators = map remote row.mapping.locators }))
     ⊎ ((row.proxy ≡ false) × (r.act ≡ 2) × (r.locators ≡ []))
 
 -- of the records it is the one with the longest prefix that has the address
