@@ -2,11 +2,11 @@
 #![tactic(auto)]
 
 mod answers;
+mod asking;
 mod client;
-mod look;
 mod question;
 
 pub use answers::Answers;
+pub use asking::look;
 pub use client::ask;
-pub use look::look;
 pub use question::Question;
