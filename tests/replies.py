@@ -153,9 +153,10 @@ class Network:
     def database(self, name):
         """Records that the router's site may register, of different prefixes."""
         draw, site = self.draw, self.sites[self.routers[name].site]
-        eids = []
+        # (Large ones have a wide prefix too, mostly, whose records don't fit.)
+        eids = [next(iter(site))] if (self.is_full or self.is_wide) and draw.random() < 0.8 else []
         if self.is_full and site.get(self.space) and draw.random() < 0.6:
-            eids = draw.sample(addresses_of(self.space), draw.choice([draw.randint(120, 256), 253, 254, 255, 256]))
+            eids += draw.sample(addresses_of(self.space), draw.choice([draw.randint(120, 256), 253, 254, 255, 256]))
         for _ in range(draw.randint(0, 20 if self.is_wide else 8)):
             outer = draw.choice(list(site))
             eids.append(self.inside(outer) if site[outer] and draw.random() < 0.85 else outer)
@@ -296,8 +297,12 @@ class SlowServer:
 
     def records(self, eid, best):
         """For a prefix, with all longer ones inside; with no locators where the router answers for itself."""
-        inside = sorted({row.record.eid for row in self.moment.rows if eid.covers(row.record.eid) and row.record.eid != eid})
-        rows = [best] + [max((row for row in self.moment.rows if row.record.eid == it), key=self.rank) for it in inside]
+        own = collections.defaultdict(list)
+        for row in self.moment.rows:
+            if eid.covers(row.record.eid) and row.record.eid != eid:
+                own[row.record.eid].append(row)
+        inside = sorted(own)
+        rows = [best] + [max(own[it], key=self.rank) for it in inside]
         ttl = min(row.record.ttl for row in rows)
         return [Record(it, ttl, row.record.locators if self.network.routers[row.router].proxy else "") for it, row in zip([eid, *inside], rows)]
 
