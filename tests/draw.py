@@ -38,7 +38,7 @@ def run(*words, text):
 
 
 def lines_of(text):
-    """What is played of a schedule, the first line of each command: the lines of a `hold` and of `acks` behind theirs are left out."""
+    """What is played of a schedule, the first line of each command: those of a `hold`, a `request` and `acks` behind theirs are left out."""
     script = text.split("\n---\n", 1)[1].splitlines()
     commands = [line.split() for line in script if line.strip() and not line.startswith("#")]
     played = run("play", "-", text=text).stdout.decode().splitlines()
@@ -46,7 +46,7 @@ def lines_of(text):
     for command in commands:
         firsts.append(played[place])
         place += 1
-        while place < len(played) and (played[place].startswith("row ") or command[0] == "acks" and played[place].startswith("acks ")):
+        while place < len(played) and (played[place].startswith(("row ", "record ")) or command[0] == "acks" and played[place].startswith("acks ")):
             place += 1
     return firsts
 
