@@ -39,7 +39,7 @@ cmp_case true equal rest above = inl refl
 cmp_case false true rest above = inr (refl, above)
 cmp_case false false rest above = absurd (above refl)
 
-first_in_order : (a b : ℕ) (rest : Ordering) → ordering_then (nat_cmp a b) rest ≢ Greater → (a ≤ b) × (a ≡ b → rest ≢ Greater)
+pub first_in_order : (a b : ℕ) (rest : Ordering) → ordering_then (nat_cmp a b) rest ≢ Greater → (a ≤ b) × (a ≡ b → rest ≢ Greater)
 first_in_order a b rest above = either (cmp_case (nat_lt a b) (a == b) rest above)
   where
     either : (nat_lt a b ≡ true) ⊎ (((a == b) ≡ true) × (rest ≢ Greater)) → (a ≤ b) × (a ≡ b → rest ≢ Greater)

@@ -1,23 +1,27 @@
 -- The rows of the prefixes inside a prefix, in the order by prefix.
 use Rattle.std.proofs.Common.{◌≡◌, ◌≢◌, ◌⊎◌, inl, inr, ℕ, ◌+◌, ◌<◌, ◌≤◌, Bool, true, false, ◌&&◌, cond, nat_lt, nat_le, List, length, slice_index, slice_index_or, Option, Some, None, refl, sym, ap, ◌∙◌, subst, true≢false, arith}
-use Rattle.std.specs.List.{Contains}
+use Rattle.std.specs.List.{All, Contains}
 use Rattle.std.specs.Cmp.{IsTotalOrder}
 use Rattle.std.specs.Ordering.{is_lt, nat_cmp, ordering_reverse, ordering_then}
 use Rattle.std.specs.declared.cmp.Ordering.{Ordering}
 use Rattle.std.specs.declared.cmp.Ordering.TheVariants.{Less, Equal, Greater}
 use Rattle.std.proofs.lemmas.Bool.{cases_eq, cases_lt, and_parts, and_from, leb-true}
+use Rattle.std.proofs.lemmas.Bool.Decides.{Decides-ltb}
+use Rattle.std.proofs.lemmas.List.{get_or_default}
+use Rattle.std.proofs.lemmas.List.Elements.{All-contains}
 use Rattle.lisp_records.proofs.DatabaseLaws.{block_eq-Decides}
-use Rattle.lisp_records.specs.Address.{PrefixValue, IsPrefix, IsWhole, addr_cmp, cleared, covers, holds, prefix_cmp, prefix_eq}
+use Rattle.lisp_records.specs.declared.address.Addr.{Addr}
+use Rattle.lisp_records.specs.Address.{PrefixValue, IsPrefix, IsWhole, addr_cmp, cleared, covers, holds, max_len, prefix_cmp, prefix_eq}
 use Rattle.lisp_records.specs.Router.{router_cmp}
 use Rattle.lisp_records.specs.Row.{RowValue, is_alive}
 use Rattle.lisp_policy.proofs.Found.{not_true}
 use Rattle.lisp_lookup.specs.declared.probe.Probe.TheVariants.{Prefix}
 use Rattle.lisp_lookup.specs.Answer.{may_answer, IsBestOfPrefix}
-use Rattle.lisp_lookup.specs.Index.{row_prefix_cmp, row_at_place, IsBound, IsIndex}
+use Rattle.lisp_lookup.specs.Index.{row_prefix_cmp, row_at_place, IsBound, IsFirstOf, IsIndex}
 use Rattle.lisp_lookup.specs.Hole.{IsEmptyIn}
-use Rattle.lisp_lookup.specs.Inside.{is_inside, is_live_inside, later, NoneInside, IsNextInsideOf}
+use Rattle.lisp_lookup.specs.Inside.{is_inside, is_live_inside, IsWalk, NoneInside, IsNextInsideOf}
 use Rattle.lisp_lookup.proofs.AnswerLaws.{less}
-use Rattle.lisp_lookup.proofs.BestLaws.{of_prefix}
+use Rattle.lisp_lookup.proofs.BestLaws.{of_prefix, same_family}
 use Rattle.lisp_lookup.proofs.Blocks.{addr_is, at_most_cleared, at_most_first, cleared-between, is_addr}
 use Rattle.lisp_lookup.proofs.IndexLaws.{itself, number_at}
 use Rattle.lisp_lookup.proofs.Orders.{block_total}
@@ -56,17 +60,17 @@ module _ {K : Type 0} {R : K → K → Ordering} (total : IsTotalOrder R) where
   pub not_both : (x y : K) → R x y ≡ Less → R y x ≡ Less → ⊥
   not_both x y one other = absurd (let turned : R y x ≡ Greater = total.antisymm y x ∙ ap ordering_reverse one in cc)
 
-less_equal : (o : Ordering) → o ≡ Equal → o ≢ Greater
+pub less_equal : (o : Ordering) → o ≡ Equal → o ≢ Greater
 less_equal Less is above = absurd cc
 less_equal Equal is above = absurd cc
 less_equal Greater is above = absurd cc
 
-less_is : (o : Ordering) → o ≡ Less → o ≢ Greater
+pub less_is : (o : Ordering) → o ≡ Less → o ≢ Greater
 less_is Less is above = absurd cc
 less_is Equal is above = absurd cc
 less_is Greater is above = absurd cc
 
-first_of : (one rest : Ordering) → ordering_then one rest ≢ Greater → one ≢ Greater
+pub first_of : (one rest : Ordering) → ordering_then one rest ≢ Greater → one ≢ Greater
 first_of Less rest above is = absurd cc
 first_of Equal rest above is = absurd cc
 first_of Greater rest above is = above refl
@@ -92,14 +96,6 @@ inside_behind outer eid inside =
 
 -- ---- the run
 
-later_case : (outer after : PrefixValue) (o : Ordering) → prefix_cmp outer after ≡ o → (prefix_cmp outer (cond (is_lt o) after outer) ≢ Greater) × ((x : PrefixValue) → prefix_cmp x (cond (is_lt o) after outer) ≡ Less → prefix_cmp outer x ≡ Less → prefix_cmp after x ≡ Less → ⊥)
-later_case outer after Less is = (less_is (prefix_cmp outer after) is, λ x before in_outer behind. not_both block_total x after before behind)
-later_case outer after Equal is = (less_equal (prefix_cmp outer outer) (itself prefix_cmp block_total outer), λ x before in_outer behind. not_both block_total x outer before in_outer)
-later_case outer after Greater is = (less_equal (prefix_cmp outer outer) (itself prefix_cmp block_total outer), λ x before in_outer behind. not_both block_total x outer before in_outer)
-
-later_is : (outer after : PrefixValue) → (prefix_cmp outer (later outer after) ≢ Greater) × ((x : PrefixValue) → prefix_cmp x (later outer after) ≡ Less → prefix_cmp outer x ≡ Less → prefix_cmp after x ≡ Less → ⊥)
-later_is outer after = later_case outer after (prefix_cmp outer after) refl
-
 hit_parts : (outer after : PrefixValue) (now : ℕ) (h : RowValue) → is_hit outer after now h ≡ true → (is_alive h now ≡ true) × ((is_inside outer h.mapping.eid ≡ true) × (prefix_cmp after h.mapping.eid ≡ Less))
 hit_parts outer after now h hit =
     let parts = and_parts (is_live_inside outer now h) (is_lt (prefix_cmp after h.mapping.eid)) hit in
@@ -109,24 +105,18 @@ hit_parts outer after now h hit =
 is_hit_from : (outer after : PrefixValue) (now : ℕ) (h : RowValue) → is_live_inside outer now h ≡ true → prefix_cmp after h.mapping.eid ≡ Less → is_hit outer after now h ≡ true
 is_hit_from outer after now h live behind = and_from (is_live_inside outer now h) (is_lt (prefix_cmp after h.mapping.eid)) live (ap is_lt behind)
 
-row_rise : (a b : PrefixValue) (rest : Ordering) → ordering_then (prefix_cmp a b) rest ≡ Less → prefix_cmp a b ≢ Greater
+pub row_rise : (a b : PrefixValue) (rest : Ordering) → ordering_then (prefix_cmp a b) rest ≡ Less → prefix_cmp a b ≢ Greater
 row_rise a b rest rise = first_of (prefix_cmp a b) rest (less_is (ordering_then (prefix_cmp a b) rest) rise)
 
 -- ---- rows that are sought among those whose address a prefix has, from a place on before which none is
 
-pub record IsRun (rows : List RowValue) (numbers : List ℕ) (sought : RowValue → Bool) (outer from : PrefixValue) (first : ℕ) : Type 0 where
+pub record IsRun (rows : List RowValue) (numbers : List ℕ) (sought : RowValue → Bool) (outer : PrefixValue) (first : ℕ) : Type 0 where
   pub index : IsIndex row_prefix_cmp rows numbers
-  pub low : prefix_cmp outer from ≢ Greater
   pub has : (h : RowValue) → sought h ≡ true → holds outer h.mapping.eid.addr ≡ true
-  pub before : (h : RowValue) → prefix_cmp h.mapping.eid from ≡ Less → sought h ≡ false
-  pub earlier : (i : ℕ) (d : RowValue) → i < first → is_lt (prefix_cmp (row_at_place rows numbers i d).mapping.eid from) ≡ true
-  pub onward : (i : ℕ) (d : RowValue) → first ≤ i → i < length numbers → is_lt (prefix_cmp (row_at_place rows numbers i d).mapping.eid from) ≡ false
+  pub passed : (k : ℕ) (d : RowValue) → k < first → sought (row_at_place rows numbers k d) ≡ false
+  pub onward : (k : ℕ) (d : RowValue) → first ≤ k → k < length numbers → prefix_cmp outer (row_at_place rows numbers k d).mapping.eid ≢ Greater
 
-module _ (rows : List RowValue) (numbers : List ℕ) (sought : RowValue → Bool) (outer from : PrefixValue) (first : ℕ) (run : IsRun rows numbers sought outer from first) where
-  -- no row before the first is sought
-  pub before_first : (k : ℕ) (d : RowValue) → k < first → sought (row_at_place rows numbers k d) ≡ false
-  before_first k d lt = run.before (row_at_place rows numbers k d) (less (prefix_cmp (row_at_place rows numbers k d).mapping.eid from) (run.earlier k d lt))
-
+module _ (rows : List RowValue) (numbers : List ℕ) (sought : RowValue → Bool) (outer : PrefixValue) (first : ℕ) (run : IsRun rows numbers sought outer first) where
   -- what was looked at isn't sought
   abbrev pub NoneSought : ℕ → Type 0
   NoneSought upto = (k : ℕ) (d : RowValue) → first ≤ k → k < upto → sought (row_at_place rows numbers k d) ≡ false
@@ -139,7 +129,7 @@ module _ (rows : List RowValue) (numbers : List ℕ) (sought : RowValue → Bool
       ap sought (sym here) ∙ either k lt_k (cases_lt k first)
     where
       either : (k : ℕ) → k < length numbers → (k < first) ⊎ (first ≤ k) → sought (row_at_place rows numbers k h) ≡ false
-      either k lt (inl sooner) = before_first k h sooner
+      either k lt (inl sooner) = run.passed k h sooner
       either k lt (inr later) = none k h later lt
 
   -- one place more was looked at
@@ -153,9 +143,7 @@ module _ (rows : List RowValue) (numbers : List ℕ) (sought : RowValue → Bool
   -- behind a row whose address is outside none is sought
   module _ (whole : IsWhole outer.addr) (p : ℕ) (x : RowValue) (le : first ≤ p) (within : p < length numbers) (known : (d : RowValue) → x ≡ row_at_place rows numbers p d) (x_whole : IsWhole x.mapping.eid.addr) (outside : holds outer x.mapping.eid.addr ≡ false) where
     behind_outer : prefix_cmp outer x.mapping.eid ≢ Greater
-    behind_outer =
-        let after_from : is_lt (prefix_cmp x.mapping.eid from) ≡ false = ap (λ (h : RowValue). is_lt (prefix_cmp h.mapping.eid from)) (known x) ∙ run.onward p x le within in
-        at_most block_total outer from x.mapping.eid run.low (not_less block_total x.mapping.eid from after_from)
+    behind_outer = subst (λ (h : RowValue). prefix_cmp outer h.mapping.eid ≢ Greater) (sym (known x)) (run.onward p x le within)
 
     not_in : (y : RowValue) → addr_cmp x.mapping.eid.addr y.mapping.eid.addr ≢ Greater → holds outer y.mapping.eid.addr ≡ true → ⊥
     not_in y high held =
@@ -191,26 +179,74 @@ module _ (rows : List RowValue) (numbers : List ℕ) (sought : RowValue → Bool
 hit_has : (outer after : PrefixValue) (now : ℕ) (h : RowValue) → is_hit outer after now h ≡ true → holds outer h.mapping.eid.addr ≡ true
 hit_has outer after now h hit = (and_parts (nat_le outer.mask_len h.mapping.eid.mask_len) (holds outer h.mapping.eid.addr) (and_parts (covers outer h.mapping.eid) (nat_lt outer.mask_len h.mapping.eid.mask_len) (hit_parts outer after now h hit).1.0).0).1
 
-hit_before : (outer after from : PrefixValue) (now : ℕ) → from ≡ later outer after → (h : RowValue) → prefix_cmp h.mapping.eid from ≡ Less → is_hit outer after now h ≡ false
-hit_before outer after from now from_is h low = not_true (is_hit outer after now h) (λ hit.
-    (let parts = hit_parts outer after now h hit in
-    (later_is outer after).1 h.mapping.eid (ap (prefix_cmp h.mapping.eid) (sym from_is) ∙ low) (inside_behind outer h.mapping.eid parts.1.0) parts.1.1))
-
-pub inside_run : {A : Type 0} (rows : List RowValue) (numbers : List ℕ) (outer after from : PrefixValue) (now first : ℕ) → IsIndex row_prefix_cmp rows numbers → from ≡ later outer after → IsBound {A = A} (Prefix from) rows numbers first → IsRun rows numbers (is_hit outer after now) outer from first
-inside_run rows numbers outer after from now first index from_is bound = record {
-  index = index;
-  low = subst (λ (b : PrefixValue). prefix_cmp outer b ≢ Greater) (sym from_is) (later_is outer after).0;
+pub inside_run : (rows : List RowValue) (numbers : List ℕ) (outer after : PrefixValue) (now first : ℕ) → IsWalk (record { rows = rows; outer = outer; moment = now; after = after }) numbers first → IsRun rows numbers (is_hit outer after now) outer first
+inside_run rows numbers outer after now first walk = record {
+  index = walk.index;
   has = hit_has outer after now;
-  before = hit_before outer after from now from_is;
-  earlier = bound.before;
-  onward = bound.after;
+  passed = λ k d lt. not_true (is_hit outer after now (row_at_place rows numbers k d)) (λ hit. walk.passed k d lt (and_parts (is_live_inside outer now (row_at_place rows numbers k d)) (is_lt (prefix_cmp after (row_at_place rows numbers k d).mapping.eid)) hit).0 (hit_parts outer after now (row_at_place rows numbers k d) hit).1.1);
+  onward = walk.onward;
 }
+
+-- a walk that has shown none
+pub walk_begins : (rows : List RowValue) (numbers : List ℕ) (outer : PrefixValue) (now first : ℕ) → All (λ h. IsPrefix h.mapping.eid) rows → IsIndex row_prefix_cmp rows numbers → IsFirstOf outer rows numbers first → IsWalk (record { rows = rows; outer = outer; moment = now; after = outer }) numbers first
+walk_begins rows numbers outer now first eids index bound = record {
+  eids = eids;
+  index = index;
+  within = bound.within;
+  passed = λ k d lt _ behind. not_both block_total (row_at_place rows numbers k d).mapping.eid outer (less (prefix_cmp (row_at_place rows numbers k d).mapping.eid outer) (bound.before k d lt)) behind;
+  onward = λ k d le lt. not_less block_total (row_at_place rows numbers k d).mapping.eid outer (bound.after k d le lt);
+}
+
+-- a prefix that another one is inside isn't one of a single address
+pub is_wider : (outer eid : PrefixValue) → is_inside outer eid ≡ true → IsPrefix eid → outer.mask_len < max_len outer.addr
+is_wider outer eid inside block =
+    let parts = and_parts (covers outer eid) (nat_lt outer.mask_len eid.mask_len) inside in
+    let has = (and_parts (nat_le outer.mask_len eid.mask_len) (holds outer eid.addr) parts.0).1 in
+    let same = addr_is (cleared eid.addr outer.mask_len) outer.addr has in
+    omega (arith, (Decides-ltb outer.mask_len eid.mask_len).0 parts.1, block.0, ap max_len same, same_family eid.addr outer.mask_len)
+
+-- so a walk inside one shows none
+pub walk_of_one : (rows : List RowValue) (numbers : List ℕ) (outer : PrefixValue) (now : ℕ) → All (λ h. IsPrefix h.mapping.eid) rows → IsIndex row_prefix_cmp rows numbers → max_len outer.addr ≤ outer.mask_len → IsWalk (record { rows = rows; outer = outer; moment = now; after = outer }) numbers (length numbers)
+walk_of_one rows numbers outer now eids index one = record {
+  eids = eids;
+  index = index;
+  within = omega arith;
+  passed = λ k d lt live _. none (row_at_place rows numbers k d) (slice_index numbers k, index.rises.below k lt, get_or_default rows (slice_index numbers k) (row_at_place rows numbers k d) d (index.rises.below k lt)) live;
+  onward = λ k d le lt. absurd (omega (arith, le, lt));
+}
+  where
+    none : (h : RowValue) → Contains rows h → is_live_inside outer now h ≡ true → ⊥
+    none h held live = omega (arith, one, is_wider outer h.mapping.eid (and_parts (is_alive h now) (is_inside outer h.mapping.eid) live).1 (All-contains (λ h. IsPrefix h.mapping.eid) rows h eids held))
+
+-- and one that has shown a row
+pub walk_goes : (rows : List RowValue) (numbers : List ℕ) (outer after : PrefixValue) (now from : ℕ) → IsWalk (record { rows = rows; outer = outer; moment = now; after = after }) numbers from → (p : ℕ) (x : RowValue) → from ≤ p → p < length numbers → ((d : RowValue) → x ≡ row_at_place rows numbers p d) → (eid : PrefixValue) → eid ≡ x.mapping.eid → IsWalk (record { rows = rows; outer = outer; moment = now; after = eid }) numbers (p + 1)
+walk_goes rows numbers outer after now from walk p x le within known eid own = record {
+  eids = walk.eids;
+  index = walk.index;
+  within = omega (arith, within);
+  passed = λ k d lt _ behind. either k d lt (ap (λ (b : PrefixValue). prefix_cmp b (row_at_place rows numbers k d).mapping.eid) (sym own) ∙ behind) (cases_eq k p);
+  onward = λ k d low lt. walk.onward k d (omega (arith, le, low)) lt;
+}
+  where
+    either : (k : ℕ) (d : RowValue) → k < p + 1 → prefix_cmp x.mapping.eid (row_at_place rows numbers k d).mapping.eid ≡ Less → (k ≡ p) ⊎ (k ≢ p) → ⊥
+    either k d lt behind (inl same) = not_both block_total x.mapping.eid x.mapping.eid its its
+      where
+        its : prefix_cmp x.mapping.eid x.mapping.eid ≡ Less
+        its = ap (λ (h : RowValue). prefix_cmp x.mapping.eid h.mapping.eid) (known d ∙ ap (λ (j : ℕ). row_at_place rows numbers j d) (sym same)) ∙ behind
+    either k d lt behind (inr off) =
+        let rise = walk.index.rises.rising k p d (omega (arith, lt, off)) within in
+        let below = row_rise (row_at_place rows numbers k d).mapping.eid (row_at_place rows numbers p d).mapping.eid (router_cmp (row_at_place rows numbers k d).router (row_at_place rows numbers p d).router) rise in
+        below (block_total.antisymm (row_at_place rows numbers k d).mapping.eid (row_at_place rows numbers p d).mapping.eid ∙ ap (λ (h : RowValue). ordering_reverse (prefix_cmp h.mapping.eid (row_at_place rows numbers k d).mapping.eid)) (sym (known d)) ∙ ap ordering_reverse behind)
+
+-- the best row of a prefix has it
+pub own_best : (rows : List RowValue) (eid : PrefixValue) (addr : Addr) (now : ℕ) (h : RowValue) → IsBestOfPrefix rows eid addr now (Some h) → h.mapping.eid ≡ eid
+own_best rows eid addr now h is = (block_eq-Decides h.mapping.eid eid).0 (filtered_holds (λ z. prefix_eq z.mapping.eid eid) rows h is.held).1
 
 pub none_hit : (rows : List RowValue) (outer after : PrefixValue) (now : ℕ) → ((h : RowValue) → Contains rows h → is_hit outer after now h ≡ false) → NoneInside rows outer after now
 none_hit rows outer after now none h held live behind = true≢false (sym (is_hit_from outer after now h live behind) ∙ none h held)
 
 -- the first that is sought
-module _ (rows : List RowValue) (numbers : List ℕ) (outer after from : PrefixValue) (now first : ℕ) (run : IsRun rows numbers (is_hit outer after now) outer from first) where
+module _ (rows : List RowValue) (numbers : List ℕ) (outer after : PrefixValue) (now first : ℕ) (run : IsRun rows numbers (is_hit outer after now) outer first) where
   module _ (p : ℕ) (x : RowValue) (le : first ≤ p) (within : p < length numbers) (known : (d : RowValue) → x ≡ row_at_place rows numbers p d) (none : (k : ℕ) (d : RowValue) → first ≤ k → k < p → is_hit outer after now (row_at_place rows numbers k d) ≡ false) (block : IsPrefix x.mapping.eid) (hit : is_hit outer after now x ≡ true) where
     its : (is_alive x now ≡ true) × ((is_inside outer x.mapping.eid ≡ true) × (prefix_cmp after x.mapping.eid ≡ Less))
     its = hit_parts outer after now x hit
@@ -237,7 +273,7 @@ module _ (rows : List RowValue) (numbers : List ℕ) (outer after from : PrefixV
             subst (λ (h : RowValue). prefix_cmp h.mapping.eid (row_at_place rows numbers k other).mapping.eid ≢ Greater) (sym (known other)) (row_rise (row_at_place rows numbers p other).mapping.eid (row_at_place rows numbers k other).mapping.eid (router_cmp (row_at_place rows numbers p other).router (row_at_place rows numbers k other).router) rise)
 
         unsought : (k : ℕ) → k < p → (k < first) ⊎ (first ≤ k) → is_hit outer after now (row_at_place rows numbers k other) ≡ false
-        unsought k lt (inl sooner) = before_first rows numbers (is_hit outer after now) outer from first run k other sooner
+        unsought k lt (inl sooner) = run.passed k other sooner
         unsought k lt (inr later) = none k other later lt
 
         place : (k : ℕ) → k < length numbers → is_hit outer after now (row_at_place rows numbers k other) ≡ true → (k < p) ⊎ (p ≤ k) → prefix_cmp x.mapping.eid (row_at_place rows numbers k other).mapping.eid ≢ Greater
@@ -286,14 +322,12 @@ in_before eid now h low = not_true (is_live_in eid now h) (λ live.
     (let covered = (and_parts (is_alive h now) (covers eid h.mapping.eid) live).1 in
     covered_behind eid h.mapping.eid covered (block_total.antisymm eid h.mapping.eid ∙ ap ordering_reverse low)))
 
-pub in_run : {A : Type 0} (rows : List RowValue) (numbers : List ℕ) (eid : PrefixValue) (now first : ℕ) → IsIndex row_prefix_cmp rows numbers → IsBound {A = A} (Prefix eid) rows numbers first → IsRun rows numbers (is_live_in eid now) eid eid first
+pub in_run : {A : Type 0} (rows : List RowValue) (numbers : List ℕ) (eid : PrefixValue) (now first : ℕ) → IsIndex row_prefix_cmp rows numbers → IsBound {A = A} (Prefix eid) rows numbers first → IsRun rows numbers (is_live_in eid now) eid first
 in_run rows numbers eid now first index bound = record {
   index = index;
-  low = less_equal (prefix_cmp eid eid) (itself prefix_cmp block_total eid);
   has = in_has eid now;
-  before = in_before eid now;
-  earlier = bound.before;
-  onward = bound.after;
+  passed = λ k d lt. in_before eid now (row_at_place rows numbers k d) (less (prefix_cmp (row_at_place rows numbers k d).mapping.eid eid) (bound.before k d lt));
+  onward = λ k d le lt. not_less block_total (row_at_place rows numbers k d).mapping.eid eid (bound.after k d le lt);
 }
 
 pub empty_in : (rows : List RowValue) (eid : PrefixValue) (now : ℕ) → ((h : RowValue) → Contains rows h → is_live_in eid now h ≡ false) → IsEmptyIn rows eid now

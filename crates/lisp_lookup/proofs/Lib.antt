@@ -13,6 +13,7 @@ pub mod PutLaws
 pub mod CountLaws
 pub mod BestLaws
 pub mod InsideLaws
+pub mod CoveringLaws
 pub mod SitesLaws
 pub mod HoleLaws
 pub mod CachedLaws

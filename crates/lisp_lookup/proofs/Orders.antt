@@ -26,7 +26,7 @@ same_order (V4 a) (V6 b) = refl
 same_order (V6 a) (V4 b) = refl
 same_order (V6 a) (V6 b) = refl
 
-addr_total : IsTotalOrder addr_cmp
+pub addr_total : IsTotalOrder addr_cmp
 addr_total = subst (λ (R : Addr → Addr → Ordering). IsTotalOrder R) (λ i a b. same_order a b i) (then_total (on_total family_number nat_cmp_total) (on_total octets nat_list_cmp_total))
 
 same_addr : (a b : Addr) → addr_cmp a b ≡ Equal → a ≡ b

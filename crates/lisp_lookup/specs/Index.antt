@@ -5,7 +5,7 @@ use Rattle.std.specs.List.Sorted.{IsPermutation}
 use Rattle.std.specs.declared.cmp.Ordering.{Ordering}
 use Rattle.std.specs.declared.cmp.Ordering.TheVariants.{Less}
 use Rattle.std.specs.Ordering.{nat_cmp, ordering_then, is_lt}
-use Rattle.lisp_records.specs.Address.{IsPrefix, prefix_cmp}
+use Rattle.lisp_records.specs.Address.{PrefixValue, IsPrefix, prefix_cmp}
 use Rattle.lisp_records.specs.Router.{router_cmp}
 use Rattle.lisp_records.specs.Row.{RowValue, is_alive}
 use Rattle.lisp_lookup.specs.Table.{is_row_of, row_key}
@@ -89,6 +89,10 @@ pub record IsBound {A : Type 0} (probe : Probe A) (rows : List RowValue) (number
   pub within : place ≤ length numbers
   pub before : (i : ℕ) (d : RowValue) → i < place → is_before probe (row_at_place rows numbers i d) ≡ true
   pub after : (i : ℕ) (d : RowValue) → place ≤ i → i < length numbers → is_before probe (row_at_place rows numbers i d) ≡ false
+
+-- the first place whose row doesn't stand before a prefix
+abbrev pub IsFirstOf : PrefixValue → List RowValue → List ℕ → ℕ → Type 0
+IsFirstOf eid = IsBound {A = Unit {0}} (Prefix eid)
 
 -- a number was taken out, and no other
 pub record IsTakenOut (order : Order) (rows : List RowValue) (old new : List ℕ) (number : ℕ) : Type 0 where

@@ -1,11 +1,12 @@
 //! Which of the rows answers for an address.
 
-ghost use Rattle.std.specs.Prelude.{◌≡◌};
+ghost use Rattle.std.specs.Prelude.{◌≡◌, ◌≤◌, false, length};
 ghost use Rattle.std.specs.List.{All};
 ghost use Rattle.std.specs.Option.{option_map};
 ghost use Rattle.lisp_records.specs.Address.{IsPrefix, prefix_eq};
-ghost use Rattle.lisp_lookup.specs.Index.{row_prefix_cmp, IsIndex};
+ghost use Rattle.lisp_lookup.specs.Index.{row_prefix_cmp, IsFirstOf, IsIndex};
 ghost use Rattle.lisp_lookup.specs.Answer.{may_answer, rank_cmp, greater, IsBestOf, IsBestOfPrefix};
+ghost use Rattle.lisp_lookup.specs.Inside.{HasNoRowFrom};
 ghost use Rattle.lisp_lookup.specs.Covering.{IsBestForOf};
 
 use crate::find::place;
@@ -34,26 +35,59 @@ pub(crate) fn best<'a, A: Allocator>(
 }
 
 /// Of the rows that are alive at a moment, in ms, and whose prefix covers the one that is asked for, the one that answers;
-/// `None` where none does. The prefixes that cover it are sought one by one, the longest first.
+/// `None` where none does. The prefixes that cover it are gone through one by one, the longest first. One is sought only where the
+/// row that stands before the one that was sought last lies in it: else it has no row.
 pub(crate) fn best_for<'a, A: Allocator>(
     rows: &'a [Row<A>],
     by_prefix: &VecDeque<usize, A>,
     asked: &Prefix,
     now: u64,
 ) -> Option<&'a Row<A>>
+    requires eids { All (λ h. IsPrefix h.mapping.eid) rows.now }
     requires index { IsIndex row_prefix_cmp rows.now by_prefix.now.items }
     ensures { IsBestForOf rows.now asked.now now (option_map (λ row. row.now) result) }
 {
     let addr = asked.addr();
     let longest = asked.mask_len();
-    for shorter in 0..longest + 1 {
+    let mut first = first_of(rows, by_prefix, asked);
+    let own = best_from(rows, by_prefix, first, asked, &addr, now);
+    if own.is_some() {
+        return own;
+    }
+    for shorter in 1..longest + 1 {
         let prefix = Prefix::new(addr, longest - shorter)?;
-        let best = best_of(rows, by_prefix, &prefix, &addr, now);
-        if best.is_some() {
-            return best;
+        if may_have_row(rows, by_prefix, first, &prefix) {
+            first = first_of(rows, by_prefix, &prefix);
+            let best = best_from(rows, by_prefix, first, &prefix, &addr, now);
+            if best.is_some() {
+                return best;
+            }
         }
     }
     None
+}
+
+// Whether a prefix may have a row, where a place is the first one of a longer prefix inside it: the row before must lie in it.
+fn may_have_row<A: Allocator>(
+    rows: &[Row<A>],
+    by_prefix: &VecDeque<usize, A>,
+    place: usize,
+    prefix: &Prefix,
+) -> bool
+    requires eids { All (λ h. IsPrefix h.mapping.eid) rows.now }
+    requires index { IsIndex row_prefix_cmp rows.now by_prefix.now.items }
+    requires within { place ≤ length by_prefix.now.items }
+    ensures { result ≡ false → HasNoRowFrom rows.now by_prefix.now.items place prefix.now }
+{
+    // A proof learns here that its address is whole, and of the row that its prefix is a block.
+    let _first = prefix.addr();
+    let Some(before) = place.checked_sub(1) else {
+        return false;
+    };
+    let row = &rows[by_prefix[before]];
+    let eid = row.mapping.eid_ref();
+    let _first = eid.addr();
+    prefix.covers(eid)
 }
 
 /// Of the rows of a prefix the one that answers for an address.
@@ -67,7 +101,35 @@ pub(crate) fn best_of<'a, A: Allocator>(
     requires index { IsIndex row_prefix_cmp rows.now by_prefix.now.items }
     ensures { IsBestOfPrefix rows.now prefix.now addr.now now (option_map (λ row. row.now) result) }
 {
-    let first = place(rows, by_prefix, &Probe::Prefix(*prefix));
+    let first = first_of(rows, by_prefix, prefix);
+    best_from(rows, by_prefix, first, prefix, addr, now)
+}
+
+/// The first place whose row doesn't stand before a prefix.
+pub(crate) fn first_of<A: Allocator>(
+    rows: &[Row<A>],
+    by_prefix: &VecDeque<usize, A>,
+    prefix: &Prefix,
+) -> usize
+    requires index { IsIndex row_prefix_cmp rows.now by_prefix.now.items }
+    ensures { IsFirstOf prefix.now rows.now by_prefix.now.items result }
+{
+    place(rows, by_prefix, &Probe::Prefix(*prefix))
+}
+
+// As `best_of`, where the place of the first row of the prefix is known.
+fn best_from<'a, A: Allocator>(
+    rows: &'a [Row<A>],
+    by_prefix: &VecDeque<usize, A>,
+    first: usize,
+    prefix: &Prefix,
+    addr: &Addr,
+    now: u64,
+) -> Option<&'a Row<A>>
+    requires index { IsIndex row_prefix_cmp rows.now by_prefix.now.items }
+    requires first { IsFirstOf prefix.now rows.now by_prefix.now.items first }
+    ensures { IsBestOfPrefix rows.now prefix.now addr.now now (option_map (λ row. row.now) result) }
+{
     let mut best = None;
     for place in first..by_prefix.len() {
         let row = &rows[by_prefix[place]];

@@ -23,7 +23,7 @@ impl<A: Allocator> Probe<'_, A> {
         ensures { result ≡ is_before self.now row.now }
     {
         match self {
-            Probe::Prefix(eid) => row.mapping.eid_ref().cmp(eid).is_lt(),
+            Probe::Prefix(eid) => row.mapping.eid_ref().order(eid).is_lt(),
             Probe::Row(order, sought) => order.cmp(row, sought).is_lt(),
         }
     }

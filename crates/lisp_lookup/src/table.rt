@@ -10,7 +10,6 @@ ghost use Rattle.lisp_lookup.specs.Table.{OneEach, Sets, Expires, DropsDead, row
 ghost use Rattle.lisp_lookup.specs.Answer.{Answers};
 ghost use Rattle.lisp_lookup.specs.Covering.{IsBestForOf};
 ghost use Rattle.lisp_lookup.specs.Hole.{IsHoleOf};
-ghost use Rattle.lisp_lookup.specs.Inside.{IsNextInsideOf};
 ghost use Rattle.lisp_lookup.specs.Records.{live_of, live_count, live_fit, ListsLive};
 
 use crate::answer::Answer;
@@ -19,7 +18,7 @@ use crate::counted_rows::CountedRows;
 use crate::find::find;
 use crate::hole::hole;
 use crate::index::Near;
-use crate::inside::next_inside;
+use crate::inside::Inside;
 use crate::live::{copy_live, count_live};
 use crate::probe::Probe;
 use crate::steps::Steps;
@@ -191,14 +190,13 @@ impl<A: Allocator + Copy> Table<A> {
         best_for(&self.items, &self.by_prefix, asked, now)
     }
 
-    /// Of the longer prefixes inside `outer` that stand behind `after` in their order and have a row that is alive at a moment, in ms,
-    /// the first one's best row; `None` where there is none. From `outer` itself on, each time behind the last one's prefix, this
-    /// gives the best row of every prefix inside once. Takes no memory (RFC 9301 section 5.5).
-    pub fn next_inside(&self, outer: &Prefix, after: &Prefix, now: u64) -> Option<&Row<A>>
-        ensures next { IsNextInsideOf self.now.rows outer.now after.now now
-            (option_map (λ row. row.now) result) }
+    /// A walk over the longer prefixes inside `outer` that have a row that is alive at a moment, in ms: it shows the best row of each once,
+    /// in the order of prefixes. Takes no memory (RFC 9301 section 5.5).
+    pub fn inside(&self, outer: &Prefix, now: u64) -> Inside<'_, A>
+        ensures { result ≡
+            record { rows = self.now.rows; outer = outer.now; moment = now; after = outer.now } }
     {
-        next_inside(&self.items, &self.by_prefix, outer, after, now)
+        Inside::new(&self.items, &self.by_prefix, outer, now)
     }
 
     /// The widest prefix around an address in which nobody is there at a moment, in ms, which a negative Map-Reply for the address has:

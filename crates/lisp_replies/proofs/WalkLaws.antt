@@ -1,34 +1,33 @@
 -- Walks over the prefixes inside a prefix: what was seen so far, and what is known of it at the end.
-use Rattle.std.proofs.Common.{◌≡◌, ◌≢◌, ◌⊎◌, inl, inr, ℕ, zero, suc, ◌+◌, ◌<◌, ◌≤◌, min, nat_le, nat_lt, true, false, List, [], ◌∷◌, ◌++◌, length, map, refl, sym, ap, ◌∙◌, subst, arith}
+use Rattle.std.proofs.Common.{◌≡◌, ◌≢◌, ◌⊎◌, inl, inr, ℕ, zero, suc, ◌+◌, ◌<◌, ◌≤◌, min, true, false, List, [], ◌∷◌, ◌++◌, length, map, Option, Some, refl, sym, ap, ◌∙◌, subst, arith}
 use Rattle.std.specs.List.{Contains}
-use Rattle.std.proofs.lemmas.Bool.{and_parts, cases_lt}
-use Rattle.std.proofs.lemmas.Bool.Decides.{Decides-ltb}
-use Rattle.std.proofs.lemmas.List.{length-append, map-append}
+use Rattle.std.proofs.lemmas.Bool.{cases_lt}
+use Rattle.std.proofs.lemmas.List.{length-append, length-map, map-append}
 use Rattle.std.proofs.lemmas.List.Sums.{sum_by-append}
 use Rattle.std.proofs.lemmas.List.Elements.{Contains-append_left, Contains-append_right, Contains-append_cases}
-use Rattle.lisp_records.specs.Address.{PrefixValue, IsPrefix, cleared, covers, holds, max_len}
+use Rattle.lisp_records.specs.Address.{PrefixValue}
 use Rattle.lisp_records.specs.Parts.{fits_message, size}
 use Rattle.lisp_records.specs.Record.{MapRecordValue}
 use Rattle.lisp_records.specs.Row.{RowValue}
 use Rattle.lisp_records.specs.Written.{written}
 use Rattle.lisp_records.proofs.Cuts.{begins_fits, fits, fits_is}
 use Rattle.lisp_policy.proofs.Found.{not_true}
-use Rattle.lisp_lookup.proofs.BestLaws.{same_family}
-use Rattle.lisp_lookup.proofs.Blocks.{addr_is}
-use Rattle.lisp_lookup.specs.Inside.{is_inside, AreInside, IsNextInside, NoneInside}
+use Rattle.lisp_lookup.specs.Inside.{AreInside, InsideValue, IsNextInside, IsNextInsideOf, NoneInside, moved}
 use Rattle.lisp_lookup.specs.Replies.{IsLeastTtl, record_of}
 use Rattle.lisp_lookup.specs.Table.{OneEach}
 use Rattle.lisp_replies.specs.Narrowing.{FitFor, NoneFitFor}
 use Rattle.lisp_replies.specs.Walk.{AreSeen, HasMoreThan, records_of}
 use Rattle.lisp_replies.proofs.SeenLaws.{seen_begins, seen_none, seen_more, seen_all, one_inside}
 
--- a prefix that another one is inside isn't one of a single address
-pub is_wider : (outer eid : PrefixValue) → is_inside outer eid ≡ true → IsPrefix eid → outer.mask_len < max_len outer.addr
-is_wider outer eid inside block =
-    let parts = and_parts (covers outer eid) (nat_lt outer.mask_len eid.mask_len) inside in
-    let has = (and_parts (nat_le outer.mask_len eid.mask_len) (holds outer eid.addr) parts.0).1 in
-    let same = addr_is (cleared eid.addr outer.mask_len) outer.addr has in
-    omega (arith, (Decides-ltb outer.mask_len eid.mask_len).0 parts.1, block.0, ap max_len same, same_family eid.addr outer.mask_len)
+-- ---- where a walk is
+
+-- what a walk that is behind a prefix shows next
+pub shows_next : {rows : List RowValue} {outer after : PrefixValue} {now : ℕ} (walk : InsideValue) (shown : Option RowValue) → walk ≡ record { rows = rows; outer = outer; moment = now; after = after } → IsNextInsideOf walk.rows walk.outer walk.after walk.moment shown → IsNextInsideOf rows outer after now shown
+shows_next walk shown is next = subst (λ (w : InsideValue). IsNextInsideOf w.rows w.outer w.after w.moment shown) is next
+
+-- and where it is then
+pub goes_behind : {rows : List RowValue} {outer after : PrefixValue} {now : ℕ} (walk : InsideValue) (h : RowValue) → walk ≡ record { rows = rows; outer = outer; moment = now; after = after } → moved walk (Some h) ≡ record { rows = rows; outer = outer; moment = now; after = h.mapping.eid }
+goes_behind walk h is = ap (λ (w : InsideValue). moved w (Some h)) is
 
 -- ---- the least TTL
 
@@ -163,3 +162,7 @@ module _ (rows : List RowValue) (best : RowValue) (eid : PrefixValue) (now ttl :
   unfit_for unfit records are =
       let same = one_least (best ∷ are.inside) are.ttl ttl are.least (known are.inside are.are) in
       ap fits_message are.is ∙ ap (λ (n : ℕ). fits_message (records_of n eid best are.inside)) same ∙ unfit are.inside are.are
+
+-- nor where more prefixes are inside than one message can carry records
+pub many_unfit : (rows : List RowValue) (best : RowValue) (eid : PrefixValue) (now : ℕ) → HasMoreThan 254 rows eid now → NoneFitFor rows eid now best
+many_unfit rows best eid now many records are = not_true (fits_message records) (λ fit. omega (arith, many are.inside are.are, (fits_is records fit).0, ap (λ (l : List MapRecordValue). length l) are.is, length-map are.inside (λ (h : RowValue). record_of are.ttl h.mapping.eid h)))

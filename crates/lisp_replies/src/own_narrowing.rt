@@ -5,7 +5,7 @@ ghost use Rattle.lisp_records.specs.Address.{covers, prefix_around};
 ghost use Rattle.lisp_replies.specs.Own.{own_inside};
 ghost use Rattle.lisp_replies.specs.OwnSteps.{own_fit, IsWidestFit, FitsNowhere};
 
-use crate::own_records::is_inside;
+use lisp_lookup::is_inside;
 use lisp_records::{MAX_RECORDS, MAX_SIZE, MapRecord, Prefix};
 use std::alloc::Allocator;
 

@@ -4,10 +4,10 @@ ghost use Rattle.std.specs.Prelude.{◌≡◌, ◌∷◌, map, IfOk, OnErr};
 ghost use Rattle.std.specs.List.{All};
 ghost use Rattle.std.specs.Option.{option_map};
 ghost use Rattle.lisp_records.specs.Address.{IsPrefix};
-ghost use Rattle.lisp_lookup.specs.Inside.{is_inside};
 ghost use Rattle.lisp_replies.specs.OwnSteps.{is_longer};
 ghost use Rattle.lisp_replies.specs.Own.{AreOwnRecords, IsLeastOwnTtl, IsLongestForOf, own_inside, own_locator, own_record};
 
+use lisp_lookup::is_inside;
 use lisp_memory::{FallibleVec, Memory};
 use lisp_records::{Addr, Locator, MapRecord, Prefix};
 use std::alloc::{AllocError, Allocator};
@@ -41,13 +41,6 @@ fn is_longer<A: Allocator>(one: Option<&MapRecord<A>>, other: &MapRecord<A>) -> 
         Some(one) => one.eid_ref().mask_len() < other.eid_ref().mask_len(),
         None => true,
     }
-}
-
-/// Whether a prefix is longer than another and lies inside it.
-pub(crate) fn is_inside(outer: &Prefix, eid: &Prefix) -> bool
-    ensures { result ≡ is_inside outer.now eid.now }
-{
-    outer.covers(eid) && outer.mask_len() < eid.mask_len()
 }
 
 /// The records for a prefix, of the longest one that covers what is asked for and of those of longer prefixes inside, as a router sends

@@ -10,7 +10,7 @@ ghost use Rattle.lisp_lookup.specs.Table.{OneEach};
 ghost use Rattle.lisp_replies.specs.Narrowing.{FitFor, NoneFitFor};
 ghost use Rattle.lisp_replies.specs.Walk.{records_of, HasMoreThan};
 
-use lisp_lookup::Table;
+use lisp_lookup::{Inside, Table};
 use lisp_memory::{FallibleVec, Memory};
 use lisp_records::{Locator, MAX_RECORDS, MAX_SIZE, MapRecord, Prefix, Row};
 use std::alloc::{AllocError, Allocator};
@@ -38,33 +38,29 @@ pub(crate) fn records_for<A: Allocator + Copy, C: Memory + Copy>(
         → eid.now.mask_len < max_len eid.now.addr) }
     ensures memory { OnErr result C.may_refuse }
 {
-    match least_ttl(table, best, eid, now) {
-        Some(ttl) => records_with(alloc, table, best, eid, ttl, now),
+    let inside = table.inside(eid, now);
+    match least_ttl(best, inside.again()) {
+        Some(ttl) => records_with(alloc, best, eid, inside, ttl),
         None => Ok(None),
     }
 }
 
-// The least TTL, in minutes, of a row and of the best rows of the longer prefixes inside `eid`; `None` where these are more than 254, so
+// The least TTL, in minutes, of a row and of the best rows of the longer prefixes inside another; `None` where these are more than 254, so
 // that one message can't carry a record of each.
-fn least_ttl<A: Allocator + Copy>(
-    table: &Table<A>,
-    best: &Row<A>,
-    eid: &Prefix,
-    now: u64,
-) -> Option<u32>
-    requires one_each { OneEach table.now.rows }
-    ensures least { IfSome result (λ ttl. (inside : List RowValue)
-        → AreInside table.now.rows eid.now now inside → IsLeastTtl (best.now ∷ inside) ttl) }
-    ensures many { result ≡ None → HasMoreThan 254 table.now.rows eid.now now }
-    ensures inner { result ≡ None → eid.now.mask_len < max_len eid.now.addr }
+fn least_ttl<A: Allocator + Copy>(best: &Row<A>, inside: Inside<'_, A>) -> Option<u32>
+    requires one_each { OneEach inside.rows }
+    requires begun { inside.after ≡ inside.outer }
+    ensures least { IfSome result (λ ttl. (rows : List RowValue)
+        → AreInside inside.entry.rows inside.entry.outer inside.entry.moment rows → IsLeastTtl (best.now ∷ rows) ttl) }
+    ensures many { result ≡ None → HasMoreThan 254 inside.entry.rows inside.entry.outer inside.entry.moment }
+    ensures inner { result ≡ None → inside.entry.outer.mask_len < max_len inside.entry.outer.addr }
 {
     let mut least = best.mapping.ttl();
-    let mut after = *eid;
+    let mut inside = inside;
     let mut count = 1;
-    while let Some(row) = table.next_inside(eid, &after, now) {
-        after = row.mapping.eid();
-        // A proof learns here that it is a block.
-        let _first = after.addr();
+    while let Some(row) = inside.next() {
+        // A proof learns here that its prefix is a block.
+        let _first = row.mapping.eid_ref().addr();
         if count == MAX_RECORDS {
             return None;
         }
@@ -74,23 +70,23 @@ fn least_ttl<A: Allocator + Copy>(
     Some(least)
 }
 
-// The records with a TTL, in minutes.
+// The records with a TTL, in minutes: that of a row for a prefix, and those of the longer ones inside.
 fn records_with<A: Allocator + Copy, C: Memory + Copy>(
     alloc: C,
-    table: &Table<A>,
     best: &Row<A>,
     eid: &Prefix,
+    inside: Inside<'_, A>,
     ttl: u32,
-    now: u64,
 ) -> Result<Option<Vec<MapRecord<C>, C>>, AllocError>
-    requires one_each { OneEach table.now.rows }
-    ensures fit { IfOk result (λ found. IfSome found (λ records. (inside : List RowValue)
-        × AreInside table.now.rows eid.now now inside
-        × (records.items ≡ records_of ttl eid.now best.now inside)
+    requires one_each { OneEach inside.rows }
+    requires begun { (inside.outer ≡ eid.now) × (inside.after ≡ eid.now) }
+    ensures fit { IfOk result (λ found. IfSome found (λ records. (rows : List RowValue)
+        × AreInside inside.entry.rows eid.now inside.entry.moment rows
+        × (records.items ≡ records_of ttl eid.now best.now rows)
         × (fits_message records.items ≡ true))) }
-    ensures unfit { IfOk result (λ found. found ≡ None → (inside : List RowValue)
-        → AreInside table.now.rows eid.now now inside
-        → fits_message (records_of ttl eid.now best.now inside) ≡ false) }
+    ensures unfit { IfOk result (λ found. found ≡ None → (rows : List RowValue)
+        → AreInside inside.entry.rows eid.now inside.entry.moment rows
+        → fits_message (records_of ttl eid.now best.now rows) ≡ false) }
     ensures inner { IfOk result (λ found. found ≡ None
         → eid.now.mask_len < max_len eid.now.addr) }
     ensures memory { OnErr result C.may_refuse }
@@ -99,14 +95,13 @@ fn records_with<A: Allocator + Copy, C: Memory + Copy>(
     let mut size = first.written_len();
     let mut records = Vec::new(alloc);
     records.try_push(first)?;
-    let mut after = *eid;
-    while let Some(row) = table.next_inside(eid, &after, now) {
+    let mut inside = inside;
+    while let Some(row) = inside.next() {
         let record = record_of(alloc, ttl, row.mapping.eid_ref(), row)?;
         size += record.written_len();
         if records.len() == MAX_RECORDS || size > MAX_SIZE {
             return Ok(None);
         }
-        after = record.eid();
         records.try_push(record)?;
     }
     Ok(Some(records))

@@ -1,11 +1,11 @@
 -- The longer prefixes inside a prefix.
-use Rattle.std.proofs.Common.{[], arith, false, true, refl, sym, ap, ◌∙◌, true≢false, Equal, Greater, Less, ℕ, ◌≢◌, ◌∷◌, ◌≡◌}
+use Rattle.std.proofs.Common.{[], None, Some, arith, false, true, refl, sym, ap, ◌∙◌, true≢false, Equal, Greater, Less, ℕ, ◌≢◌, ◌∷◌, ◌≡◌}
 use Rattle.std.proofs.lemmas.List.Elements.{All-cons, All-nil}
 use Rattle.std.proofs.lemmas.List.Kept.{AllPairs-cons}
 use Rattle.std.specs.List.{AllPairs, Contains}
 use Rattle.lisp_records.specs.Address.{PrefixValue, masked, prefix_cmp, prefix_eq}
 use Rattle.lisp_records.specs.Row.{RowValue}
-use Rattle.lisp_lookup.specs.Inside.{AreInside, IsBestOfOwn, IsNextInside, NoneInside, is_inside, is_live_inside, later}
+use Rattle.lisp_lookup.specs.Inside.{AreInside, InsideValue, IsBestOfOwn, IsNextInside, NoneInside, is_inside, is_live_inside, moved}
 use Rattle.lisp_lookup.proofs.Examples.Rows.{best_of_own, block, dead, each, four, in_eight, in_first, in_second, in_sixteen, newer, no}
 
 abbrev sixteen : PrefixValue
@@ -106,12 +106,15 @@ second_skips_first next = next.first in_first (2, omega arith, refl) refl refl r
 first_comes_again : IsNextInside four sixteen (block 10 1 1 0 24) 0 in_first → ⊥
 first_comes_again next = absurd (let clash : Equal ≡ Less = next.behind in cc)
 
--- one goes on from the later of two prefixes
-goes_on : later sixteen (block 10 1 1 0 24) ≡ block 10 1 1 0 24
+-- a walk goes on behind the row that it showed, and stays behind the last
+abbrev behind : PrefixValue → InsideValue
+behind after = record { rows = four; outer = sixteen; moment = 0; after = after }
+
+goes_on : moved (behind sixteen) (Some in_first) ≡ behind (block 10 1 1 0 24)
 goes_on = refl
 
-begins : later sixteen (block 10 0 0 0 8) ≡ sixteen
-begins = refl
+stays : moved (behind (block 10 1 2 0 24)) None ≡ behind (block 10 1 2 0 24)
+stays = refl
 
 -- of two routers' rows of one prefix the best is there, and no dead row is
 newer_inside : IsNextInside (in_first ∷ newer in_first ∷ []) sixteen sixteen 0 (newer in_first)

@@ -14,7 +14,7 @@ pub loop-place-preserved : goal.loop-place-preserved
 loop-place-preserved g c =
     let lt : c.loop-place.place < length c.args.by_prefix.now.items = omega (arith, c.loop-place-test.true, c.args.by_prefix.now.ok.0) in
     let known = row_read row_prefix_cmp c.args.rows.now c.args.by_prefix.now.items c.loop-place.place c.index.result.now c.index-rows-index.result c.requires.index.rises lt c.index.ensures c.index-rows-index.is in
-    one_more c.args.rows.now c.args.by_prefix.now.items (is_live_in c.args.eid.now c.args.now) c.args.eid.now c.args.eid.now c.place-first.result (in_run c.args.rows.now c.args.by_prefix.now.items c.args.eid.now c.args.now c.place-first.result c.requires.index c.place-first.ensures.bound)
+    one_more c.args.rows.now c.args.by_prefix.now.items (is_live_in c.args.eid.now c.args.now) c.args.eid.now c.place-first.result (in_run c.args.rows.now c.args.by_prefix.now.items c.args.eid.now c.args.now c.place-first.result c.requires.index c.place-first.ensures.bound)
     c.loop-place.place c.index-rows-index.result known (sym c.is_live_in.ensures ∙ c.if-is_live_in.false) c.loop-place.invariant
 
 pub returns-then-not-contains : goal.returns-then-not-contains
@@ -24,7 +24,7 @@ returns-then-not-contains g c =
     let own = c.eid_ref.ensures ∙ ap (λ (h : RowValue). h.mapping.eid) c.row.view_is in
     let whole = subst (λ (b : PrefixValue). IsWhole b.addr) own c.addr-addr.ensures.whole in
     let outside = ap (λ (b : PrefixValue). holds c.args.eid.now b.addr) (sym own) ∙ ap (holds c.args.eid.now) (sym c.addr-addr.ensures.addr) ∙ sym c.contains.ensures.test ∙ c.if-not-contains.true in
-    let none = stopped c.args.rows.now c.args.by_prefix.now.items (is_live_in c.args.eid.now c.args.now) c.args.eid.now c.args.eid.now c.place-first.result (in_run c.args.rows.now c.args.by_prefix.now.items c.args.eid.now c.args.now c.place-first.result c.requires.index c.place-first.ensures.bound)
+    let none = stopped c.args.rows.now c.args.by_prefix.now.items (is_live_in c.args.eid.now c.args.now) c.args.eid.now c.place-first.result (in_run c.args.rows.now c.args.by_prefix.now.items c.args.eid.now c.args.now c.place-first.result c.requires.index c.place-first.ensures.bound)
     c.addr-first.ensures.whole c.loop-place.place c.index-rows-index.result c.loop-place.auto.place lt known whole outside c.loop-place.invariant in
     (λ is. empty_in c.args.rows.now c.args.eid.now c.args.now none, λ empty. refl)
 
@@ -38,6 +38,6 @@ returns-then-is_live_in g c =
 pub returns : goal.returns
 returns g c =
     let all : length c.args.by_prefix.now.items ≤ c.loop-place.place = omega (arith, c.loop-place-test.false, c.len-place-end.ensures, c.args.by_prefix.now.ok.0) in
-    let none = none_sought c.args.rows.now c.args.by_prefix.now.items (is_live_in c.args.eid.now c.args.now) c.args.eid.now c.args.eid.now c.place-first.result (in_run c.args.rows.now c.args.by_prefix.now.items c.args.eid.now c.args.now c.place-first.result c.requires.index c.place-first.ensures.bound)
+    let none = none_sought c.args.rows.now c.args.by_prefix.now.items (is_live_in c.args.eid.now c.args.now) c.args.eid.now c.place-first.result (in_run c.args.rows.now c.args.by_prefix.now.items c.args.eid.now c.args.now c.place-first.result c.requires.index c.place-first.ensures.bound)
     (λ k d low lt. c.loop-place.invariant k d low (omega (arith, all, lt))) in
     (λ is. empty_in c.args.rows.now c.args.eid.now c.args.now none, λ empty. refl)

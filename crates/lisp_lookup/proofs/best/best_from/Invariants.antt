@@ -4,7 +4,7 @@ use Rattle.lisp_records.specs.Row.{RowValue}
 use Rattle.lisp_lookup.specs.Index.{row_at_place}
 use Rattle.lisp_lookup.proofs.AnswerLaws.{BestIn}
 use Rattle.lisp_lookup.proofs.BestLaws.{Seen}
-use Rattle.lisp_lookup.proofs.best.best_of.Given as goal
+use Rattle.lisp_lookup.proofs.best.best_from.Given as goal
 
 abbrev pub invariant-loop-place : goal.invariant-loop-place
 invariant-loop-place g l = record {
