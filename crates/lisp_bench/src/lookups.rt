@@ -10,6 +10,9 @@ use std::rt::Clock;
 /// How often each is called.
 const CALLS: u32 = 20_000;
 
+/// How many rounds of so many calls are compared: the shortest one of each server counts.
+const ROUNDS: u32 = 40;
+
 /// The address of the first row, a host: the longest prefix is the first that is sought.
 const HOST: Addr = Addr::V4([10, 0, 0, 0]);
 
@@ -34,18 +37,29 @@ static NAMES: [(&str, Call); 5] = [
     ("expire of nothing", Call::Expire),
 ];
 
-/// Prints how long each call takes at a server that holds so many rows, and answers how many nanoseconds all those of a Map-Reply of
-/// one record took; `None` where anything fails.
-pub(crate) fn measure<R: Print + Clock>(rt: &R, server: &mut Server, held: u32) -> Option<u128> {
-    let mut of_record = 0;
+/// Prints how long each call takes at a server that holds so many rows; `None` where anything fails.
+pub(crate) fn measure<R: Print + Clock>(rt: &R, server: &mut Server, held: u32) -> Option<()> {
     for (name, call) in &NAMES {
         let nanos = nanos(rt, server, *call)?;
         print_mean(rt, held, name, nanos / u128::from(CALLS))?;
-        if let Call::Record = call {
-            of_record = nanos;
-        }
     }
-    Some(of_record)
+    Some(())
+}
+
+/// Prints how many times as long a Map-Reply of one record takes at a server of many rows as at one of few: their rounds take turns, so
+/// that both see the same changes of the machine's speed.
+pub(crate) fn compare<R: Print + Clock>(rt: &R, few: &mut Server, many: &mut Server) -> Option<()> {
+    let (mut short, mut long) = (u128::MAX, u128::MAX);
+    for _ in 0..ROUNDS {
+        short = short.min(nanos(rt, few, Call::Record)?);
+        long = long.min(nanos(rt, many, Call::Record)?);
+    }
+    let hundredths = long.saturating_mul(100) / short.max(1);
+    let (whole, rest) = (hundredths / 100, hundredths % 100);
+    let (few, many) = (short / u128::from(CALLS), long / u128::from(CALLS));
+    println!(rt;
+        "a Map-Reply of one record: {few} ns with few rows, {many} ns with many, {whole}.{rest:02} times as long"
+    ).ok()
 }
 
 fn print_mean<R: Print>(rt: &R, held: u32, name: &str, mean: u128) -> Option<()> {

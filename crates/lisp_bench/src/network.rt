@@ -1,13 +1,13 @@
 //! Registrations and lookups at a Map-Server whose store lies in memory.
 
 use crate::lookups;
-use crate::registers::{empty_register, host_records};
+use crate::registers::{empty_register, host_records, reached_host};
 use crate::stopwatch::Stopwatch;
 use lisp_hmac::Key;
 use lisp_messages::{MapRegister, write_register_under};
 use lisp_nonces::{MemoryStore, NonceStore};
 use lisp_policy::Sites;
-use lisp_records::{Addr, Prefix};
+use lisp_records::{Addr, Prefix, Records};
 use lisp_server::Server;
 use std::alloc::{AllocError, Global};
 use std::rt::Clock;
@@ -91,18 +91,19 @@ impl Network {
     }
 
     fn measure<R: Print + Clock>(&mut self, rt: &R) -> Option<()> {
-        self.register(0, FEW)?;
-        let with_few = lookups::measure(rt, &mut self.server, FEW)?;
         let mut before = 0;
         for held in &HELD {
             self.fill(before, *held)?;
             before = *held;
             self.measure_registrations(rt, *held)?;
             let rows = before.max(MOST_RECORDS);
-            let nanos = lookups::measure(rt, &mut self.server, rows)?;
-            print_ratio(rt, rows, nanos, with_few)?;
+            lookups::measure(rt, &mut self.server, rows)?;
         }
-        Some(())
+        let mut few = Network::new(self.alloc).ok()?;
+        few.register(0, FEW)?;
+        few.reach_host()?;
+        self.reach_host()?;
+        lookups::compare(rt, &mut few.server, &mut self.server)
     }
 
     fn measure_registrations<R: Print + Clock>(&mut self, rt: &R, held: u32) -> Option<()> {
@@ -128,15 +129,25 @@ impl Network {
         if self.is_accepted() { Some(()) } else { None }
     }
 
+    // Registers the first host anew, with a locator.
+    fn reach_host(&mut self) -> Option<()> {
+        self.name(reached_host(self.alloc)?)?;
+        self.write()?;
+        if self.is_accepted() { Some(()) } else { None }
+    }
+
     // The next Map-Registers have a record for each of so many host prefixes from one on.
     fn name_hosts(&mut self, first: u32, count: u32) -> Option<()> {
-        match host_records(self.alloc, first, count) {
-            Ok(records) if records.as_slice().len() < 256 => {
-                self.register.records = records;
-                Some(())
-            }
-            _ => None,
+        self.name(host_records(self.alloc, first, count).ok()?)
+    }
+
+    // The next Map-Registers have these records; `None` where they are more than 255.
+    fn name(&mut self, records: Records) -> Option<()> {
+        if records.as_slice().len() >= 256 {
+            return None;
         }
+        self.register.records = records;
+        Some(())
     }
 
     // Writes a Map-Register with the next nonce.
@@ -203,15 +214,6 @@ fn print_means<R: Print>(
 ) -> Option<()> {
     println!(rt;
         "{held} rows held, {records} records: {mean} ns, their two tags alone {tags} ns, the mean of {calls} calls"
-    ).ok()
-}
-
-// Prints how much longer a Map-Reply takes than with few rows.
-fn print_ratio<R: Print>(rt: &R, held: u32, nanos: u128, with_few: u128) -> Option<()> {
-    let hundredths = nanos.saturating_mul(100) / with_few.max(1);
-    let (whole, rest) = (hundredths / 100, hundredths % 100);
-    println!(rt;
-        "{held} rows held: a Map-Reply of one record takes {whole}.{rest:02} times as long as with {FEW} rows"
     ).ok()
 }
 

@@ -1,8 +1,20 @@
 //! Map-Registers.
 
 use lisp_messages::MapRegister;
-use lisp_records::{Addr, MapRecord, Prefix, Records};
+use lisp_records::{Addr, Locator, MapRecord, Prefix, Records};
 use std::alloc::{AllocError, Global};
+
+/// Where a host is reached.
+const LOCATOR: Locator = Locator {
+    priority: 1,
+    weight: 100,
+    m_priority: 255,
+    m_weight: 0,
+    local: true,
+    probe: false,
+    reachable: true,
+    addr: Addr::V4([192, 0, 2, 1]),
+};
 
 /// A Map-Register with no record.
 pub(crate) fn empty_register(alloc: Global) -> MapRegister {
@@ -28,6 +40,19 @@ pub(crate) fn host_records(alloc: Global, first: u32, count: u32) -> Result<Reco
         records.push(host_record(alloc, first.wrapping_add(place)))?;
     }
     Ok(Records::from_vec(records))
+}
+
+/// A record of the first of these hosts with one locator, so that the reply for it is a positive one (RFC 9301 section 5.4); `None` where
+/// memory runs out.
+pub(crate) fn reached_host(alloc: Global) -> Option<Records> {
+    let mut locators = Vec::new(alloc);
+    locators.push(LOCATOR).ok()?;
+    let eid = Prefix::new(Addr::V4([10, 0, 0, 0]), 32).unwrap();
+    let mut records = Vec::new(alloc);
+    records
+        .push(MapRecord::new(1440, 0, true, 0, eid, locators)?)
+        .ok()?;
+    Some(Records::from_vec(records))
 }
 
 // A record of the host with a number in 10.0.0.0/8.
