@@ -1,0 +1,4 @@
+pub mod FaultLaws
+pub mod SendsLaws
+pub mod ListedLaws
+pub mod Examples
