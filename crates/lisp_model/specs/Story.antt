@@ -77,9 +77,9 @@ site = record { id = 1; keys = record { id = 1; secret = secret } ∷ []; prefix
 abbrev pub network : ConfigValue
 network = record {
   sites = site ∷ [];
-  servers = record { name = 1 ∷ []; address = local_at 11 } ∷ record { name = 2 ∷ []; address = local_at 12 } ∷ [];
-  routers = record { name = 3 ∷ []; address = local_at 21; me = one; key_id = 1; servers = 0 ∷ 1 ∷ []; proxy = true; use_ttl = false; nonce_block = 1; database = mapping wide 1440 ∷ [] }
-      ∷ record { name = 4 ∷ []; address = local_at 22; me = two; key_id = 1; servers = 0 ∷ []; proxy = false; use_ttl = false; nonce_block = 1; database = mapping narrow 1440 ∷ [] } ∷ [];
+  servers = record { name = 1 ∷ []; address = local_at 11; resolve = [] } ∷ record { name = 2 ∷ []; address = local_at 12; resolve = [] } ∷ [];
+  routers = record { name = 3 ∷ []; address = local_at 21; me = one; key_id = 1; servers = 0 ∷ 1 ∷ []; proxy = true; use_ttl = false; nonce_block = 1; database = mapping wide 1440 ∷ []; resolve = [] }
+      ∷ record { name = 4 ∷ []; address = local_at 22; me = two; key_id = 1; servers = 0 ∷ []; proxy = false; use_ttl = false; nonce_block = 1; database = mapping narrow 1440 ∷ []; resolve = [] } ∷ [];
 }
 
 -- stores that keep nothing, and do as they like

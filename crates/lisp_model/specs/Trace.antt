@@ -73,7 +73,7 @@ node_at c address = position (λ a. addr_eq a address) (addresses c)
 
 -- the router with a number; where there is none, one that registers nothing with nobody
 abbrev pub router_at : ConfigValue → ℕ → RouterEntryValue
-router_at c node = slice_index_or c.routers (node - length c.servers) (record { name = []; address = V4 []; me = record { site = 0; xtr = [] }; key_id = 0; servers = []; proxy = false; use_ttl = false; nonce_block = 1; database = [] })
+router_at c node = slice_index_or c.routers (node - length c.servers) (record { name = []; address = V4 []; me = record { site = 0; xtr = [] }; key_id = 0; servers = []; proxy = false; use_ttl = false; nonce_block = 1; database = []; resolve = [] })
 
 -- the secret of a key of a site
 abbrev pub secret_at : List SiteValue → ℕ → ℕ → List ℕ

@@ -6,7 +6,7 @@ use Rattle.std.specs.Int.{is_in_range}
 use Rattle.std.specs.List.{AllByRecursion, AllPairs, list_all}
 use Rattle.lisp_records.specs.declared.address.Addr.{Addr}
 use Rattle.lisp_records.specs.declared.router.RouterId.{RouterId}
-use Rattle.lisp_records.specs.Address.{IsPrefix, IsWhole}
+use Rattle.lisp_records.specs.Address.{PrefixValue, IsPrefix, IsWhole}
 use Rattle.lisp_records.specs.Record.{MapRecordValue, IsMapRecord}
 use Rattle.lisp_records.specs.Database.{database_of}
 use Rattle.lisp_policy.specs.declared.site.SitePrefix.{SitePrefix}
@@ -19,13 +19,15 @@ is_name_letter c = is_in_range 97 122 c || is_ascii_digit c || (c == 45)
 abbrev pub is_name : List ℕ → Bool
 is_name text = nat_le 1 (length text) && nat_le (length text) 32 && list_all is_name_letter text
 
--- a Map-Server
+-- a Map-Server, and the prefixes of the ITR-RLOCs that it replies to (RFC 9301 section 8.3)
 pub record ServerEntryValue : Type 0 where
   pub name : List ℕ
   pub address : Addr
+  pub resolve : List PrefixValue
 
 -- a site router: who it is, the key that it uses, the places of its Map-Servers, what it asks for
--- (bits P and T), how many nonces one save serves, and what it registers
+-- (bits P and T), how many nonces one save serves, what it registers, and the prefixes of the
+-- ITR-RLOCs that it replies to
 pub record RouterEntryValue : Type 0 where
   pub name : List ℕ
   pub address : Addr
@@ -36,6 +38,7 @@ pub record RouterEntryValue : Type 0 where
   pub use_ttl : Bool
   pub nonce_block : ℕ
   pub database : List MapRecordValue
+  pub resolve : List PrefixValue
 
 pub record ConfigValue : Type 0 where
   pub sites : List SiteValue

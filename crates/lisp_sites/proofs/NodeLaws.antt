@@ -13,8 +13,8 @@ use Rattle.lisp_policy.specs.Site.{SiteValue}
 use Rattle.lisp_policy.specs.Configuration.{ServerEntryValue, RouterEntryValue, ConfigValue, IsServerEntry, IsRouterEntry}
 use Rattle.lisp_policy.specs.Configuration.{is_name}
 use Rattle.lisp_sites.specs.Form.{name_of, text_as}
-use Rattle.lisp_sites.specs.Table.{required, items, as_entry, each, flat, has_server, fresh_server_name, server_at, servers_of, has_router, fresh_router_name, router_node, router_identity, places_of, router_flags, router_nonce_block, database_at, router_at}
-use Rattle.lisp_sites.proofs.Readings.{same_ok, bind_ok, bind_told, one_flat, required_text-Ok, fresh-Ok}
+use Rattle.lisp_sites.specs.Table.{required, items, as_entry, each, has_server, fresh_server_name, resolve_of, server_at, servers_of, has_router, fresh_router_name, router_node, router_identity, places_of, router_flags, router_nonce_block, database_at, router_at}
+use Rattle.lisp_sites.proofs.Readings.{same_ok, bind_ok, bind_told, required_text-Ok, fresh-Ok}
 use Rattle.lisp_sites.proofs.Forms.{name_fits}
 use Rattle.lisp_sites.proofs.TextFits.{address_fits}
 use Rattle.lisp_sites.proofs.Names.{list_any-map, AreNamed, TakesName, each_named}
@@ -25,21 +25,22 @@ use Rattle.lisp_sites.proofs.RouterParts.{is_identity, places_apart, few_nonces,
 one_server : (before : List ServerEntryValue) (d : Data) (s : ServerEntryValue) → server_at before d ≡ Ok s → TakesName IsServerEntry (λ s. s.name) [] before s
 unfolding server_at
 one_server before d s e =
-    let entry = bind_ok (as_entry fields.Server d) _ s e in
-    let name = bind_ok (fresh_server_name before entry.0) _ s entry.2 in
-    let address = bind_ok (required fields.ServerAddress (codes "address") (text_as address_of) entry.0) _ s name.2 in
+    let entry = bind_told (as_entry fields.Server d) _ s e in
+    let name = bind_told (fresh_server_name before entry.0) _ s entry.2 in
+    let address = bind_told (required fields.ServerAddress (codes "address") (text_as address_of) entry.0) _ s name.2 in
+    let resolve = bind_ok (resolve_of fields.ServerResolve entry.0) _ s address.2 in
     let new = fresh-Ok fields.ServerName (required fields.ServerName (codes "name") (text_as name_of) entry.0) (has_server before) name.0 name.1 in
     let text = required_text-Ok fields.ServerName (codes "name") name_of entry.0 name.0 new.0 in
     let place = required_text-Ok fields.ServerAddress (codes "address") address_of entry.0 address.0 address.1 in
-    subst (TakesName IsServerEntry (λ s. s.name) [] before) (same_ok (record { name = name.0; address = address.0 }) s address.2) (record {
+    subst (TakesName IsServerEntry (λ s. s.name) [] before) (same_ok (record { name = name.0; address = address.0; resolve = resolve.0 }) s resolve.2) (record {
       kind = record { name = name_fits text.0 name.0 text.1; address = address_fits place.0 address.0 place.1 };
       new = list_any-map (λ n. bytes_eq n name.0) (λ s. s.name) before ∙ new.1;
     })
 
 pub servers_named : (d : Data) (servers : List ServerEntryValue) → servers_of d ≡ Ok servers → AreNamed IsServerEntry (λ s. s.name) [] servers
 servers_named d servers e =
-    let entries = bind_told (items fields.Server (codes "server") d) (each fields.Server (flat server_at) [] 1) servers e in
-    each_named IsServerEntry (λ s. s.name) [] fields.Server (flat server_at) (one_flat server_at one_server) (λ i j d lt within. absurd (omega arith)) entries.0 servers entries.2
+    let entries = bind_told (items fields.Server (codes "server") d) (each fields.Server server_at [] 1) servers e in
+    each_named IsServerEntry (λ s. s.name) [] fields.Server server_at one_server (λ i j d lt within. absurd (omega arith)) entries.0 servers entries.2
 
 -- no server before has the name of one that is read
 pub server_is_new : (before : List ServerEntryValue) (d : Data) (s : ServerEntryValue) → server_at before d ≡ Ok s → list_any (λ x. bytes_eq x.name s.name) before ≡ false
@@ -78,12 +79,13 @@ module _ (c : ConfigValue) where
       let flags = bind_told (router_flags d) _ r places.2 in
       let block = bind_told (router_nonce_block d) _ r flags.2 in
       let database = bind_ok (database_at d) _ r block.2 in
+      let resolve = bind_ok (resolve_of fields.RouterResolve d) _ r database.2 in
       let named = is_node c.servers before d node.0 node.1 in
       let known = is_identity c.sites d identity.0 identity.1 in
       let listed = places_apart c.servers d places.0 places.1 in
       let few = few_nonces d block.0 block.1 in
       let kept = is_database d database.0 database.1 in
-      subst (TakesName (IsRouterEntry c) (λ r. r.name) (map (λ s. s.name) c.servers) before) (same_ok _ r database.2) (record {
+      subst (TakesName (IsRouterEntry c) (λ r. r.name) (map (λ s. s.name) c.servers) before) (same_ok _ r resolve.2) (record {
         kind = record {
           name = named.name;
           address = named.address;

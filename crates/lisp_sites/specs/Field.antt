@@ -17,6 +17,7 @@ field_name fields.SitePrefixMoreSpecifics = codes "site.prefix.more_specifics"
 field_name fields.Server = codes "server"
 field_name fields.ServerName = codes "server.name"
 field_name fields.ServerAddress = codes "server.address"
+field_name fields.ServerResolve = codes "server.resolve"
 field_name fields.Router = codes "router"
 field_name fields.RouterName = codes "router.name"
 field_name fields.RouterAddress = codes "router.address"
@@ -28,6 +29,7 @@ field_name fields.RouterProxy = codes "router.proxy"
 field_name fields.RouterUseTtl = codes "router.use_ttl"
 field_name fields.RouterNonceBlock = codes "router.nonce_block"
 field_name fields.RouterRecords = codes "router.records"
+field_name fields.RouterResolve = codes "router.resolve"
 
 abbrev pub fault_number : ConfigFault → ℕ
 fault_number Toml = 20

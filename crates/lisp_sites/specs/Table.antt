@@ -134,19 +134,27 @@ site_at before d = do
   prefixes ← prefixes_of entry
   Ok (record { id = id; keys = keys; prefixes = prefixes })
 
--- server: name, no two nodes alike; address
+-- resolve: prefixes of ITR-RLOCs
+abbrev pub resolve_at : Field → List PrefixValue → Data → Result PrefixValue ConfigFault
+resolve_at name before d = ok_or (text_as prefix_of d) (BadValue name)
+
+abbrev pub resolve_of : Field → Data → Result (List PrefixValue) PlacedFault
+resolve_of name entry = each_item name (codes "resolve") (flat (resolve_at name)) [] entry
+
+-- server: name, no two nodes alike; address; resolve
 abbrev pub has_server : List ServerEntryValue → List ℕ → Bool
 has_server servers name = list_any (λ s. bytes_eq s.name name) servers
 
 abbrev pub fresh_server_name : List ServerEntryValue → Data → Result (List ℕ) ConfigFault
 fresh_server_name before d = required fields.ServerName (codes "name") (text_as name_of) d >>= λ name. fresh fields.ServerName (has_server before name) name
 
-unfoldable pub server_at : List ServerEntryValue → Data → Result ServerEntryValue ConfigFault
+unfoldable pub server_at : List ServerEntryValue → Data → Result ServerEntryValue PlacedFault
 server_at before d = do
-  entry ← as_entry fields.Server d
-  name ← fresh_server_name before entry
-  address ← required fields.ServerAddress (codes "address") (text_as address_of) entry
-  Ok (record { name = name; address = address })
+  entry ← placed_nowhere (as_entry fields.Server d)
+  name ← placed_nowhere (fresh_server_name before entry)
+  address ← placed_nowhere (required fields.ServerAddress (codes "address") (text_as address_of) entry)
+  resolve ← resolve_of fields.ServerResolve entry
+  Ok (record { name = name; address = address; resolve = resolve })
 
 -- router: name, no two nodes alike; address
 abbrev pub has_router : List RouterEntryValue → List ℕ → Bool
@@ -221,6 +229,7 @@ router_at sites servers before d = do
   flags ← placed_nowhere (router_flags d)
   nonce_block ← placed_nowhere (router_nonce_block d)
   database ← database_at d
+  resolve ← resolve_of fields.RouterResolve d
   Ok (record {
     name = node.0;
     address = node.1;
@@ -231,6 +240,7 @@ router_at sites servers before d = do
     use_ttl = flags.1;
     nonce_block = nonce_block;
     database = database;
+    resolve = resolve;
   })
 
 -- the whole document: sites, then servers, then routers
@@ -238,7 +248,7 @@ abbrev pub sites_of : Data → Result (List SiteValue) PlacedFault
 sites_of d = each_item fields.Site (codes "site") site_at [] d
 
 abbrev pub servers_of : Data → Result (List ServerEntryValue) PlacedFault
-servers_of d = each_item fields.Server (codes "server") (flat server_at) [] d
+servers_of d = each_item fields.Server (codes "server") server_at [] d
 
 abbrev pub routers_of : List SiteValue → List ServerEntryValue → Data → Result (List RouterEntryValue) PlacedFault
 routers_of sites servers d = each_item fields.Router (codes "router") (router_at sites servers) [] d

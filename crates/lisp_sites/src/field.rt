@@ -19,6 +19,7 @@ pub enum Field {
     Server,
     ServerName,
     ServerAddress,
+    ServerResolve,
     Router,
     RouterName,
     RouterAddress,
@@ -30,6 +31,7 @@ pub enum Field {
     RouterUseTtl,
     RouterNonceBlock,
     RouterRecords,
+    RouterResolve,
 }
 
 impl Field {
@@ -50,6 +52,7 @@ impl Field {
             Field::Server => "server",
             Field::ServerName => "server.name",
             Field::ServerAddress => "server.address",
+            Field::ServerResolve => "server.resolve",
             Field::Router => "router",
             Field::RouterName => "router.name",
             Field::RouterAddress => "router.address",
@@ -61,6 +64,7 @@ impl Field {
             Field::RouterUseTtl => "router.use_ttl",
             Field::RouterNonceBlock => "router.nonce_block",
             Field::RouterRecords => "router.records",
+            Field::RouterResolve => "router.resolve",
         }
     }
 

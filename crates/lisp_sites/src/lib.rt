@@ -24,6 +24,7 @@ mod node;
 mod nodes;
 mod numbers;
 mod place;
+mod resolve;
 mod router;
 mod server;
 mod site_entries;

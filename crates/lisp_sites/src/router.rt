@@ -15,11 +15,12 @@ use crate::keyed::Keyed;
 use crate::name::Name;
 use crate::nodes::{Named, Nodes};
 use crate::place::PlacedFault;
+use crate::resolve::read_resolve;
 use crate::server::ServerEntry;
 use crate::value::{array, byte, check_table, flag, name, nonce_block, text_as};
 use lisp_memory::{FallibleString, FallibleVec, Memory};
 use lisp_policy::{Places, Site, Sites};
-use lisp_records::{Addr, Database, MapRecord, RouterId};
+use lisp_records::{Addr, Database, MapRecord, Prefix, RouterId};
 use lisp_texts::record_from_text;
 use std::alloc::{Allocator, Global};
 use std::marker::Model;
@@ -46,6 +47,8 @@ pub struct RouterEntry<A: Allocator = Global> {
     pub nonce_block: u16,
     /// What it registers when it starts.
     pub database: Database<A>,
+    /// The prefixes of the ITR-RLOCs that it replies to (RFC 9301 section 5.5); none: it takes no Map-Request.
+    pub resolve: Vec<Prefix, A>,
 }
 
 impl<A: Allocator> Model for RouterEntry<A> {
@@ -53,7 +56,7 @@ impl<A: Allocator> Model for RouterEntry<A> {
 
     ghost Value = { RouterEntryValue };
 
-    ghost view = { λ r. record { name = r.name; address = r.address; me = r.me; key_id = r.key_id; servers = r.servers; proxy = r.proxy; use_ttl = r.use_ttl; nonce_block = r.nonce_block; database = r.database } };
+    ghost view = { λ r. record { name = r.name; address = r.address; me = r.me; key_id = r.key_id; servers = r.servers; proxy = r.proxy; use_ttl = r.use_ttl; nonce_block = r.nonce_block; database = r.database; resolve = r.resolve.items } };
 }
 
 impl<A: Allocator> Named for RouterEntry<A> {
@@ -118,6 +121,7 @@ fn read_router<A: Memory + Copy>(
     let (proxy, use_ttl) = read_flags(entry)?;
     let nonce_block = nonce_block(entry, "nonce_block", Field::RouterNonceBlock)?;
     let database = read_database(alloc, entry)?;
+    let resolve = read_resolve(alloc, entry, Field::RouterResolve)?;
     Ok(RouterEntry {
         name,
         address,
@@ -128,6 +132,7 @@ fn read_router<A: Memory + Copy>(
         use_ttl,
         nonce_block,
         database,
+        resolve,
     })
 }
 

@@ -3,7 +3,7 @@
 ghost use Rattle.std.specs.Prelude.{◌≡◌, [], IfErr, IsErrOf};
 ghost use Rattle.toml.specs.View.{view, items_view};
 ghost use Rattle.lisp_records.specs.Result.{Reads};
-ghost use Rattle.lisp_sites.specs.Table.{Gives, GivesAt, flat, server_at, servers_of};
+ghost use Rattle.lisp_sites.specs.Table.{GivesAt, server_at, servers_of};
 ghost use Rattle.lisp_sites.specs.declared.fault.ConfigFault.TheVariants.{OutOfMemory};
 
 use crate::entries::{Entries, read_tables};
@@ -12,9 +12,10 @@ use crate::field::Field;
 use crate::name::Name;
 use crate::nodes::{Named, Nodes};
 use crate::place::PlacedFault;
+use crate::resolve::read_resolve;
 use crate::value::{check_table, name, text_as};
 use lisp_memory::{FallibleString, Memory};
-use lisp_records::Addr;
+use lisp_records::{Addr, Prefix};
 use std::alloc::{Allocator, Global};
 use std::marker::Model;
 use toml::Value;
@@ -26,6 +27,8 @@ pub struct ServerEntry<A: Allocator = Global> {
     pub name: Name<A>,
     /// Where it receives.
     pub address: Addr,
+    /// The prefixes of the ITR-RLOCs that it replies to (RFC 9301 section 8.3); none: it takes no Map-Request.
+    pub resolve: Vec<Prefix, A>,
 }
 
 impl<A: Allocator> Model for ServerEntry<A> {
@@ -33,7 +36,7 @@ impl<A: Allocator> Model for ServerEntry<A> {
 
     ghost Value = { ServerEntryValue };
 
-    ghost view = { λ s. record { name = s.name; address = s.address } };
+    ghost view = { λ s. record { name = s.name; address = s.address; resolve = s.resolve.items } };
 }
 
 impl<A: Allocator> Named for ServerEntry<A> {
@@ -65,7 +68,7 @@ impl<A: Memory + Copy> Entries for Nodes<ServerEntry<A>, A> {
 
     ghost may_refuse = { A.may_refuse };
 
-    ghost read = { λ _. flat server_at };
+    ghost read = { λ _. server_at };
 
     fn read_next(&mut self, alloc: &A, entry: &Value) -> Result<(), PlacedFault> {
         let server = read_server(*alloc, entry, self)?;
@@ -79,16 +82,21 @@ fn read_server<A: Memory + Copy>(
     alloc: A,
     entry: &Value,
     before: &Nodes<ServerEntry<A>, A>,
-) -> Result<ServerEntry<A>, ConfigFault>
-    ensures gives { Gives (λ s. s) result (server_at before.now (view entry.now)) }
-    ensures memory { IsErrOf result OutOfMemory → A.may_refuse }
+) -> Result<ServerEntry<A>, PlacedFault>
+    ensures gives { GivesAt (λ s. s) result (server_at before.now (view entry.now)) }
+    ensures memory { IfErr result (λ f. f.fault ≡ OutOfMemory → A.may_refuse) }
 {
     check_table(entry, Field::Server)?;
     let name = name(entry, "name", Field::ServerName)?;
     if before.has(name) {
-        return Err(ConfigFault::Repeated(Field::ServerName));
+        return Err(PlacedFault::from(ConfigFault::Repeated(Field::ServerName)));
     }
     let address = text_as(entry, "address", Field::ServerAddress)?;
     let name = Name::from_string(String::try_from_str(alloc, name)?);
-    Ok(ServerEntry { name, address })
+    let resolve = read_resolve(alloc, entry, Field::ServerResolve)?;
+    Ok(ServerEntry {
+        name,
+        address,
+        resolve,
+    })
 }
