@@ -9,7 +9,7 @@ use Rattle.lisp_policy.specs.Configuration.{ConfigValue}
 use Rattle.lisp_model.specs.Trace.{addresses}
 use Rattle.lisp_check.specs.declared.warning.Warning.{Warning}
 use Rattle.lisp_check.specs.declared.warning.Warning.TheVariants.{NoUnicast, SameAddress}
-use Rattle.lisp_check.specs.Warning.{IsWarned, IsFirstAt, IsFirstAlike, is_no_unicast, of_node}
+use Rattle.lisp_check.specs.Warning.{IsWarned, IsFirstAt, IsFirstAlike, is_no_unicast, of_address}
 use Rattle.lisp_check.specs.Adding.{AddsThose, AddsOfAddresses, given_if}
 use Rattle.lisp_check.proofs.Added.{adds_both, adds_if, those_first}
 
@@ -24,7 +24,7 @@ module _ (c : ConfigValue) (node first : ℕ) (a b d : List Warning) (unicast : 
     (one : b ≡ a ++ given_if unicast (NoUnicast node))
     (other : d ≡ b ++ given_if (not (nat_eq first node)) (SameAddress first node))
   where
-    adds_here : AddsThose c (of_node (length (addresses c)) node) a d
+    adds_here : AddsThose c (of_address (length (addresses c)) node) a d
     adds_here = adds_both c (NoUnicast node ∷ []) (map (λ k. SameAddress k node) (range_with_len 0 (length (addresses c)))) a b d (adds_if c (NoUnicast node) a b unicast no_unicast one) (
       given_if (not (nat_eq first node)) (SameAddress first node),
       other,
@@ -36,9 +36,9 @@ pub adds_address : (addrs : List Addr) (node first : ℕ) (a b d : List Warning)
     → (IsTrue unicast ↔ IsSomeAnd (slice_get addrs node) (λ x. IsTrue (is_no_unicast x)))
     → ((k : ℕ) → k ≢ node → (first ≡ k) ↔ IsFirstAlike addrs node k)
     → b ≡ a ++ given_if unicast (NoUnicast node) → d ≡ b ++ given_if (not (nat_eq first node)) (SameAddress first node)
-    → AddsOfAddresses addrs (of_node (length addrs) node) a d
+    → AddsOfAddresses addrs (of_address (length addrs) node) a d
 adds_address addrs node first a b d unicast no_unicast is_first one other c same =
-    subst (λ (l : List Addr). AddsThose c (of_node (length l) node) a d) same (
+    subst (λ (l : List Addr). AddsThose c (of_address (length l) node) a d) same (
     adds_here c node first a b d unicast
     (subst (λ (l : List Addr). IsTrue unicast ↔ IsSomeAnd (slice_get l node) (λ x. IsTrue (is_no_unicast x))) (sym same) no_unicast)
     (subst (λ (l : List Addr). (k : ℕ) → k ≢ node → (first ≡ k) ↔ IsFirstAlike l node k) (sym same) is_first)

@@ -1,6 +1,7 @@
 pub mod Added
 pub mod SiteWarnings
 pub mod AddressWarnings
+pub mod NodeWarnings
 pub mod RouterWarnings
 pub mod Whole
 mod Worded

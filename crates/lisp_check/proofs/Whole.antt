@@ -1,19 +1,20 @@
 -- All warnings of a configuration.
-use Rattle.std.proofs.Common.{◌≡◌, ◌<◌, ◌≤◌, ◌+◌, ℕ, zero, suc, Bool, List, [], ◌∷◌, ◌++◌, length, map, Option, Some, None, inl, inr, subst, sym, ap, refl, ◌∙◌, arith}
-use Rattle.std.specs.Prelude.{◌↔◌, IsTrue, IsSomeAnd, slice_get}
+use Rattle.std.proofs.Common.{◌≡◌, ◌<◌, ◌≤◌, ◌+◌, ℕ, zero, suc, Bool, List, [], ◌∷◌, ◌++◌, length, map, Option, Some, None, inl, inr, subst, sym, ap, refl, arith}
+use Rattle.std.specs.Prelude.{◌↔◌, IsTrue, IsSome, IsSomeAnd, slice_get}
 use Rattle.std.specs.List.{Contains, flat_map, range_with_len, position}
 use Rattle.std.proofs.Math.Nat.{eq-or-lt_of_le}
 use Rattle.std.proofs.lemmas.List.Elements.{Contains-append_left, Contains-append_right}
-use Rattle.lisp_records.specs.declared.address.Addr.{Addr}
 use Rattle.lisp_policy.specs.Site.{SiteValue}
 use Rattle.lisp_policy.specs.Configuration.{ConfigValue, RouterEntryValue}
 use Rattle.lisp_model.specs.Trace.{addresses}
+use Rattle.lisp_sites.specs.Numbers.{node_at}
 use Rattle.lisp_check.specs.declared.warning.Warning.{Warning}
-use Rattle.lisp_check.specs.declared.warning.Warning.TheVariants.{NoNodes, NoKeys, NoPrefixes, SamePrefix, Inside, NoUnicast, SameAddress, SameIdentity, NotAllowed, OtherFamily, SameKey, NoServers}
-use Rattle.lisp_check.specs.Warning.{IsWarned, IsFirstAt, IsFirstRouter, IsFirstWith, IsFirstAround, IsFirstWithPrefix, IsFirstAroundPrefix, IsRefused, HasOtherFamily, is_no_unicast, same_key, AreThose, of_site, of_prefix, of_prefixes, of_around, of_node, of_records, of_servers, of_entry, of_sharing, of_router, of_each, of_all}
-use Rattle.lisp_check.specs.Adding.{AddsThose, AddsOfAddresses, given_if}
+use Rattle.lisp_check.specs.declared.warning.Warning.TheVariants.{NoNodes, NoKeys, NoPrefixes, SamePrefix, Inside, NoUnicast, SameAddress, AnyItrRloc, NoItrRloc, SameIdentity, NotAllowed, OtherFamily, SameKey, NoServers}
+use Rattle.lisp_check.specs.Warning.{IsWarned, IsFirstAt, IsFirstRouter, IsFirstWith, IsFirstAround, IsFirstWithPrefix, IsFirstAroundPrefix, IsRefused, HasOtherFamily, ListsNoOwn, any_of, is_no_unicast, same_key, AreThose, of_site, of_prefix, of_prefixes, of_around, of_address, of_resolve, of_node, of_nodes, of_records, of_servers, of_entry, of_sharing, of_router, of_each, of_all}
+use Rattle.lisp_check.specs.Adding.{AddsThose, given_if}
 use Rattle.lisp_check.proofs.Added.{adds_both, adds_if}
 use Rattle.lisp_check.proofs.AddressWarnings.{first_within}
+use Rattle.lisp_check.proofs.NodeWarnings.{node_within}
 use Rattle.lisp_check.proofs.RouterWarnings.{inside, first_within as twin_within, sharer_within}
 use Rattle.lisp_check.proofs.SiteWarnings.{stands, first_within as prefix_within, around_within}
 
@@ -85,6 +86,9 @@ module _ (c : ConfigValue) where
   in_nodes node w low held = behind NoNodes w ((sites_could ++ nodes_could) ++ routers_could) (
       Contains-append_left (sites_could ++ nodes_could) routers_could w (Contains-append_right sites_could nodes_could w (in_each (of_node (length (addresses c))) w (length (addresses c)) node low held)))
 
+  in_resolve : (node : ℕ) (w : Warning) → Contains (of_resolve node) w → Contains (of_node (length (addresses c)) node) w
+  in_resolve node w held = Contains-append_right (of_address (length (addresses c)) node) (of_resolve node) w held
+
   in_routers : (router : ℕ) (w : Warning) → router < length c.routers → Contains (of_router c.routers router) w → Contains (of_all c) w
   in_routers router w low held = behind NoNodes w ((sites_could ++ nodes_could) ++ routers_could) (
       Contains-append_right (sites_could ++ nodes_could) routers_could w (in_each (of_router c.routers) w (length c.routers) router low held))
@@ -133,7 +137,10 @@ module _ (c : ConfigValue) where
   could (SameAddress first node) warned =
       let low = first_within (addresses c) (slice_get (addresses c) node) first warned.1 in
       in_nodes node (SameAddress first node) (inside (addresses c) node (λ x. IsFirstAt (addresses c) x first) (slice_get (addresses c) node) refl warned.1)
-      (behind (NoUnicast node) (SameAddress first node) _ (in_numbers (λ k. SameAddress k node) 0 (length (addresses c)) first (omega arith) (omega (arith, low))))
+      (Contains-append_left (of_address (length (addresses c)) node) (of_resolve node) (SameAddress first node)
+      (behind (NoUnicast node) (SameAddress first node) _ (in_numbers (λ k. SameAddress k node) 0 (length (addresses c)) first (omega arith) (omega (arith, low)))))
+  could (AnyItrRloc node) warned = in_nodes node (AnyItrRloc node) (node_within c node (λ n. IsSome (any_of n)) (node_at c node) refl warned) (in_resolve node (AnyItrRloc node) (0, omega arith, refl))
+  could (NoItrRloc node) warned = in_nodes node (NoItrRloc node) (node_within c node ListsNoOwn (node_at c node) refl warned) (in_resolve node (NoItrRloc node) (1, omega arith, refl))
   could (SameIdentity first router) warned =
       let low = twin_within c.routers (slice_get c.routers router) first warned.1 in
       in_entry router (SameIdentity first router) (inside c.routers router (λ r. IsFirstRouter c.routers r first) (slice_get c.routers router) refl warned.1) (
@@ -157,20 +164,18 @@ module _ (c : ConfigValue) where
       Contains-append_right (map (λ k. SameKey k router) (range_with_len 0 (length c.routers))) (NoServers router ∷ []) (NoServers router) (0, omega arith, refl))
 
 -- what was added to no warning, part by part
-module _ (c : ConfigValue) (addrs : List Addr) (same : addrs ≡ addresses c) (a b d e : List Warning) (none : Bool)
-    (no_nodes : IsTrue none ↔ (addrs ≡ []))
+module _ (c : ConfigValue) (a b d e : List Warning) (none : Bool)
+    (no_nodes : IsTrue none ↔ IsWarned c NoNodes)
     (network : a ≡ given_if none NoNodes)
     (sites : AddsThose c (of_each (of_site c.sites) (length c.sites)) a b)
-    (nodes : AddsOfAddresses addrs (of_each (of_node (length addrs)) (length addrs)) b d)
+    (nodes : AddsThose c (of_nodes c) b d)
     (routers : AddsThose c (of_each (of_router c.routers) (length c.routers)) d e)
   where
     pub in_order : AreThose (IsWarned c) (of_all c) e
     in_order =
-        let decides : IsTrue none ↔ IsWarned c NoNodes = (λ t. sym same ∙ no_nodes.0 t, λ w. no_nodes.1 (same ∙ w)) in
-        let at_nodes : AddsThose c (of_each (of_node (length (addresses c))) (length (addresses c))) b d = subst (λ (l : List Addr). AddsThose c (of_each (of_node (length l)) (length l)) b d) same (nodes c (sym same)) in
         let all : AddsThose c (of_all c) [] e =
-        adds_both c (NoNodes ∷ []) ((sites_could c ++ nodes_could c) ++ routers_could c) [] a e (adds_if c NoNodes [] a none decides network)
-        (adds_both c (sites_could c ++ nodes_could c) (routers_could c) a d e (adds_both c (sites_could c) (nodes_could c) a b d sites at_nodes) routers) in
+        adds_both c (NoNodes ∷ []) ((sites_could c ++ nodes_could c) ++ routers_could c) [] a e (adds_if c NoNodes [] a none no_nodes network)
+        (adds_both c (sites_could c ++ nodes_could c) (routers_could c) a d e (adds_both c (sites_could c) (nodes_could c) a b d sites nodes) routers) in
         subst (AreThose (IsWarned c) (of_all c)) (sym all.1) all.2
 
     pub exactly : (w : Warning) → Contains e w ↔ IsWarned c w

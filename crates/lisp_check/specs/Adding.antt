@@ -5,7 +5,7 @@ use Rattle.lisp_policy.specs.Configuration.{ConfigValue}
 use Rattle.lisp_model.specs.Trace.{addresses}
 use Rattle.lisp_check.specs.declared.warning.Warning.{Warning}
 use Rattle.lisp_check.specs.declared.warning.Warning.TheVariants.{Inside}
-use Rattle.lisp_check.specs.Warning.{IsWarned, AreThose}
+use Rattle.lisp_check.specs.Warning.{IsWarned, AreThose, of_nodes}
 
 -- of these warnings those that a configuration has were added, in their order
 abbrev pub AddsThose : ConfigValue → List Warning → List Warning → List Warning → Type 0
@@ -21,6 +21,10 @@ AddsOfAddresses addrs those old new = (c : ConfigValue) → addresses c ≡ addr
 
 abbrev pub AddsAtAddresses : {T E Z : Type 0} → Result T E → Vec Warning Z → Vec Warning Z → List Addr → List Warning → Type 0
 AddsAtAddresses result old new addrs those = OnOk result (AddsOfAddresses addrs those old.items new.items)
+
+-- and so were those of all nodes, where these are their addresses
+abbrev pub AddsOfNodes : {T E Z : Type 0} → Result T E → Vec Warning Z → Vec Warning Z → ConfigValue → List Addr → Type 0
+AddsOfNodes result old new c addrs = addrs ≡ addresses c → AddsWarned result old new c (of_nodes c)
 
 -- a warning, where it is to be given
 abbrev pub given_if : Bool → Warning → List Warning

@@ -1,6 +1,6 @@
 -- What in a configuration may not be meant, though it can be read.
-use Rattle.std.specs.Prelude.{◌≡◌, ◌≢◌, ◌⊎◌, ℕ, ◌==◌, Bool, not, ◌&&◌, ◌||◌, List, [], ◌∷◌, ◌++◌, length, map, IsTrue, IsSomeAnd, slice_get, slice_index, position, Option, Some, None}
-use Rattle.std.specs.List.{Contains, list_all, list_any, flat_map, range_with_len}
+use Rattle.std.specs.Prelude.{◌≡◌, ◌≢◌, ◌⊎◌, ℕ, ◌==◌, Bool, true, false, not, ◌&&◌, ◌||◌, List, [], ◌∷◌, ◌++◌, length, map, IsTrue, IsSome, IsSomeAnd, slice_get, slice_index, position, Option, Some, None}
+use Rattle.std.specs.List.{Contains, find, list_all, list_any, flat_map, range_with_len}
 use Rattle.std.specs.Int.{is_in_range}
 use Rattle.lisp_records.specs.declared.address.Addr.{Addr}
 use Rattle.lisp_records.specs.declared.address.Addr.TheVariants.{V4, V6}
@@ -10,8 +10,9 @@ use Rattle.lisp_policy.specs.declared.site.SitePrefix.{SitePrefix}
 use Rattle.lisp_policy.specs.Site.{SiteValue, Allowed, site_of}
 use Rattle.lisp_policy.specs.Configuration.{ConfigValue, ServerEntryValue, RouterEntryValue}
 use Rattle.lisp_model.specs.Trace.{addresses}
+use Rattle.lisp_sites.specs.Numbers.{NodeValue, Server, Router, address_of, node_at}
 use Rattle.lisp_check.specs.declared.warning.Warning.{Warning}
-use Rattle.lisp_check.specs.declared.warning.Warning.TheVariants.{NoNodes, NoKeys, NoPrefixes, SamePrefix, Inside, NoUnicast, SameAddress, SameIdentity, NotAllowed, OtherFamily, SameKey, NoServers}
+use Rattle.lisp_check.specs.declared.warning.Warning.TheVariants.{NoNodes, NoKeys, NoPrefixes, SamePrefix, Inside, NoUnicast, SameAddress, AnyItrRloc, NoItrRloc, SameIdentity, NotAllowed, OtherFamily, SameKey, NoServers}
 
 -- an address that no node has: unspecified (all zero), broadcast, or multicast (224.0.0.0/4, ff00::/8)
 abbrev pub is_no_unicast : Addr → Bool
@@ -35,6 +36,28 @@ IsFirstAlike addrs node first = IsSomeAnd (slice_get addrs node) (λ a. IsFirstA
 
 abbrev pub IsFirstTwin : List RouterEntryValue → ℕ → ℕ → Type 0
 IsFirstTwin routers router first = IsSomeAnd (slice_get routers router) (λ r. IsFirstRouter routers r first)
+
+-- the prefixes of the ITR-RLOCs that a node replies to
+abbrev pub resolve_of : NodeValue → List PrefixValue
+resolve_of (Server entry) = entry.resolve
+resolve_of (Router entry) = entry.resolve
+
+-- the first of them that has every address of its family
+abbrev pub is_any : PrefixValue → Bool
+is_any p = p.mask_len == 0
+
+abbrev pub any_of : NodeValue → Option PrefixValue
+any_of node = find is_any (resolve_of node)
+
+-- two addresses of one family
+abbrev pub same_family : Addr → Addr → Bool
+same_family (V4 _) (V4 _) = true
+same_family (V6 _) (V6 _) = true
+same_family _ _ = false
+
+-- there are such prefixes, and none is of the family of the node's own address: Map-Replies go to no other family
+abbrev pub ListsNoOwn : NodeValue → Type 0
+ListsNoOwn node = (resolve_of node ≢ []) × (list_any (λ p. same_family p.addr (address_of node)) (resolve_of node) ≡ false)
 
 -- the site of a Site-ID allows a prefix
 abbrev pub MayRegister : List SiteValue → ℕ → PrefixValue → Type 0
@@ -99,6 +122,8 @@ IsWarned c (SamePrefix first site place) = (first ≢ site) × IsFirstWithThat c
 IsWarned c (Inside around site place) = IsFirstAroundThat c.sites site place around
 IsWarned c (NoUnicast node) = HasNoUnicast (addresses c) node
 IsWarned c (SameAddress first node) = (first ≢ node) × IsFirstAlike (addresses c) node first
+IsWarned c (AnyItrRloc node) = IsSomeAnd (node_at c node) (λ n. IsSome (any_of n))
+IsWarned c (NoItrRloc node) = IsSomeAnd (node_at c node) ListsNoOwn
 IsWarned c (SameIdentity first router) = (first ≢ router) × IsFirstTwin c.routers router first
 IsWarned c (NotAllowed router place) = IsSomeAnd (slice_get c.routers router) (λ r. IsRefused c.sites r place)
 IsWarned c (OtherFamily router server) = IsSomeAnd (slice_get c.routers router) (λ r. HasOtherFamily c.servers r server)
@@ -109,8 +134,8 @@ IsWarned c (NoServers router) = IsSomeAnd (slice_get c.routers router) (λ r. r.
 abbrev pub of_each : (ℕ → List Warning) → ℕ → List Warning
 of_each of count = flat_map of (range_with_len 0 count)
 
--- what could be warned of a prefix among so many sites, of a site's prefixes, and of a site; of a node among so many; of a
--- router's records, of its Map-Servers, and of a router
+-- what could be warned of a prefix among so many sites, of a site's prefixes, and of a site; of the address of a node among so
+-- many, of what it replies to, and of a node; of a router's records, of its Map-Servers, and of a router
 abbrev pub of_around : ℕ → ℕ → ℕ → List Warning
 of_around count site place = map (λ around. Inside around site place) (range_with_len 0 count)
 
@@ -124,8 +149,14 @@ of_prefixes count site None = []
 abbrev pub of_site : List SiteValue → ℕ → List Warning
 of_site sites place = NoKeys place ∷ NoPrefixes place ∷ of_prefixes (length sites) place (slice_get sites place)
 
+abbrev pub of_address : ℕ → ℕ → List Warning
+of_address count place = NoUnicast place ∷ map (λ first. SameAddress first place) (range_with_len 0 count)
+
+abbrev pub of_resolve : ℕ → List Warning
+of_resolve place = AnyItrRloc place ∷ NoItrRloc place ∷ []
+
 abbrev pub of_node : ℕ → ℕ → List Warning
-of_node count place = NoUnicast place ∷ map (λ first. SameAddress first place) (range_with_len 0 count)
+of_node count place = of_address count place ++ of_resolve place
 
 abbrev pub of_records : ℕ → Option RouterEntryValue → List Warning
 of_records place (Some r) = map (λ k. NotAllowed place k) (range_with_len 0 (length r.database))
@@ -145,19 +176,19 @@ of_sharing count place = map (λ first. SameKey first place) (range_with_len 0 c
 abbrev pub of_router : List RouterEntryValue → ℕ → List Warning
 of_router routers place = of_entry routers place ++ of_sharing (length routers) place
 
--- of all sites, of the nodes with these addresses, and of all routers
+-- of all sites, of all nodes, and of all routers
 abbrev pub of_sites : ConfigValue → List Warning
 of_sites c = of_each (of_site c.sites) (length c.sites)
 
-abbrev pub of_nodes : List Addr → List Warning
-of_nodes addrs = of_each (of_node (length addrs)) (length addrs)
+abbrev pub of_nodes : ConfigValue → List Warning
+of_nodes c = of_each (of_node (length (addresses c))) (length (addresses c))
 
 abbrev pub of_routers : ConfigValue → List Warning
 of_routers c = of_each (of_router c.routers) (length c.routers)
 
 -- what could be warned of a configuration, each once, in the order in which it is
 abbrev pub of_all : ConfigValue → List Warning
-of_all c = NoNodes ∷ (of_sites c ++ of_nodes (addresses c) ++ of_routers c)
+of_all c = NoNodes ∷ (of_sites c ++ of_nodes c ++ of_routers c)
 
 -- of these warnings those of a kind, in their order
 abbrev pub AreThose : (Warning → Type 0) → List Warning → List Warning → Type 0

@@ -1,5 +1,5 @@
 -- Warnings in words.
-use Rattle.std.specs.Prelude.{◌≡◌, ℕ, ◌+◌, ◌-◌, ◌^◌, false, min, List, [], ◌++◌, codes, length, slice_get, Option, Some, None, Result, String, string_bytes, IfOk, unwrap_or}
+use Rattle.std.specs.Prelude.{◌≡◌, ℕ, ◌+◌, ◌-◌, ◌^◌, false, min, List, [], ◌++◌, codes, slice_get, Option, Some, None, Result, String, string_bytes, IfOk, unwrap_or}
 use Rattle.std.specs.Option.{option_map}
 use Rattle.std.specs.Fmt.{decimal, digits, padded_integral, format_spec}
 use Rattle.lisp_records.specs.Record.{MapRecordValue}
@@ -7,9 +7,10 @@ use Rattle.lisp_texts.specs.Written.{addr_text, prefix_text}
 use Rattle.lisp_policy.specs.declared.site.SitePrefix.{SitePrefix}
 use Rattle.lisp_policy.specs.Site.{SiteValue}
 use Rattle.lisp_policy.specs.Configuration.{ConfigValue, ServerEntryValue, RouterEntryValue}
-use Rattle.lisp_sites.specs.Numbers.{name_at, address_at}
+use Rattle.lisp_sites.specs.Numbers.{NodeValue, name_at, address_at, node_at}
+use Rattle.lisp_check.specs.Warning.{any_of}
 use Rattle.lisp_check.specs.declared.warning.Warning.{Warning}
-use Rattle.lisp_check.specs.declared.warning.Warning.TheVariants.{NoNodes, NoKeys, NoPrefixes, SamePrefix, Inside, NoUnicast, SameAddress, SameIdentity, NotAllowed, OtherFamily, SameKey, NoServers}
+use Rattle.lisp_check.specs.declared.warning.Warning.TheVariants.{NoNodes, NoKeys, NoPrefixes, SamePrefix, Inside, NoUnicast, SameAddress, AnyItrRloc, NoItrRloc, SameIdentity, NotAllowed, OtherFamily, SameKey, NoServers}
 
 -- at Ok a text is these words
 abbrev pub GivesText : {E Z : Type 0} → Result (String Z) E → List ℕ → Type 0
@@ -59,6 +60,11 @@ router_address_words None = []
 abbrev pub addressed : ConfigValue → ℕ → List ℕ
 addressed c node = unwrap_or (option_map addr_text (address_at c node)) []
 
+-- the first prefix of its resolve that has every address of its family
+abbrev pub any_words : Option NodeValue → List ℕ
+any_words (Some node) = unwrap_or (option_map prefix_text (any_of node)) []
+any_words None = []
+
 -- the prefix of a router's record by its place, and the router's Site-ID
 abbrev pub record_words : Option MapRecordValue → List ℕ
 record_words (Some m) = prefix_text m.eid
@@ -85,6 +91,14 @@ abbrev pub same_address_words : List ℕ → List ℕ → List ℕ → List ℕ 
 same_address_words kind name address first_kind first =
     kind ++ (codes " " ++ (name ++ (codes ": address " ++ (address ++ (codes " is that of "
     ++ (first_kind ++ (codes " " ++ (first ++ codes " too: play refuses both (74)"))))))))
+
+abbrev pub any_itr_rloc_words : List ℕ → List ℕ → List ℕ → List ℕ
+any_itr_rloc_words kind name prefix =
+    kind ++ (codes " " ++ (name ++ (codes ": resolve lists " ++ (prefix ++ codes ": anyone may have Map-Replies sent to anyone"))))
+
+abbrev pub no_itr_rloc_words : List ℕ → List ℕ → List ℕ → List ℕ
+no_itr_rloc_words kind name address =
+    kind ++ (codes " " ++ (name ++ (codes ": resolve lists no prefix of the family of address " ++ (address ++ codes ": it replies to nobody"))))
 
 abbrev pub same_identity_words : List ℕ → List ℕ → List ℕ → List ℕ
 same_identity_words name site first =
@@ -126,6 +140,12 @@ abbrev pub same_address_text : ConfigValue → ℕ → ℕ → List ℕ
 same_address_text c first node =
     same_address_words (kind_words (slice_get c.servers node)) (node_words c node) (addressed c node) (kind_words (slice_get c.servers first)) (node_words c first)
 
+abbrev pub any_itr_rloc_text : ConfigValue → ℕ → List ℕ
+any_itr_rloc_text c node = any_itr_rloc_words (kind_words (slice_get c.servers node)) (node_words c node) (any_words (node_at c node))
+
+abbrev pub no_itr_rloc_text : ConfigValue → ℕ → List ℕ
+no_itr_rloc_text c node = no_itr_rloc_words (kind_words (slice_get c.servers node)) (node_words c node) (addressed c node)
+
 abbrev pub same_identity_text : ConfigValue → ℕ → ℕ → List ℕ
 same_identity_text c first router =
     same_identity_words (router_words (slice_get c.routers router)) (site_id_words (site_id_of (slice_get c.routers router)))
@@ -160,6 +180,8 @@ warning_text c (SamePrefix first site place) = same_prefix_text c first site pla
 warning_text c (Inside around site place) = inside_text c around site place
 warning_text c (NoUnicast node) = no_unicast_text c node
 warning_text c (SameAddress first node) = same_address_text c first node
+warning_text c (AnyItrRloc node) = any_itr_rloc_text c node
+warning_text c (NoItrRloc node) = no_itr_rloc_text c node
 warning_text c (SameIdentity first router) = same_identity_text c first router
 warning_text c (NotAllowed router place) = not_allowed_text c router place
 warning_text c (OtherFamily router server) = other_family_text c router server

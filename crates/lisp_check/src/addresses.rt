@@ -3,7 +3,7 @@
 ghost use Rattle.std.specs.Prelude.{◌≡◌, ◌↔◌, ◌==◌, length, IsTrue, OnErr, position};
 ghost use Rattle.std.specs.List.{list_all};
 ghost use Rattle.lisp_records.specs.Address.{addr_eq};
-ghost use Rattle.lisp_check.specs.Warning.{HasNoUnicast, IsFirstAlike, is_no_unicast, of_node, of_nodes};
+ghost use Rattle.lisp_check.specs.Warning.{HasNoUnicast, IsFirstAlike, is_no_unicast, of_address};
 ghost use Rattle.lisp_check.specs.Adding.{AddsAtAddresses, NamesFirst};
 
 use crate::adding::warn_if;
@@ -13,28 +13,14 @@ use lisp_memory::Memory;
 use lisp_records::Addr;
 use std::alloc::AllocError;
 
-/// Adds the warnings of all addresses.
-pub(crate) fn warn_of_addresses<M: Memory>(
-    warnings: &mut Vec<Warning, M>,
-    addresses: &[Addr],
-) -> Result<(), AllocError>
-    ensures added { AddsAtAddresses result warnings.old warnings.new addresses.now
-        (of_nodes addresses.now) }
-    ensures memory { OnErr result M.may_refuse }
-{
-    for node in 0..addresses.len() {
-        warn_of_address(warnings, addresses, node)?;
-    }
-    Ok(())
-}
-
-fn warn_of_address<M: Memory>(
+/// Adds the warnings of the address of a node.
+pub(crate) fn warn_of_address<M: Memory>(
     warnings: &mut Vec<Warning, M>,
     addresses: &[Addr],
     node: usize,
 ) -> Result<(), AllocError>
     ensures added { AddsAtAddresses result warnings.old warnings.new addresses.now
-        (of_node (length addresses.now) node) }
+        (of_address (length addresses.now) node) }
     ensures memory { OnErr result M.may_refuse }
 {
     let first = first_like(addresses, node);

@@ -7,7 +7,7 @@ ghost use Rattle.lisp_check.specs.declared.warning.Warning.{Warning};
 ghost use Rattle.lisp_check.specs.declared.warning.Warning.TheVariants.{NoNodes};
 
 use crate::adding::warn_if;
-use crate::addresses::warn_of_addresses;
+use crate::nodes::warn_of_nodes;
 use crate::routers::warn_of_routers;
 use crate::sites::warn_of_sites;
 use crate::warning::Warning;
@@ -17,8 +17,8 @@ use lisp_sites::Config;
 use std::alloc::{AllocError, Allocator};
 
 /// What may not be meant in a configuration, in memory of `alloc`, each once: first that there are no nodes, then what is of
-/// sites, of the addresses of nodes, and of routers, one after another; of a router first its identity, then its records, then
-/// its Map-Servers.
+/// sites, of nodes, and of routers, one after another; of a node first its address, then the ITR-RLOCs that it replies to; of a
+/// router first its identity, then its records, then its Map-Servers.
 pub fn warnings<M: Memory + Copy, A: Allocator>(
     alloc: M,
     config: &Config<A>,
@@ -33,7 +33,7 @@ pub fn warnings<M: Memory + Copy, A: Allocator>(
     let addresses = config.addresses(alloc)?;
     warn_if(&mut warnings, are_none(&addresses), Warning::NoNodes)?;
     warn_of_sites(&mut warnings, config)?;
-    warn_of_addresses(&mut warnings, &addresses)?;
+    warn_of_nodes(&mut warnings, config, &addresses)?;
     warn_of_routers(&mut warnings, config)?;
     Ok(warnings)
 }

@@ -20,7 +20,7 @@ const KEY_KEYS: &[&str] = &["id", "secret"];
 const PREFIX_KEYS: &[&str] = &["eid", "more_specifics"];
 
 /// The keys of a Map-Server.
-const SERVER_KEYS: &[&str] = &["name", "address"];
+const SERVER_KEYS: &[&str] = &["name", "address", "resolve"];
 
 /// The keys of a router.
 const ROUTER_KEYS: &[&str] = &[
@@ -34,6 +34,7 @@ const ROUTER_KEYS: &[&str] = &[
     "use_ttl",
     "nonce_block",
     "records",
+    "resolve",
 ];
 
 /// A key or a table of a document that no configuration has.

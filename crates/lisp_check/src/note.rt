@@ -127,7 +127,12 @@ fn advice(
 fn has_address(field: Field) -> bool {
     matches!(
         field,
-        Field::SitePrefixEid | Field::ServerAddress | Field::RouterAddress | Field::RouterRecords
+        Field::SitePrefixEid
+            | Field::ServerAddress
+            | Field::ServerResolve
+            | Field::RouterAddress
+            | Field::RouterRecords
+            | Field::RouterResolve
     )
 }
 

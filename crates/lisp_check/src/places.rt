@@ -18,7 +18,10 @@ pub fn warning_place(config: &Config, warning: Warning) -> Place {
         Warning::SamePrefix { site, prefix, .. } | Warning::Inside { site, prefix, .. } => {
             part_place(site, Field::SitePrefix, prefix)
         }
-        Warning::NoUnicast { node } | Warning::SameAddress { node, .. } => node_place(config, node),
+        Warning::NoUnicast { node }
+        | Warning::SameAddress { node, .. }
+        | Warning::AnyItrRloc { node }
+        | Warning::NoItrRloc { node } => node_place(config, node),
         Warning::SameIdentity { router, .. }
         | Warning::NotAllowed { router, .. }
         | Warning::OtherFamily { router, .. }

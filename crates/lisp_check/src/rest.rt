@@ -186,10 +186,12 @@ fn may_be_absent(field: Field) -> bool {
         Field::SiteKey
             | Field::SitePrefix
             | Field::SitePrefixMoreSpecifics
+            | Field::ServerResolve
             | Field::RouterProxy
             | Field::RouterUseTtl
             | Field::RouterNonceBlock
             | Field::RouterRecords
+            | Field::RouterResolve
     )
 }
 

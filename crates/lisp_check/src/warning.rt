@@ -35,6 +35,14 @@ pub enum Warning {
         first: usize,
         node: usize,
     },
+    /// A prefix of the node's `resolve` has every address of its family: whoever asks it names where Map-Replies go.
+    AnyItrRloc {
+        node: usize,
+    },
+    /// The node's `resolve` has prefixes, and none of its own address's family: it sends no Map-Reply.
+    NoItrRloc {
+        node: usize,
+    },
     /// The router has the Site-ID and xTR-ID of an earlier one, the first that has them.
     SameIdentity {
         first: usize,

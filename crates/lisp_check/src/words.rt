@@ -1,12 +1,14 @@
 //! Warnings in words.
 
 ghost use Rattle.std.specs.Prelude.{◌≡◌, slice_get, string_bytes, Some};
-ghost use Rattle.lisp_check.specs.Words.{GivesText, lined, no_keys_words, no_prefixes_words, site_words, prefix_number_words, site_prefix_words, same_prefix_text, inside_text, same_key_text, no_servers_text, site_id_words, key_of, router_address_words, kind_words, node_words, router_words, addressed, site_id_of, eid_words, no_unicast_text, same_address_text, same_identity_text, not_allowed_text, other_family_text, warning_text};
+ghost use Rattle.lisp_sites.specs.Numbers.{node_at, node_value};
+ghost use Rattle.lisp_check.specs.Words.{GivesText, lined, no_keys_words, no_prefixes_words, site_words, prefix_number_words, site_prefix_words, same_prefix_text, inside_text, same_key_text, no_servers_text, site_id_words, key_of, router_address_words, kind_words, node_words, router_words, addressed, site_id_of, eid_words, no_unicast_text, same_address_text, any_words, any_itr_rloc_text, no_itr_rloc_text, same_identity_text, not_allowed_text, other_family_text, warning_text};
 
+use crate::itr_rlocs::any_of;
 use crate::warning::Warning;
 use lisp_memory::FallibleString;
 use lisp_policy::Site;
-use lisp_sites::{Config, RouterEntry, addr_to_text, prefix_to_text};
+use lisp_sites::{Config, ConfigNode, RouterEntry, addr_to_text, prefix_to_text};
 use std::alloc::{AllocError, Global};
 use std::fmt::{self, Display, Formatter, Write};
 
@@ -89,6 +91,8 @@ pub fn warning_line(alloc: Global, config: &Config, warning: Warning) -> Result<
         } => inside(alloc, config, around, site, prefix),
         Warning::NoUnicast { node } => no_unicast(alloc, config, node),
         Warning::SameAddress { first, node } => same_address(alloc, config, first, node),
+        Warning::AnyItrRloc { node } => any_itr_rloc(alloc, config, node),
+        Warning::NoItrRloc { node } => no_itr_rloc(alloc, config, node),
         Warning::SameIdentity { first, router } => same_identity(alloc, config, first, router),
         Warning::NotAllowed { router, record } => not_allowed(alloc, config, router, record),
         Warning::OtherFamily { router, server } => other_family(alloc, config, router, server),
@@ -211,6 +215,32 @@ fn same_address(
     )
 }
 
+fn any_itr_rloc(alloc: Global, config: &Config, node: usize) -> Result<String, AllocError>
+    ensures { GivesText result (any_itr_rloc_text config.now node) }
+{
+    let (kind, name) = (node_kind(config, node), node_name(config, node));
+    let prefix = any_prefix(alloc, config, node)?;
+    String::try_format(
+        alloc,
+        format_args!(
+            "{kind} {name}: resolve lists {prefix}: anyone may have Map-Replies sent to anyone"
+        ),
+    )
+}
+
+fn no_itr_rloc(alloc: Global, config: &Config, node: usize) -> Result<String, AllocError>
+    ensures { GivesText result (no_itr_rloc_text config.now node) }
+{
+    let (kind, name) = (node_kind(config, node), node_name(config, node));
+    let address = node_address(alloc, config, node)?;
+    String::try_format(
+        alloc,
+        format_args!(
+            "{kind} {name}: resolve lists no prefix of the family of address {address}: it replies to nobody"
+        ),
+    )
+}
+
 fn same_identity(
     alloc: Global,
     config: &Config,
@@ -299,6 +329,25 @@ fn no_servers(alloc: Global, config: &Config, router: usize) -> Result<String, A
         alloc,
         format_args!("router {name}: no Map-Servers: it registers nowhere"),
     )
+}
+
+// The first prefix of a node's `resolve` that has every address of its family.
+fn any_prefix(alloc: Global, config: &Config, node: usize) -> Result<String, AllocError>
+    ensures { GivesText result (any_words (node_at config.now node)) }
+{
+    match config.node(node) {
+        Some(node) => any_text(alloc, &node),
+        None => String::try_from_str(alloc, ""),
+    }
+}
+
+fn any_text(alloc: Global, node: &ConfigNode<'_>) -> Result<String, AllocError>
+    ensures { GivesText result (any_words (Some (node_value node.now))) }
+{
+    match any_of(node) {
+        Some(prefix) => prefix_to_text(alloc, prefix),
+        None => String::try_from_str(alloc, ""),
+    }
 }
 
 // The Site-ID of a router.
