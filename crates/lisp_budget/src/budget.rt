@@ -71,12 +71,13 @@ impl<A: Allocator> Budget<A> {
     /// changes. It may where what was sent in this slot of a second and in the one before, to its destination and to all, leaves room
     /// for it, and where fewer than 4,096 other destinations are known. A moment of a slot that is over counts as of the present one.
     /// Takes no memory.
-    pub fn take(&mut self, to: &Addr, bytes: u32, now: u64) -> bool
+    pub fn take(&mut self, to: &Addr, bytes: usize, now: u64) -> bool
         ensures takes { result ≡ takes self.old (message to.now bytes now) }
         ensures state { self.new ≡ after_take self.old (message to.now bytes now) }
         ensures accounts { KeepsAccount self.old self.new result (message to.now bytes now) }
     {
         let to = destination(to);
+        let bytes = bytes as u64;
         let slot = now / SLOT_MS;
         if !self.may_send_in(slot, &to, bytes) {
             return false;
@@ -87,7 +88,7 @@ impl<A: Allocator> Budget<A> {
     }
 
     // Whether so many bytes may be sent in a slot; one that is over counts as the present one.
-    fn may_send_in(&self, slot: u64, to: &Prefix, bytes: u32) -> bool
+    fn may_send_in(&self, slot: u64, to: &Prefix, bytes: u64) -> bool
         ensures { result ≡ may_send (at_slot self.now slot) to.now bytes }
     {
         if slot <= self.slot {
@@ -96,11 +97,11 @@ impl<A: Allocator> Budget<A> {
         if slot == self.slot + 1 {
             return self.may_send_next(to, bytes);
         }
-        bytes <= self.each && bytes <= self.all
+        bytes <= u64::from(self.each) && bytes <= u64::from(self.all)
     }
 
     // Whether so many bytes may be sent in the present slot.
-    fn may_send(&self, to: &Prefix, bytes: u32) -> bool
+    fn may_send(&self, to: &Prefix, bytes: u64) -> bool
         ensures { result ≡ may_send self.now to.now bytes }
     {
         let row = row_of(&self.rows, to);
@@ -111,7 +112,7 @@ impl<A: Allocator> Budget<A> {
     }
 
     // Whether so many bytes may be sent in the next slot.
-    fn may_send_next(&self, to: &Prefix, bytes: u32) -> bool
+    fn may_send_next(&self, to: &Prefix, bytes: u64) -> bool
         ensures { result ≡ may_send (next self.now) to.now bytes }
     {
         let row = row_of(&self.rows, to);
@@ -157,20 +158,19 @@ impl<A: Allocator> Budget<A> {
     }
 
     // So many bytes are sent in the present slot.
-    fn count(&mut self, to: Prefix, bytes: u32)
+    fn count(&mut self, to: Prefix, bytes: u64)
         requires { may_send self.old to bytes ≡ true }
         ensures { self.new ≡ counted self.old to bytes }
     {
-        let bytes = u64::from(bytes);
         count_in(&mut self.rows, to, bytes);
         self.present += bytes;
     }
 }
 
 // Whether so many bytes more, after those of two slots, are within a bound.
-fn is_within(before: u64, present: u64, bytes: u32, most: u32) -> bool
+fn is_within(before: u64, present: u64, bytes: u64, most: u32) -> bool
     ensures { result ≡ nat_le (before + present + bytes) most }
 {
     let sum = before.saturating_add(present);
-    sum.saturating_add(u64::from(bytes)) <= u64::from(most)
+    sum.saturating_add(bytes) <= u64::from(most)
 }

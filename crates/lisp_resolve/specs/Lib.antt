@@ -1,3 +1,4 @@
 pub mod Asked
+pub mod Unasked
 pub mod Sends
 pub mod Promises

@@ -1,5 +1,8 @@
 //! Why a node takes nothing of a datagram.
 
+ghost use Rattle.std.specs.Prelude.{◌≡◌};
+ghost use Rattle.lisp_resolve.specs.Unasked.{unasked_number};
+
 use lisp_requests::RequestFault;
 use thiserror::Error;
 
@@ -26,8 +29,24 @@ pub enum Unasked {
     Unlisted,
 }
 
+impl Unasked {
+    /// The number that operators see: that of the fault of the bytes, and the others from `Solicited` 126 to `Unlisted` 130 in the order
+    /// in which they stand here.
+    pub const fn number(&self) -> u16
+        ensures { result ≡ unasked_number self.now }
+    {
+        match self {
+            Unasked::Request(fault) => fault.number(),
+            Unasked::Solicited => 126,
+            Unasked::Probed => 127,
+            Unasked::Unwanted => 128,
+            Unasked::NoItrRloc => 129,
+            Unasked::Unlisted => 130,
+        }
+    }
+}
+
 impl From<RequestFault> for Unasked {
-    ghost use Rattle.std.specs.Prelude.{◌≡◌};
     ghost use Rattle.lisp_resolve.specs.declared.unasked.Unasked.TheVariants.{Request};
 
     ghost from_gives = { λ fault given. given ≡ Request fault };

@@ -15,7 +15,7 @@ pub count_in-requires-clause-fits : goal.count_in-requires-clause-fits
 count_in-requires-clause-fits g c =
     let may = subst (λ (b : BudgetState). MaySend b c.args.to c.args.bytes) (sym c.self.view_is) (may_parts c.args.self.now c.args.to c.args.bytes c.requires) in
     let each = may.each in
-    omega (arith, each, c.from-bytes.ensures, c.self.ranges)
+    omega (arith, each, c.self.ranges)
 
 pub invariant_of-self : goal.invariant_of-self
 invariant_of-self g c =
@@ -24,6 +24,6 @@ invariant_of-self g c =
     let few : length c.self.inside.rows.items ≤ most_known = c.self.invariant.1 in
     let differ : Differ c.self.inside.rows.items = c.self.invariant.2 in (
       omega (arith, room, c.count_in.ensures.capacity),
-      rw c.count_in.ensures.rows (few_counted c.self.inside.rows.items c.args.to c.from-bytes.result few may.room),
-      rw c.count_in.ensures.rows (differ_counted c.args.to c.from-bytes.result c.self.inside.rows.items differ),
+      rw c.count_in.ensures.rows (few_counted c.self.inside.rows.items c.args.to c.args.bytes few may.room),
+      rw c.count_in.ensures.rows (differ_counted c.args.to c.args.bytes c.self.inside.rows.items differ),
     )
