@@ -1,0 +1,2 @@
+-- Examples: what the definitions make of a few replies.
+pub mod Handling

@@ -1,0 +1,3 @@
+pub mod HandlingLaws
+pub mod ListedLaws
+pub mod Examples
