@@ -5,3 +5,4 @@ pub mod Silent
 mod SumLaws
 pub mod Telling
 mod WholeLaws
+pub mod Examples

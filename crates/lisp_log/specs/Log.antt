@@ -9,6 +9,7 @@ use Rattle.lisp_model.specs.Faults.{refusal_number}
 use Rattle.lisp_model.specs.declared.refusal.Refusal.{Refusal}
 use Rattle.lisp_model.specs.declared.refusal.Refusal.TheVariants as refusals
 use Rattle.lisp_model.specs.declared.line.Line.TheVariants as lines
+use Rattle.lisp_resolve.specs.Unasked.{unasked_number}
 use Rattle.lisp_turns.specs.declared.outside.Printed.{Printed}
 use Rattle.lisp_turns.specs.declared.outside.Printed.TheVariants as printed
 use Rattle.lisp_log.specs.declared.repeats.Repeat.{Repeat}
@@ -18,7 +19,7 @@ use Rattle.lisp_log.specs.Repeats.{TellsRefusal}
 use Rattle.lisp_log.specs.Replays.{without, ongoing, Replayed, TellsReplay, NoneDue}
 use Rattle.lisp_log.specs.Silences.{never_heard, Acknowledges, TellsSilence, NoneSilent}
 use Rattle.lisp_log.specs.Waiting.{WaitingState, nothing_waits, put_line, put_sum, drops, drops_one}
-use Rattle.lisp_log.specs.Text.{told_text, repeat_text, silent_text, replay_text, started_text}
+use Rattle.lisp_log.specs.Text.{over_budget_number, told_text, repeat_text, silent_text, replay_text, started_text}
 
 pub record LogState : Type 0 where
   pub config : ConfigValue
@@ -48,6 +49,8 @@ Puts may_refuse old new text = (new ≡ put_line old text) ⊎ (may_refuse × (n
 -- a refusal of a datagram, by its number and source address
 abbrev pub refused_from : Printed → Option (ℕ × Addr)
 refused_from (printed.Heard (lines.Refused node what) from) = Some (refusal_number what, from)
+refused_from (printed.Unasked from why) = Some (unasked_number why, from)
+refused_from (printed.OverBudget from) = Some (over_budget_number, from)
 refused_from _ = None
 
 -- whether a line is told: each is, but for a refusal of a datagram that repeats another

@@ -19,6 +19,9 @@ use Rattle.lisp_model.specs.declared.line.Line.TheVariants as lines
 use Rattle.lisp_lines.specs.Line.{line_words}
 use Rattle.lisp_lines.specs.Name.{node_name, router_name}
 use Rattle.lisp_lines.specs.declared.datagram_place.DatagramPlace.TheVariants.{Hidden}
+use Rattle.lisp_mapping.specs.declared.outcome.Outcome.{Outcome}
+use Rattle.lisp_mapping.specs.declared.outcome.Outcome.TheVariants as outcomes
+use Rattle.lisp_resolve.specs.Unasked.{unasked_number}
 use Rattle.lisp_turns.specs.declared.outside.Printed.{Printed}
 use Rattle.lisp_turns.specs.declared.outside.Printed.TheVariants as printed
 use Rattle.lisp_turns.specs.declared.outside.SocketCall.{SocketCall}
@@ -51,6 +54,9 @@ abbrev pub device_of : Printed → Option Device
 device_of (printed.Event line) = device_of_line line
 device_of (printed.Heard line from) = device_of_line line
 device_of (printed.Expired router eid) = None
+device_of (printed.Asked eid to outcome) = None
+device_of (printed.Unasked from why) = None
+device_of (printed.OverBudget from) = None
 device_of (printed.Failed call) = Some devices.Socket
 
 -- the kind of an error, and a source address, behind a line
@@ -75,11 +81,32 @@ expired_words c name router eid = codes "expired " ++ name ++ codes " " ++ route
 abbrev pub failed_words : List ℕ → SocketCall → List ℕ
 failed_words name call = codes "refused " ++ name ++ codes " " ++ decimal (call_number call)
 
+-- what is said of an EID-Prefix that a Map-Request asks for, and where Map-Replies go, or where the Map-Request itself goes on to; behind it
+-- how many records a Map-Reply has, or for which prefix nobody is there
+abbrev pub replies_words : List ℕ → List ℕ → PrefixValue → Addr → List ℕ
+replies_words verb name eid to = verb ++ codes " " ++ name ++ codes " " ++ prefix_text eid ++ codes " to " ++ addr_text to
+
+abbrev pub asked_words : List ℕ → PrefixValue → Addr → Outcome → List ℕ
+asked_words name eid to (outcomes.Replied records) = replies_words (codes "replied") name eid to ++ codes " records " ++ decimal records
+asked_words name eid to (outcomes.Negative hole) = replies_words (codes "negative") name eid to ++ codes " prefix " ++ prefix_text hole
+asked_words name eid to (outcomes.Forwarded router) = replies_words (codes "forwarded") name eid router
+asked_words name eid to outcomes.Silent = replies_words (codes "unanswered") name eid to
+
+-- the number of a datagram that is held back since it is over the budget; and what is refused of a Map-Request from an address
+abbrev pub over_budget_number : ℕ
+over_budget_number = 135
+
+abbrev pub refused_words : List ℕ → ℕ → Addr → List ℕ
+refused_words name number from = codes "refused " ++ name ++ codes " " ++ decimal number ++ source_words from
+
 -- what the node with a name tells
 abbrev pub told_words : ConfigValue → List ℕ → Option (List ℕ) → Printed → List ℕ
 told_words c name cause (printed.Event line) = caused_words c cause line
 told_words c name cause (printed.Heard line from) = heard_words c cause line from
 told_words c name cause (printed.Expired router eid) = expired_words c name router eid
+told_words c name cause (printed.Asked eid to outcome) = asked_words name eid to outcome
+told_words c name cause (printed.Unasked from why) = refused_words name (unasked_number why) from
+told_words c name cause (printed.OverBudget from) = refused_words name over_budget_number from
 told_words c name cause (printed.Failed call) = failed_words name call ++ cause_words cause
 
 abbrev pub told_text : ConfigValue → List ℕ → Option (List ℕ) → Printed → List ℕ

@@ -34,5 +34,5 @@ pub use log::Log;
 pub use repeats::{Repeat, Repeats, Source};
 pub use replays::{Replay, Replays};
 pub use silences::{Silence, Silences};
-pub use text::{Device, device_of, replay_text};
+pub use text::{Device, OVER_BUDGET, device_of, replay_text};
 pub use waiting::{Sink, Waiting};

@@ -12,7 +12,7 @@ ghost use Rattle.lisp_log.specs.Waiting.{put_line, drops_one, Pours};
 use crate::repeats::{Repeat, Repeats};
 use crate::replays::{Replay, Replays};
 use crate::silences::Silences;
-use crate::text::{repeat_text, replay_text, silent_text, started_text, told_text};
+use crate::text::{OVER_BUDGET, repeat_text, replay_text, silent_text, started_text, told_text};
 use crate::waiting::{Sink, Waiting};
 use lisp_admission::Refused;
 use lisp_memory::Memory;
@@ -198,7 +198,7 @@ fn is_told<A: Memory + Copy>(repeats: &mut Repeats<A>, line: &Printed) -> bool
     }
 }
 
-// The number of a refusal of a datagram, and the datagram's source address.
+// The number of a refusal of a datagram, and the datagram's source address; of a datagram that is held back that of the Map-Request.
 fn refused_from(line: &Printed) -> Option<(u16, Addr)>
     ensures { result ≡ refused_from line.now }
 {
@@ -207,6 +207,8 @@ fn refused_from(line: &Printed) -> Option<(u16, Addr)>
             line: Line::Refused { what, .. },
             from,
         } => Some((what.number(), *from)),
+        Printed::Unasked { from, why } => Some((why.number(), *from)),
+        Printed::OverBudget { from } => Some((OVER_BUDGET, *from)),
         _ => None,
     }
 }

@@ -3,13 +3,15 @@
 ghost use Rattle.std.specs.Prelude.{◌≡◌, ◌++◌, OnErr};
 ghost use Rattle.std.specs.Option.{option_copied};
 ghost use Rattle.lisp_lines.specs.Front.{Adds, GivesText};
-ghost use Rattle.lisp_log.specs.Text.{device_of, device_of_line, device_of_refusal, cause_words, caused_words, heard_words, expired_words, failed_words, told_words, told_text, from_text, repeat_text, silent_text, run_words, replay_text, started_text};
+ghost use Rattle.lisp_log.specs.Text.{device_of, device_of_line, device_of_refusal, cause_words, caused_words, heard_words, expired_words, asked_words, replies_words, refused_words, failed_words, told_words, told_text, from_text, repeat_text, silent_text, run_words, replay_text, started_text};
+ghost use Rattle.lisp_mapping.specs.declared.outcome.Outcome.TheVariants.{Replied, Negative};
 
 use crate::repeats::{Repeat, Source};
 use crate::replays::Replay;
 use lisp_admission::{NoticeFault, Refused};
 use lisp_etr::{RotateFault, SendFault, StartFault};
 use lisp_lines::{DatagramPlace, line_text, node_name, router_name};
+use lisp_mapping::Outcome;
 use lisp_memory::{FallibleString, Memory};
 use lisp_model::{Line, Refusal};
 use lisp_nonces::StoreFault;
@@ -18,6 +20,9 @@ use lisp_sites::Config;
 use lisp_texts::{addr_to_text, prefix_to_text};
 use lisp_turns::{Printed, SocketCall};
 use std::alloc::{AllocError, Allocator};
+
+/// The number of a datagram for a Map-Request that is held back, since it is over the budget.
+pub const OVER_BUDGET: u16 = 135;
 
 /// What of the system's failed, where a line says so.
 #[derive(Clone, Copy, Debug, PartialEq, Eq)]
@@ -34,7 +39,10 @@ pub fn device_of(line: &Printed) -> Option<Device>
 {
     match line {
         Printed::Event(line) | Printed::Heard { line, .. } => device_of_line(line),
-        Printed::Expired { .. } => None,
+        Printed::Expired { .. }
+        | Printed::Asked { .. }
+        | Printed::Unasked { .. }
+        | Printed::OverBudget { .. } => None,
         Printed::Failed(_) => Some(Device::Socket),
     }
 }
@@ -100,6 +108,9 @@ fn told_words<A: Memory + Copy, E: Allocator>(
         Printed::Event(line) => caused_words(alloc, config, cause, line),
         Printed::Heard { line, from } => heard_words(alloc, config, cause, line, from),
         Printed::Expired { router, eid } => expired_words(alloc, config, name, router, eid),
+        Printed::Asked { eid, to, outcome } => asked_words(alloc, name, eid, to, outcome),
+        Printed::Unasked { from, why } => refused_words(alloc, name, why.number(), from),
+        Printed::OverBudget { from } => refused_words(alloc, name, OVER_BUDGET, from),
         Printed::Failed(call) => failed_words(alloc, name, cause, *call),
     }
 }
@@ -153,6 +164,88 @@ fn expired_words<A: Memory + Copy, E: Allocator>(
     let router = router_name(config, router);
     let eid = prefix_to_text(alloc, eid)?;
     String::try_format(alloc, format_args!("expired {name} {router} {eid}"))
+}
+
+// What is said of an EID-Prefix that a Map-Request asks for, and where Map-Replies go.
+fn asked_words<A: Memory + Copy>(
+    alloc: A,
+    name: &str,
+    eid: &Prefix,
+    to: &Addr,
+    outcome: &Outcome,
+) -> Result<String<A>, AllocError>
+    ensures text { GivesText result (asked_words name.now eid.now to.now outcome.now) }
+    ensures memory { OnErr result A.may_refuse }
+{
+    match outcome {
+        Outcome::Replied(records) => replied_words(alloc, name, eid, to, *records),
+        Outcome::Negative(hole) => negative_words(alloc, name, eid, to, hole),
+        Outcome::Forwarded(router) => replies_words(alloc, "forwarded", name, eid, router),
+        Outcome::Silent => replies_words(alloc, "unanswered", name, eid, to),
+    }
+}
+
+// A Map-Reply of so many records.
+fn replied_words<A: Memory + Copy>(
+    alloc: A,
+    name: &str,
+    eid: &Prefix,
+    to: &Addr,
+    records: usize,
+) -> Result<String<A>, AllocError>
+    ensures text { GivesText result (asked_words name.now eid.now to.now (Replied records)) }
+    ensures memory { OnErr result A.may_refuse }
+{
+    let mut text = replies_words(alloc, "replied", name, eid, to)?;
+    text.try_write(format_args!(" records {records}"))?;
+    Ok(text)
+}
+
+// A negative Map-Reply: nobody is in this prefix.
+fn negative_words<A: Memory + Copy>(
+    alloc: A,
+    name: &str,
+    eid: &Prefix,
+    to: &Addr,
+    hole: &Prefix,
+) -> Result<String<A>, AllocError>
+    ensures text { GivesText result (asked_words name.now eid.now to.now (Negative hole.now)) }
+    ensures memory { OnErr result A.may_refuse }
+{
+    let mut text = replies_words(alloc, "negative", name, eid, to)?;
+    let hole = prefix_to_text(alloc, hole)?;
+    text.try_write(format_args!(" prefix {hole}"))?;
+    Ok(text)
+}
+
+// The first word, the node's name, an EID-Prefix, and the address that something goes to.
+fn replies_words<A: Memory + Copy>(
+    alloc: A,
+    verb: &str,
+    name: &str,
+    eid: &Prefix,
+    to: &Addr,
+) -> Result<String<A>, AllocError>
+    ensures text { GivesText result (replies_words verb.now name.now eid.now to.now) }
+    ensures memory { OnErr result A.may_refuse }
+{
+    let eid = prefix_to_text(alloc, eid)?;
+    let to = addr_to_text(alloc, to)?;
+    String::try_format(alloc, format_args!("{verb} {name} {eid} to {to}"))
+}
+
+// A refusal with a number, of a Map-Request that came from an address.
+fn refused_words<A: Memory + Copy>(
+    alloc: A,
+    name: &str,
+    number: u16,
+    from: &Addr,
+) -> Result<String<A>, AllocError>
+    ensures text { GivesText result (refused_words name.now number from.now) }
+    ensures memory { OnErr result A.may_refuse }
+{
+    let from = addr_to_text(alloc, from)?;
+    String::try_format(alloc, format_args!("refused {name} {number} from {from}"))
 }
 
 // A call of the socket that failed, and what caused it.

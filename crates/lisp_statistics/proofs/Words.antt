@@ -1,8 +1,14 @@
 -- The word of a kind is the first word of its lines.
-use Rattle.std.proofs.Common.{◌≡◌, ℕ, List, [], Option, Some, None, ap}
+use Rattle.std.proofs.Common.{◌≡◌, ℕ, List, [], ◌++◌, Option, Some, None, ap, refl}
+use Rattle.std.specs.Prelude.{codes}
+use Rattle.std.specs.Fmt.{decimal}
+use Rattle.lisp_records.specs.Address.{PrefixValue}
+use Rattle.lisp_records.specs.declared.address.Addr.{Addr}
+use Rattle.lisp_texts.specs.Written.{addr_text, prefix_text}
+use Rattle.lisp_mapping.specs.declared.outcome.Outcome.TheVariants as outcomes
 use Rattle.lisp_model.specs.declared.line.Line.TheVariants as lines
 use Rattle.lisp_statistics.specs.declared.kind.LineKind.{LineKind}
-use Rattle.lisp_statistics.specs.Kind.{kind_word, WordsBeginLines}
+use Rattle.lisp_statistics.specs.Kind.{kind_word, WordsBeginAsked, WordsBeginLines}
 
 abbrev word_of : Option LineKind → List ℕ
 word_of (Some kind) = kind_word kind
@@ -24,3 +30,13 @@ words_begin_lines (lines.Refused node what) kind is = ap word_of is
 words_begin_lines (lines.Nowhere datagram) kind is = absurd (let clash : ◌≡◌ {A = Option LineKind} None (Some kind) = is in cc)
 words_begin_lines (lines.Ticked ms now) kind is = absurd (let clash : ◌≡◌ {A = Option LineKind} None (Some kind) = is in cc)
 words_begin_lines (lines.Emptied router key) kind is = absurd (let clash : ◌≡◌ {A = Option LineKind} None (Some kind) = is in cc)
+
+-- what stands behind the word
+abbrev behind : List ℕ → PrefixValue → Addr → List ℕ
+behind name eid to = name ++ codes " " ++ prefix_text eid ++ codes " to " ++ addr_text to
+
+pub words_begin_asked : WordsBeginAsked
+words_begin_asked name eid to (outcomes.Replied records) = (behind name eid to ++ codes " records " ++ decimal records, refl)
+words_begin_asked name eid to (outcomes.Negative hole) = (behind name eid to ++ codes " prefix " ++ prefix_text hole, refl)
+words_begin_asked name eid to (outcomes.Forwarded router) = (behind name eid router, refl)
+words_begin_asked name eid to outcomes.Silent = (behind name eid to, refl)

@@ -1,8 +1,10 @@
 //! Which lines are counted together.
 
 ghost use Rattle.std.specs.Prelude.{◌≡◌};
-ghost use Rattle.lisp_statistics.specs.Kind.{kind_of, kind_of_line, kind_word, kind_number};
+ghost use Rattle.lisp_statistics.specs.Kind.{kind_of, kind_of_line, kind_of_outcome, kind_word, kind_number};
 
+use lisp_log::OVER_BUDGET;
+use lisp_mapping::Outcome;
 use lisp_model::Line;
 use lisp_turns::Printed;
 
@@ -21,10 +23,16 @@ pub enum LineKind {
     Down,
     /// A row of a Map-Server died.
     Expired,
+    /// A Map-Request went on to a router.
+    Forwarded,
+    /// A Map-Request was answered with a negative Map-Reply.
+    Negative,
     /// A Map-Server sent a notice.
     Notice,
     /// A router answered a notice.
     Noticed,
+    /// A Map-Request was answered with a Map-Reply of records.
+    Replied,
     /// A Map-Server sent a notice again.
     Resent,
     /// The node began anew, since its store couldn't commit.
@@ -33,6 +41,8 @@ pub enum LineKind {
     Rotated,
     /// A router sent a Map-Register.
     Sent,
+    /// A Map-Server that has just started didn't answer a Map-Request.
+    Unanswered,
     /// A refusal with the number that operators see.
     Refused(u16),
 }
@@ -46,7 +56,22 @@ impl LineKind {
         match line {
             Printed::Event(line) | Printed::Heard { line, .. } => LineKind::of_line(line),
             Printed::Expired { .. } => Some(LineKind::Expired),
+            Printed::Asked { outcome, .. } => Some(LineKind::of_outcome(outcome)),
+            Printed::Unasked { why, .. } => Some(LineKind::Refused(why.number())),
+            Printed::OverBudget { .. } => Some(LineKind::Refused(OVER_BUDGET)),
             Printed::Failed(call) => Some(LineKind::Refused(call.number())),
+        }
+    }
+
+    // That of what is said of an EID-Prefix that a Map-Request asks for.
+    fn of_outcome(outcome: &Outcome) -> LineKind
+        ensures { result ≡ kind_of_outcome outcome.now }
+    {
+        match outcome {
+            Outcome::Replied(_) => LineKind::Replied,
+            Outcome::Negative(_) => LineKind::Negative,
+            Outcome::Forwarded(_) => LineKind::Forwarded,
+            Outcome::Silent => LineKind::Unanswered,
         }
     }
 
@@ -82,12 +107,16 @@ impl LineKind {
             LineKind::Done => "done",
             LineKind::Down => "down",
             LineKind::Expired => "expired",
+            LineKind::Forwarded => "forwarded",
+            LineKind::Negative => "negative",
             LineKind::Notice => "notice",
             LineKind::Noticed => "noticed",
+            LineKind::Replied => "replied",
             LineKind::Resent => "resent",
             LineKind::Restarted => "restarted",
             LineKind::Rotated => "rotated",
             LineKind::Sent => "sent",
+            LineKind::Unanswered => "unanswered",
             LineKind::Refused(_) => "refused",
         }
     }

@@ -2,7 +2,7 @@
 //! and its body is empty.
 
 ghost use Rattle.std.specs.Global.{Global};
-ghost use Rattle.lisp_statistics.specs.Kind.{KindsByWord, WordsBeginLines};
+ghost use Rattle.lisp_statistics.specs.Kind.{KindsByWord, WordsBeginAsked, WordsBeginLines};
 ghost use Rattle.lisp_statistics.specs.RouterList.{PartsListAll};
 
 use crate::kind::LineKind;
@@ -11,6 +11,12 @@ use crate::kind::LineKind;
 #[tactic(auto, using(crate::proofs::Words::words_begin_lines))]
 pub fn words_begin_lines()
     ensures { WordsBeginLines }
+{}
+
+/// And of what is said of an EID-Prefix that a Map-Request asks for.
+#[tactic(auto, using(crate::proofs::Words::words_begin_asked))]
+pub fn words_begin_asked()
+    ensures { WordsBeginAsked }
 {}
 
 /// Counts are told in the order of the words of their kinds, and refusals behind them by their numbers.

@@ -8,14 +8,16 @@ ghost use Rattle.lisp_turns.specs.Outside.{OutsideState};
 use crate::messages::MAP_REGISTER;
 use crate::playing::SCHEDULE;
 use crate::support::assert_at;
+use lisp_budget::Budget;
 use lisp_model::{Line, WorldFault};
 use lisp_nodes::ServerNode;
 use lisp_nonces::MemoryStore;
 use lisp_records::{Addr, Bytes, RouterId};
+use lisp_resolve::Datagram;
 use lisp_sites::Config;
 use lisp_turns::{
     Clock, Commit, Control, Endpoint, Lines, NodeCore, Order, Outside, Place, Printed, Received,
-    Uncommitted, take_turns,
+    Request, Requests, Resolving, Uncommitted, take_turns,
 };
 use std::alloc::Global;
 
@@ -216,7 +218,7 @@ impl Bench {
 }
 
 impl Outside for Bench {
-    ghost seen = { λ b. record { log = None; moment = b.now; is_cut = false } };
+    ghost seen = { λ b. record { log = None; moment = b.now; is_cut = false; is_asked = false } };
 }
 
 impl Endpoint for Bench {
@@ -242,6 +244,16 @@ impl Endpoint for Bench {
                 .is_ok(),
             Err(_) => false,
         }
+    }
+}
+
+impl Requests for Bench {
+    fn next_request(&mut self, _buffer: &mut [u8]) -> Option<Request> {
+        None
+    }
+
+    fn reply(&mut self, _datagram: &Datagram) -> bool {
+        false
     }
 }
 
@@ -340,7 +352,7 @@ fn takes(
     taken == Some(Ok(())) && did(bench.did.as_slice(), &turn.does)
 }
 
-/// What comes of so many turns, each of so many places; `None` where no Map-Server is configured.
+/// What comes of so many turns, each of so many places; `None` where no Map-Server is configured, or for want of memory.
 fn turns(
     alloc: Global,
     config: &Config,
@@ -353,7 +365,12 @@ fn turns(
         return None;
     }
     let place = Place { config, number: 0 };
-    Some(take_turns(alloc, server, &place, places, turns, bench))
+    // No Map-Request waits.
+    let resolving = Resolving {
+        quiet: 0,
+        budget: Budget::new(alloc, 0, 0).ok()?,
+    };
+    Some(take_turns(alloc, server, &place, places, resolving, turns, bench))
 }
 
 // Whether what was done is that, in its order.

@@ -16,12 +16,12 @@ pub asks_none : (s : OutsideState) → Asks s s []
 asks_none s = ap (λ (log : Option (List Call)). record s { log = log }) (sym (logged_none s.log))
 
 pub asks_one : (a b : OutsideState) (call : Call) → Logs a b call → Asks a b (call ∷ [])
-asks_one a b call logs = logs ∙ (λ i. record { log = logged (call ∷ []) a.log; moment = a.moment; is_cut = sym (ap (λ (s : OutsideState). s.is_cut) logs) i })
+asks_one a b call logs = logs ∙ (λ i. record { log = logged (call ∷ []) a.log; moment = a.moment; is_cut = sym (ap (λ (s : OutsideState). s.is_cut) logs) i; is_asked = a.is_asked })
 
 pub asks_then : (a b c : OutsideState) (xs ys : List Call) → Asks a b xs → Asks b c ys → Asks a c (ys ++ xs)
 asks_then a b c xs ys first second =
     let log = ap (λ (s : OutsideState). logged ys s.log) first ∙ logged_twice xs ys a.log in
-    second ∙ (λ i. record { log = log i; moment = (first i).moment; is_cut = c.is_cut })
+    second ∙ (λ i. record { log = log i; moment = (first i).moment; is_cut = c.is_cut; is_asked = (first i).is_asked })
 
 -- nothing behind them
 pub asks_same : (a b : OutsideState) (xs : List Call) → Asks a b xs → Asks a b (xs ++ [])

@@ -10,7 +10,7 @@ use Rattle.lisp_model.specs.declared.line.Line.{Line}
 use Rattle.lisp_model.specs.declared.line.Line.TheVariants as lines
 use Rattle.lisp_turns.specs.Act.{numbered}
 use Rattle.lisp_turns.specs.Acts.{send_calls, printed_of}
-use Rattle.lisp_turns.specs.Outside.{Call, Datagram, Nothing, Failed, Receives, Polls, Reads, Waits, Commits, Prints, Sends, Listens, Answers, logged}
+use Rattle.lisp_turns.specs.Outside.{Call, Datagram, Nothing, Failed, Receives, Polls, Reads, Waits, Commits, Prints, Sends, Listens, Answers, Requests, Replies, logged}
 use Rattle.lisp_turns.specs.Part.{lines_of, sent_of, received_of}
 use Rattle.lisp_turns.specs.declared.outside.Printed.{Printed}
 use Rattle.lisp_turns.specs.declared.outside.Printed.TheVariants as printed
@@ -22,6 +22,9 @@ lines_append (Prints (printed.Event line) ∷ cs) ds = ap (λ rest. line ∷ res
 lines_append (Prints (printed.Heard line from) ∷ cs) ds = ap (λ rest. line ∷ rest) (lines_append cs ds)
 lines_append (Prints (printed.Expired router eid) ∷ cs) ds = lines_append cs ds
 lines_append (Prints (printed.Failed call) ∷ cs) ds = lines_append cs ds
+lines_append (Prints (printed.Asked eid to outcome) ∷ cs) ds = lines_append cs ds
+lines_append (Prints (printed.Unasked from why) ∷ cs) ds = lines_append cs ds
+lines_append (Prints (printed.OverBudget from) ∷ cs) ds = lines_append cs ds
 lines_append (Receives r ∷ cs) ds = lines_append cs ds
 lines_append (Polls r ∷ cs) ds = lines_append cs ds
 lines_append (Reads now ∷ cs) ds = lines_append cs ds
@@ -30,6 +33,8 @@ lines_append (Waits ms ∷ cs) ds = lines_append cs ds
 lines_append (Listens order ∷ cs) ds = lines_append cs ds
 lines_append (Answers core now outcome ∷ cs) ds = lines_append cs ds
 lines_append (Sends to bytes taken ∷ cs) ds = lines_append cs ds
+lines_append (Requests request ∷ cs) ds = lines_append cs ds
+lines_append (Replies d taken ∷ cs) ds = lines_append cs ds
 
 pub sent_append : (cs ds : List Call) → sent_of (cs ++ ds) ≡ sent_of cs ++ sent_of ds
 sent_append [] ds = refl
@@ -42,6 +47,8 @@ sent_append (Commits done ∷ cs) ds = sent_append cs ds
 sent_append (Waits ms ∷ cs) ds = sent_append cs ds
 sent_append (Listens order ∷ cs) ds = sent_append cs ds
 sent_append (Answers core now outcome ∷ cs) ds = sent_append cs ds
+sent_append (Requests request ∷ cs) ds = sent_append cs ds
+sent_append (Replies d taken ∷ cs) ds = sent_append cs ds
 
 pub received_append : (cs ds : List Call) → received_of (cs ++ ds) ≡ received_of cs ++ received_of ds
 received_append [] ds = refl
@@ -58,6 +65,8 @@ received_append (Commits done ∷ cs) ds = received_append cs ds
 received_append (Waits ms ∷ cs) ds = received_append cs ds
 received_append (Listens order ∷ cs) ds = received_append cs ds
 received_append (Answers core now outcome ∷ cs) ds = received_append cs ds
+received_append (Requests request ∷ cs) ds = received_append cs ds
+received_append (Replies d taken ∷ cs) ds = received_append cs ds
 
 -- of five parts the first and the fourth come to nothing; of four, the first and the third
 module _ {X : Type 0} (f : List Call → List X) (append : (cs ds : List Call) → f (cs ++ ds) ≡ f cs ++ f ds) where

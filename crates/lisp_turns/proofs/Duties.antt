@@ -15,6 +15,7 @@ use Rattle.lisp_turns.specs.Due.{DoesDuty, IsDuty, IsSend, IsResend, IsRefused, 
 use Rattle.lisp_turns.specs.Node.{NodeState}
 use Rattle.lisp_turns.specs.Outside.{OutsideState, Prints}
 use Rattle.lisp_turns.specs.Pause.{is_told, failed}
+use Rattle.lisp_turns.specs.Requests.{ResolvingValue}
 use Rattle.lisp_turns.specs.Stretch.{Asks, Tells, HasServed, ServesDue}
 use Rattle.lisp_turns.specs.declared.outside.Printed.{Printed}
 use Rattle.lisp_turns.specs.declared.outside.Printed.TheVariants as printed
@@ -93,14 +94,14 @@ module _ (A : Type 0) (config : ConfigValue) (number : ℕ) where
             asked = told_asked tells;
           }
 
-      abbrev ServesAll : (receives receives_left pause left : Pause) → Type 0
-      ServesAll receives receives_left pause left =
-          ServesDue A config number (record { node = old; receives = receives; sends = pause; outside = before }) (record { node = new; receives = receives_left; sends = left; outside = after }) now true
+      abbrev ServesAll : (receives receives_left pause left : Pause) (resolving resolving_left : ResolvingValue) → Type 0
+      ServesAll receives receives_left pause left resolving resolving_left =
+          ServesDue A config number (record { node = old; receives = receives; sends = pause; resolving = resolving; outside = before }) (record { node = new; receives = receives_left; sends = left; resolving = resolving_left; outside = after }) now true
 
       -- it was refused, and that was told, or wasn't
-      refused_as : (receives receives_left pause left : Pause) (told taken : Bool) → IsRefused act.line → told ≡ is_told pause now → left ≡ failed pause now
-          → Asks before after (acts_calls (this told taken ∷ so_far.served)) → ServesAll receives receives_left pause left
-      refused_as receives receives_left pause left told taken refused told_is left_is asked =
+      refused_as : (receives receives_left pause left : Pause) (resolving resolving_left : ResolvingValue) (told taken : Bool) → IsRefused act.line → told ≡ is_told pause now → left ≡ failed pause now
+          → Asks before after (acts_calls (this told taken ∷ so_far.served)) → ServesAll receives receives_left pause left resolving resolving_left
+      refused_as receives receives_left pause left resolving resolving_left told taken refused told_is left_is asked =
           record {
             served = this told taken ∷ so_far.served;
             did = did_more told taken;
@@ -115,13 +116,13 @@ module _ (A : Type 0) (config : ConfigValue) (number : ℕ) where
             asked = asked;
           }
 
-      pub ends_told : (receives receives_left pause left : Pause) (told : Bool) → IsRefused act.line → told ≡ is_told pause now → told ≡ true → left ≡ failed pause now → TellsAct
-          → ServesAll receives receives_left pause left
-      ends_told receives receives_left pause left told refused is told_is left_is tells =
-          refused_as receives receives_left pause left true tells.taken refused (sym told_is ∙ is) left_is (told_asked tells)
+      pub ends_told : (receives receives_left pause left : Pause) (resolving resolving_left : ResolvingValue) (told : Bool) → IsRefused act.line → told ≡ is_told pause now → told ≡ true → left ≡ failed pause now → TellsAct
+          → ServesAll receives receives_left pause left resolving resolving_left
+      ends_told receives receives_left pause left resolving resolving_left told refused is told_is left_is tells =
+          refused_as receives receives_left pause left resolving resolving_left true tells.taken refused (sym told_is ∙ is) left_is (told_asked tells)
 
-      pub ends_untold : (receives receives_left pause left : Pause) (told : Bool) → IsRefused act.line → told ≡ is_told pause now → told ≡ false → left ≡ failed pause now → after ≡ s
-          → ServesAll receives receives_left pause left
-      ends_untold receives receives_left pause left told refused is told_is left_is same =
-          refused_as receives receives_left pause left false false refused (sym told_is ∙ is) left_is
+      pub ends_untold : (receives receives_left pause left : Pause) (resolving resolving_left : ResolvingValue) (told : Bool) → IsRefused act.line → told ≡ is_told pause now → told ≡ false → left ≡ failed pause now → after ≡ s
+          → ServesAll receives receives_left pause left resolving resolving_left
+      ends_untold receives receives_left pause left resolving resolving_left told refused is told_is left_is same =
+          refused_as receives receives_left pause left resolving resolving_left false false refused (sym told_is ∙ is) left_is
           (subst (λ (t : OutsideState). Asks before t (acts_calls so_far.served)) (sym same) so_far.asked)

@@ -28,7 +28,8 @@ use Rattle.lisp_turns.specs.Beginning.{IsMute}
 use Rattle.lisp_turns.specs.Due.{IsRegisterDue, IsSend, IsResend, SendsDue, ResendsDue, IsRefused}
 use Rattle.lisp_turns.specs.Node.{NodeState, ServerCore, Server, Router, IsPlaced, Passes, IsDead, TellsDead}
 use Rattle.lisp_turns.specs.Obeying.{Obeys}
-use Rattle.lisp_turns.specs.Outside.{Reception, Datagram, Nothing, Failed, Call, Receives, Reads, Commits, Prints, Sends, Listens, Answers}
+use Rattle.lisp_budget.specs.Budget.{unused}
+use Rattle.lisp_turns.specs.Outside.{Reception, Datagram, Nothing, Failed, Call, Receives, Reads, Commits, Prints, Sends, Listens, Answers, Requests}
 use Rattle.lisp_turns.specs.Part.{IsOwn, ArePrinted, arrivals, sent_of}
 use Rattle.lisp_turns.specs.Pause.{may_try, is_told, failed}
 use Rattle.lisp_turns.specs.Turn.{TurnState, Hears, IsGroup, IsPut, AreDone, DoesDuties, Serves, commit_calls, hearing_calls, IsTurn}
@@ -46,10 +47,10 @@ abbrev pub none_failed : Pause
 none_failed = record { next_try = 0; next_line = 0 }
 
 abbrev pub before : TurnState
-before = record { node = Server silent; receives = none_failed; sends = none_failed; outside = record { log = Some []; moment = 0; is_cut = false } }
+before = record { node = Server silent; receives = none_failed; sends = none_failed; resolving = record { quiet = 60000; budget = unused 4096 262144 }; outside = record { log = Some []; moment = 0; is_cut = false; is_asked = true } }
 
 abbrev pub after : TurnState
-after = record before { outside = record { log = Some (Answers (ServerCore silent.core) 5 None ∷ Listens None ∷ Reads 5 ∷ Receives Nothing ∷ []); moment = 5; is_cut = false } }
+after = record before { outside = record { log = Some (Requests None ∷ Answers (ServerCore silent.core) 5 None ∷ Listens None ∷ Reads 5 ∷ Receives Nothing ∷ []); moment = 5; is_cut = false; is_asked = true } }
 
 -- it holds no row, so none that is dead
 none_held : (key : RouterId × PrefixValue) (row : RowValue) → row_at silent.core.rows key.0 key.1 ≡ Some row → ⊥
@@ -67,6 +68,7 @@ silent_turn A config places = record {
   hearing = record {
     later = omega arith;
     bound = omega arith;
+    apart = (tt, tt);
     passed = Server silent;
     expires = tells_none (Server silent) 5 (λ key dead. none_held key dead.0 dead.1);
     takes = record {
@@ -83,6 +85,9 @@ silent_turn A config places = record {
   served = [];
   did_serve = refl;
   serves = record { duties = tt; due = tt; notices_due = tt; once = λ i j d less within. absurd (omega (arith, within)); done = refl; all = inr (inl (λ router. refl)) };
+  deeds = [];
+  ended = true;
+  answers = record { few = omega arith; all = inl refl; does = refl; same = refl };
   calls = refl;
 }
 

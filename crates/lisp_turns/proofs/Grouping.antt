@@ -15,7 +15,8 @@ use Rattle.lisp_turns.specs.Group.{HearsEach, IsHeard, HearsNext, HearsOthers, H
 use Rattle.lisp_turns.specs.Node.{NodeState, core_of}
 use Rattle.lisp_turns.specs.Obeying.{Outcome, Obeys, obeyed, answer_of}
 use Rattle.lisp_turns.specs.Order.{event_of}
-use Rattle.lisp_turns.specs.Outside.{Reception, Datagram, Nothing, Failed, Call, Polls, Commits, Prints, Listens, Answers, OutsideState, Logs}
+use Rattle.lisp_turns.specs.Outside.{Reception, Datagram, Nothing, Failed, Call, Polls, Commits, Prints, Listens, Answers, OutsideState, IsApart, Logs}
+use Rattle.lisp_turns.specs.Requests.{ResolvingValue}
 use Rattle.lisp_turns.specs.Stretch.{Asks, Tells, TakesIn}
 use Rattle.lisp_turns.specs.Turn.{Hears, IsDatagram, IsGroup, Intake, acts_of, IsTakenIn, receives_after, failure_calls, commit_calls}
 use Rattle.lisp_turns.specs.declared.group.Heard.{Heard}
@@ -121,11 +122,16 @@ module _ (A : Type 0) (config : ConfigValue) (number now : ℕ) where
 -- a node heard some of the datagrams that waited, so many, and goes on
 pub record HeardSome (A : Type 0) (config : ConfigValue) (number places : ℕ) (old new : NodeState) (now count : ℕ) (heard : List Heard) (before after : OutsideState) : Type 0 where
   pub received : List Reception
+  pub apart : AllByRecursion (IsApart before.is_asked) received
   pub counted : length received + 1 ≡ count
   pub few : length received ≤ places - 1
   pub datagrams : AllByRecursion IsDatagram received
   pub hears : HearsEach A config number now received (reverse heard) old new
   pub asked : Asks before after (map Polls received)
+
+-- whether Map-Requests wait apart stays as it is
+apart_before : (before s : OutsideState) (calls : List Call) (reception : Reception) → Asks before s calls → IsApart s.is_asked reception → IsApart before.is_asked reception
+apart_before before s calls reception asked apart = subst (λ (b : Bool). IsApart b reception) (ap (λ (t : OutsideState). t.is_asked) asked) apart
 
 -- all but the newest of some is among them
 all_drop_one : (received : List Reception) → AllByRecursion IsDatagram received → AllByRecursion IsDatagram (drop 1 received)
@@ -145,12 +151,13 @@ module _ (A : Type 0) (config : ConfigValue) (number now : ℕ) (old new : NodeS
 
 module _ {A : Type 0} {config : ConfigValue} {number places : ℕ} {old : NodeState} {now : ℕ} {before : OutsideState} where
   pub heard_none : HeardSome A config number places old old now 1 [] before before
-  heard_none = record { received = []; counted = refl; few = omega arith; datagrams = tt; hears = (refl, refl); asked = asks_none before }
+  heard_none = record { received = []; apart = tt; counted = refl; few = omega arith; datagrams = tt; hears = (refl, refl); asked = asks_none before }
 
   module _ {between new : NodeState} {count : ℕ} {heard : List Heard} {s after : OutsideState} (so_far : HeardSome A config number places old between now count heard before s) (room : count < places) where
     pub heard_more : {newest : Heard} → HearsNext A config number between new now (Some newest) s after → HeardSome A config number places old new now (count + 1) (heard ++ newest ∷ []) before after
     heard_more {newest} next = record {
       received = next.reception ∷ so_far.received;
+      apart = (apart_before before s (map Polls so_far.received) next.reception so_far.asked next.apart, so_far.apart);
       counted = omega (arith, so_far.counted);
       few = omega (arith, so_far.counted, room);
       datagrams = (is_datagram A config number now between new newest next.reception next.heard, so_far.datagrams);
@@ -162,6 +169,7 @@ module _ {A : Type 0} {config : ConfigValue} {number places : ℕ} {old : NodeSt
     pub heard_last : HearsNext A config number between new now None s after → HearsOthers A config number places old new now (reverse heard) before after
     heard_last next = record {
       others = next.reception ∷ so_far.received;
+      apart = (apart_before before s (map Polls so_far.received) next.reception so_far.asked next.apart, so_far.apart);
       few = omega (arith, so_far.counted, room);
       datagrams = so_far.datagrams;
       full = λ datagram. absurd (no_datagram A config number now between new next.reception next.heard datagram);
@@ -174,6 +182,7 @@ module _ {A : Type 0} {config : ConfigValue} {number places : ℕ} {old : NodeSt
       → HearsOthers A config number places old new now (reverse heard) before after
   heard_full {new} {count} {heard} {after} so_far full = record {
     others = so_far.received;
+    apart = so_far.apart;
     few = so_far.few;
     datagrams = all_drop_one so_far.received so_far.datagrams;
     full = λ datagram. by full;
@@ -191,6 +200,7 @@ module _ (A : Type 0) (config : ConfigValue) (number places : ℕ) (old between 
   pub hears_group : HearsGroup A config number places old new now (Datagram from bytes) (heard ++ first ∷ []) before after
   hears_group = record {
     others = hears.others;
+    apart = hears.apart;
     group = record { few = hears.few; some = inl tt; datagrams = hears.datagrams; full = λ is datagram. hears.full datagram };
     hears = hears_first A config number now hears.others heard old between new from bytes first from_is does hears.hears;
     asked = hears.asked;
@@ -202,10 +212,10 @@ module _ (A : Type 0) (config : ConfigValue) (number places : ℕ) (node : NodeS
   none_group first other = record { few = omega arith; some = inr refl; datagrams = tt; full = λ is. absurd (other is) }
 
   pub hears_none : HearsGroup A config number places node node now Nothing [] before before
-  hears_none = record { others = []; group = none_group Nothing (λ is. is); hears = (refl, refl); asked = asks_none before }
+  hears_none = record { others = []; apart = tt; group = none_group Nothing (λ is. is); hears = (refl, refl); asked = asks_none before }
 
   pub hears_failure : HearsGroup A config number places node node now Failed [] before before
-  hears_failure = record { others = []; group = none_group Failed (λ is. is); hears = (refl, refl); asked = asks_none before }
+  hears_failure = record { others = []; apart = tt; group = none_group Failed (λ is. is); hears = (refl, refl); asked = asks_none before }
 
 -- what is to be committed, by whether a node did something
 abbrev pub to_commit : Bool → Bool → List Call
@@ -266,7 +276,7 @@ told_last : (acts failure commit asked : List Call) → acts ++ (failure ++ (com
 told_last acts failure commit asked = simp append_assoc
 
 -- a node took in what came; and its commit was done or not
-module _ (A : Type 0) (config : ConfigValue) (number places : ℕ) (old new : NodeState) (now : ℕ) (first : Reception) (heard : List Heard) (outcome : Outcome) (receives : Pause)
+module _ (A : Type 0) (config : ConfigValue) (number places : ℕ) (old new : NodeState) (now : ℕ) (first : Reception) (heard : List Heard) (outcome : Outcome) (receives : Pause) (resolving resolving_left : ResolvingValue)
     (before s : OutsideState) (takes : TakesAll A config number places old new now first heard outcome before s) where
   abbrev received : List Reception
   received = takes.hears.others ++ first ∷ []
@@ -288,7 +298,7 @@ module _ (A : Type 0) (config : ConfigValue) (number places : ℕ) (old new : No
 
   abbrev Takes : (left sends sends_left : Pause) (after : OutsideState) (done : Bool) → Type 0
   Takes left sends sends_left after done =
-      TakesIn A config number places (record { node = old; receives = receives; sends = sends; outside = before }) (record { node = new; receives = left; sends = sends_left; outside = after }) now first done
+      TakesIn A config number places (record { node = old; receives = receives; sends = sends; resolving = resolving; outside = before }) (record { node = new; receives = left; sends = sends_left; resolving = resolving_left; outside = after }) now first done
 
   pub loses : (sends sends_left : Pause) (after : OutsideState) → has_acts heard outcome ≡ true → Logs s after (Commits false) → Takes receives sends sends_left after false
   loses sends sends_left after has logs =
@@ -297,6 +307,7 @@ module _ (A : Type 0) (config : ConfigValue) (number places : ℕ) (old new : No
       record {
         intake = intake_of all.acts false;
         takes = taken_in all.acts false all.hears all.did;
+        apart = takes.hears.apart;
         some = λ is. some_acts (acts_of number (intake_of all.acts false)) false committed;
         left_is = λ is. absurd (true≢false (sym is));
         asked = asks_then before s after asked_first (commit_calls (acts_of number (intake_of all.acts false)) false) listened (subst (λ (l : List Call). Asks s after l) (sym committed) (asks_one s after (Commits false) logs));
@@ -316,6 +327,7 @@ module _ (A : Type 0) (config : ConfigValue) (number places : ℕ) (old new : No
       record {
         intake = intake;
         takes = taken_in all.acts last.0 all.hears all.did;
+        apart = takes.hears.apart;
         some = λ is. absurd (true≢false is);
         left_is = λ is. left_is;
         asked = subst (λ (l : List Call). Asks before after (Answers (core_of new) now (answer_of outcome) ∷ l))

@@ -1,3 +1,4 @@
+pub mod Answering
 pub mod Hearing
 pub mod ServingPlaces
 pub mod ServingRounds

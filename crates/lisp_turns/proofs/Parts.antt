@@ -1,11 +1,15 @@
 -- What a node prints and sends in its turns is a legal trace's part of it.
-use Rattle.std.proofs.Common.{◌≡◌, ℕ, zero, suc, ◌≤◌, Bool, true, false, List, [], ◌∷◌, ◌++◌, map, refl, sym, ap, subst, ◌∙◌, append-nil, arith}
+use Rattle.std.proofs.Common.{◌≡◌, ℕ, zero, suc, ◌≤◌, Bool, true, false, List, [], ◌∷◌, ◌++◌, map, Option, Some, None, Result, Ok, Err, refl, sym, ap, subst, ◌∙◌, append-nil, arith}
 use Rattle.std.specs.Prelude.{if◌then◌else◌}
 use Rattle.std.proofs.lemmas.List.{append_assoc}
 use Rattle.lisp_records.specs.declared.address.Addr.{Addr}
 use Rattle.lisp_records.specs.declared.router.RouterId.{RouterId}
 use Rattle.lisp_records.specs.Address.{PrefixValue}
+use Rattle.lisp_mapping.specs.Handling.{HandledValue}
+use Rattle.lisp_mapping.specs.declared.outcome.Outcome.{Outcome}
 use Rattle.lisp_policy.specs.Configuration.{ConfigValue}
+use Rattle.lisp_resolve.specs.Sends.{DatagramValue}
+use Rattle.lisp_resolve.specs.declared.unasked.Unasked.{Unasked}
 use Rattle.lisp_model.specs.declared.line.Line.{Line}
 use Rattle.lisp_model.specs.Trace.{Step, Opening}
 use Rattle.lisp_refinement.specs.World.{WorldState}
@@ -13,9 +17,10 @@ use Rattle.lisp_refinement.specs.Stands.{Stands}
 use Rattle.lisp_turns.specs.Acts.{TurnAct, DoesAll, printed_of, act_calls, acts_calls}
 use Rattle.lisp_turns.specs.Node.{NodeState, core_of, HasNode}
 use Rattle.lisp_turns.specs.Obeying.{answer_of}
-use Rattle.lisp_turns.specs.Outside.{Call, Reception, Datagram, Nothing, Failed, Receives, Polls, Reads, Prints, Listens, Answers, OutsideState, logged}
+use Rattle.lisp_turns.specs.Outside.{Call, Reception, Datagram, Nothing, Failed, Receives, Polls, Reads, Prints, Listens, Answers, Requests, OutsideState, logged}
 use Rattle.lisp_turns.specs.Part.{lines_of, sent_of, received_of, TurnsAreParts}
 use Rattle.lisp_turns.specs.Pause.{may_try, is_told}
+use Rattle.lisp_turns.specs.Requests.{Passage, Held, Sent, RequestDeed, passage_calls, passages_calls, outcome_calls, made_calls, deed_calls, deeds_calls, answered_calls}
 use Rattle.lisp_turns.specs.Turn.{TurnState, Intake, acts_of, IsTakenIn, failure_calls, rest_calls, expired_calls, commit_calls, hearing_calls, turn_calls, IsTurn, Turns}
 use Rattle.lisp_turns.specs.declared.outside.Printed.TheVariants as printed
 use Rattle.lisp_turns.specs.declared.outside.SocketCall.TheVariants as socket
@@ -66,6 +71,48 @@ commit_says_nothing : (heard : List TurnAct) (done : Bool) → SaysNothing (comm
 commit_says_nothing [] done = record { no_lines = refl; no_sent = refl; no_received = refl }
 commit_says_nothing (a ∷ earlier) done = record { no_lines = refl; no_sent = refl; no_received = refl }
 
+-- of calls one after the other
+both_say_nothing : (cs ds : List Call) → SaysNothing cs → SaysNothing ds → SaysNothing (cs ++ ds)
+both_say_nothing cs ds one two = record {
+  no_lines = lines_append cs ds ∙ (λ i. one.no_lines i ++ two.no_lines i);
+  no_sent = sent_append cs ds ∙ (λ i. one.no_sent i ++ two.no_sent i);
+  no_received = received_append cs ds ∙ (λ i. one.no_received i ++ two.no_received i);
+}
+
+-- what is said of a Map-Request is no line of an event, and what goes out for it is no message of the network
+passage_says_nothing : (from : Addr) (d : DatagramValue) (passage : Passage) → SaysNothing (passage_calls from d passage)
+passage_says_nothing from d Held = record { no_lines = refl; no_sent = refl; no_received = refl }
+passage_says_nothing from d (Sent true) = record { no_lines = refl; no_sent = refl; no_received = refl }
+passage_says_nothing from d (Sent false) = record { no_lines = refl; no_sent = refl; no_received = refl }
+
+passages_say_nothing : (from : Addr) (ds : List DatagramValue) (passages : List Passage) → SaysNothing (passages_calls from ds passages)
+passages_say_nothing from [] passages = record { no_lines = refl; no_sent = refl; no_received = refl }
+passages_say_nothing from (d ∷ ds) [] = record { no_lines = refl; no_sent = refl; no_received = refl }
+passages_say_nothing from (d ∷ ds) (passage ∷ passages) =
+    both_say_nothing (passages_calls from ds passages) (passage_calls from d passage) (passages_say_nothing from ds passages) (passage_says_nothing from d passage)
+
+outcomes_say_nothing : (to : Addr) (eids : List PrefixValue) (outcomes : List Outcome) → SaysNothing (outcome_calls to eids outcomes)
+outcomes_say_nothing to [] outcomes = record { no_lines = refl; no_sent = refl; no_received = refl }
+outcomes_say_nothing to (eid ∷ eids) [] = record { no_lines = refl; no_sent = refl; no_received = refl }
+outcomes_say_nothing to (eid ∷ eids) (outcome ∷ outcomes) =
+    both_say_nothing (outcome_calls to eids outcomes) (Prints (printed.Asked eid to outcome) ∷ []) (outcomes_say_nothing to eids outcomes) (record { no_lines = refl; no_sent = refl; no_received = refl })
+
+made_says_nothing : (from : Addr) (made : Option (Result HandledValue Unasked)) (passages : List Passage) → SaysNothing (made_calls from made passages)
+made_says_nothing from None passages = record { no_lines = refl; no_sent = refl; no_received = refl }
+made_says_nothing from (Some (Err why)) passages = record { no_lines = refl; no_sent = refl; no_received = refl }
+made_says_nothing from (Some (Ok handled)) passages = both_say_nothing (passages_calls from handled.datagrams passages) (outcome_calls handled.asked.to handled.asked.eids handled.outcomes)
+    (passages_say_nothing from handled.datagrams passages) (outcomes_say_nothing handled.asked.to handled.asked.eids handled.outcomes)
+
+deeds_say_nothing : (deeds : List RequestDeed) → SaysNothing (deeds_calls deeds)
+deeds_say_nothing [] = record { no_lines = refl; no_sent = refl; no_received = refl }
+deeds_say_nothing (deed ∷ earlier) = both_say_nothing (deed_calls deed) (deeds_calls earlier)
+    (both_say_nothing (made_calls deed.came.from deed.made deed.passages) (Requests (Some deed.came) ∷ []) (made_says_nothing deed.came.from deed.made deed.passages) (record { no_lines = refl; no_sent = refl; no_received = refl }))
+    (deeds_say_nothing earlier)
+
+answered_says_nothing : (ended : Bool) (deeds : List RequestDeed) → SaysNothing (answered_calls ended deeds)
+answered_says_nothing true deeds = both_say_nothing (Requests None ∷ []) (deeds_calls deeds) (record { no_lines = refl; no_sent = refl; no_received = refl }) (deeds_say_nothing deeds)
+answered_says_nothing false deeds = deeds_say_nothing deeds
+
 -- what is polled says no line and sends nothing
 polls_no_lines : (receptions : List Reception) → lines_of (map Polls receptions) ≡ []
 polls_no_lines [] = refl
@@ -108,15 +155,18 @@ module _ (number : ℕ) (first : Reception) (now : ℕ) (dead : List (RouterId �
       ∙ polls_came intake.others first
 
 -- what a turn's calls come to
-module _ (number : ℕ) (first : Reception) (receives : Pause) (now : ℕ) (dead : List (RouterId × PrefixValue)) (intake : Intake) (node : NodeState) (served : List TurnAct) where
+module _ (number : ℕ) (first : Reception) (receives : Pause) (now : ℕ) (dead : List (RouterId × PrefixValue)) (intake : Intake) (node : NodeState) (served : List TurnAct) (ended : Bool) (deeds : List RequestDeed) where
+  abbrev requests : List Call
+  requests = answered_calls ended deeds
+
   abbrev all_calls : List Call
-  all_calls = turn_calls number first receives now dead intake node served
+  all_calls = turn_calls number first receives now dead intake node served requests
 
   abbrev told : List Call
   told = acts_calls (acts_of number intake)
 
-  abbrev no_rest : SaysNothing (rest_calls first)
-  no_rest = rest_says_nothing first
+  abbrev no_rest : SaysNothing (rest_calls first ++ requests)
+  no_rest = both_say_nothing (rest_calls first) requests (rest_says_nothing first) (answered_says_nothing ended deeds)
 
   abbrev no_failure : SaysNothing (failure_calls first receives now)
   no_failure = failure_says_nothing first receives now
@@ -127,11 +177,11 @@ module _ (number : ℕ) (first : Reception) (receives : Pause) (now : ℕ) (dead
   abbrev answered : List Call
   answered = Answers (core_of node) now (answer_of intake.outcome) ∷ told
 
-  turn_parts : {X : Type 0} (f : List Call → List X) → ((cs ds : List Call) → f (cs ++ ds) ≡ f cs ++ f ds) → f (rest_calls first) ≡ [] → f (failure_calls first receives now) ≡ []
+  turn_parts : {X : Type 0} (f : List Call → List X) → ((cs ds : List Call) → f (cs ++ ds) ≡ f cs ++ f ds) → f (rest_calls first ++ requests) ≡ [] → f (failure_calls first receives now) ≡ []
       → f all_calls ≡ f (acts_calls served) ++ f answered ++ f hearing
   turn_parts f append none_one none_two =
-      ap (λ (l : List Call). f (l ++ hearing)) (sym (append_assoc (rest_calls first ++ acts_calls served) answered (failure_calls first receives now)))
-      ∙ of_five f append (rest_calls first) (acts_calls served) answered (failure_calls first receives now) hearing none_one none_two
+      ap (λ (l : List Call). f (l ++ hearing)) (sym (append_assoc (rest_calls first ++ requests ++ acts_calls served) answered (failure_calls first receives now)))
+      ∙ of_five f append (rest_calls first ++ requests) (acts_calls served) answered (failure_calls first receives now) hearing none_one none_two
 
   turn_lines : lines_of all_calls ≡ lines_of (acts_calls served) ++ (lines_of told ++ [])
   turn_lines = turn_parts lines_of lines_append no_rest.no_lines no_failure.no_lines
@@ -151,7 +201,7 @@ module _ (number : ℕ) (first : Reception) (receives : Pause) (now : ℕ) (dead
 module _ (A : Type 0) (config : ConfigValue) (number places : ℕ) (s t : TurnState) (turn : IsTurn A config number places s t) (w : WorldState) (o : Opening) (T : List Step) (stand : Stands w o T)
     (same : o.config ≡ config) (has : HasNode w number s.node) (clock : w.clock ≡ s.outside.moment) where
   abbrev calls : List Call
-  calls = turn_calls number turn.reception s.receives turn.now turn.dead turn.intake turn.between turn.served
+  calls = turn_calls number turn.reception s.receives turn.now turn.dead turn.intake turn.between turn.served (answered_calls turn.ended turn.deeds)
 
   abbrev receptions : List Reception
   receptions = turn.intake.others ++ turn.reception ∷ []
@@ -195,13 +245,13 @@ module _ (A : Type 0) (config : ConfigValue) (number places : ℕ) (s t : TurnSt
   all_arrived = (λ i. served.none i ++ append-nil (arrived its_acts) i)
       ∙ taken_arrived number turn.intake.order turn.intake.outcome turn.intake.taken turn.intake.heard
       ∙ heard_arrived number receptions turn.intake.heard takes.hears
-      ∙ sym (turn_received number turn.reception s.receives turn.now turn.dead turn.intake turn.between turn.served)
+      ∙ sym (turn_received number turn.reception s.receives turn.now turn.dead turn.intake turn.between turn.served turn.ended turn.deeds)
 
   turn_reaches : After (lines_of calls) (sent_of calls) (received_of calls)
   turn_reaches = subst (λ (p : List Line × List (Addr × List ℕ) × List (Addr × List ℕ)). After p.0 p.1 p.2)
       {x = (lines_of (acts_calls turn.served) ++ (lines_of (acts_calls its_acts) ++ []), sent_of (acts_calls turn.served) ++ (sent_of (acts_calls its_acts) ++ []), arrived turn.served ++ (arrived its_acts ++ []))}
       {y = (lines_of calls, sent_of calls, received_of calls)}
-      (λ i. (sym (turn_lines number turn.reception s.receives turn.now turn.dead turn.intake turn.between turn.served) i, sym (turn_sent number turn.reception s.receives turn.now turn.dead turn.intake turn.between turn.served) i, all_arrived i)) serves_reach
+      (λ i. (sym (turn_lines number turn.reception s.receives turn.now turn.dead turn.intake turn.between turn.served turn.ended turn.deeds) i, sym (turn_sent number turn.reception s.receives turn.now turn.dead turn.intake turn.between turn.served turn.ended turn.deeds) i, all_arrived i)) serves_reach
 
 -- so it does by turns
 record GoesOnTo (number : ℕ) (s t : TurnState) (w : WorldState) (o : Opening) (T : List Step) : Type 0 where
@@ -214,7 +264,7 @@ module _ (A : Type 0) (config : ConfigValue) (number places : ℕ) (s m t : Turn
   next_turn first turn =
       let so_far = first.reaches in
       let one = turn_reaches A config number places m t turn so_far.left o (so_far.steps ++ T) so_far.stands same so_far.node_is so_far.clock in
-      let more : List Call = turn_calls number turn.reception m.receives turn.now turn.dead turn.intake turn.between turn.served in
+      let more : List Call = turn_calls number turn.reception m.receives turn.now turn.dead turn.intake turn.between turn.served (answered_calls turn.ended turn.deeds) in
       let both = goes_further number (lines_of first.calls) (lines_of more) (sent_of first.calls) (sent_of more) (received_of first.calls) (received_of more) m.node t.node m.outside.moment turn.now w o T stand so_far one in
       record {
         calls = more ++ first.calls;

@@ -8,6 +8,7 @@ use Rattle.std.specs.Prelude.{IsTrue}
 use Rattle.lisp_turns.specs.Beginning.{Begins, IsUnasked, IsWholePart, RunsAsPart}
 use Rattle.lisp_turns.specs.Node.{NodeState}
 use Rattle.lisp_turns.specs.Outside.{Call, OutsideState, logged}
+use Rattle.lisp_turns.specs.Requests.{ResolvingValue}
 use Rattle.lisp_turns.specs.Stretch.{beginning, StartsTurns}
 use Rattle.lisp_turns.specs.Turn.{TurnState, UncutTurns, LosesTurn, hearing_calls}
 use Rattle.lisp_turns.specs.declared.turn.Uncommitted.{Uncommitted}
@@ -15,8 +16,8 @@ use Rattle.lisp_turns.proofs.Turning.{turns_are}
 use Rattle.lisp_turns.proofs.Parts.{turns_are_parts, hearing_lines, hearing_sent}
 use Rattle.lisp_turns.proofs.Beginnings.{beginnings_open}
 
-module _ (A : Type 0) (config : ConfigValue) (number places count : ℕ) (begun : NodeState) (before : OutsideState) (last : TurnState)
-    (took : UncutTurns A config number places count (beginning begun before) last) (network : IsNetwork config) (store : StoreState) (honest : IsTrue store.is_honest)
+module _ (A : Type 0) (config : ConfigValue) (number places count : ℕ) (begun : NodeState) (resolving : ResolvingValue) (before : OutsideState) (last : TurnState)
+    (took : UncutTurns A config number places count (beginning begun resolving before) last) (network : IsNetwork config) (store : StoreState) (honest : IsTrue store.is_honest)
     (begins : Begins config number store begun) (unasked : IsUnasked before) where
   -- what was asked in turns
   record AsksPart : Type 0 where
@@ -45,17 +46,17 @@ module _ (A : Type 0) (config : ConfigValue) (number places count : ℕ) (begun 
       }
 
 -- all turns
-pub starts_as_part : {A : Type 0} {config : ConfigValue} {number places turns : ℕ} {begun node : NodeState} {before after : OutsideState}
-    → StartsTurns A config number places turns begun node before after → RunsAsPart config number begun before after (Ok tt)
-starts_as_part {A} {config} {number} {places} {turns} {begun} {node} {before} starts = λ network store honest begins unasked.
-    let part = asks_part A config number places starts.took.count begun before _ starts.took.took network store honest begins unasked in
+pub starts_as_part : {A : Type 0} {config : ConfigValue} {number places turns : ℕ} {begun node : NodeState} {resolving : ResolvingValue} {before after : OutsideState}
+    → StartsTurns A config number places turns begun node resolving before after → RunsAsPart config number begun before after (Ok tt)
+starts_as_part {A} {config} {number} {places} {turns} {begun} {node} {resolving} {before} starts = λ network store honest begins unasked.
+    let part = asks_part A config number places starts.took.count begun resolving before _ starts.took.took network store honest begins unasked in
     (part.calls, [], part.asked, (refl, refl), refl, part.part)
 
 -- turns, and one that is lost
-pub loses_as_part : {A : Type 0} {config : ConfigValue} {number places turns : ℕ} {begun : NodeState} {before after : OutsideState} {why : Uncommitted}
-    → LosesTurn A config number places turns why.turns_left (beginning begun before) after → RunsAsPart config number begun before after (Err why)
-loses_as_part {A} {config} {number} {places} {turns} {begun} {before} {after} {why} loses = λ network store honest begins unasked.
-    let part = asks_part A config number places loses.count begun before loses.before loses.took network store honest begins unasked in
+pub loses_as_part : {A : Type 0} {config : ConfigValue} {number places turns : ℕ} {begun : NodeState} {resolving : ResolvingValue} {before after : OutsideState} {why : Uncommitted}
+    → LosesTurn A config number places turns why.turns_left (beginning begun resolving before) after → RunsAsPart config number begun before after (Err why)
+loses_as_part {A} {config} {number} {places} {turns} {begun} {resolving} {before} {after} {why} loses = λ network store honest begins unasked.
+    let part = asks_part A config number places loses.count begun resolving before loses.before loses.took network store honest begins unasked in
     let turn = loses.lost in
     let lost = hearing_calls number turn.reception turn.now turn.dead turn.intake false in (
       part.calls,

@@ -61,7 +61,7 @@ router_is_at config number place entry is there =
     ap (λ (k : ℕ). slice_index_or config.routers k nobody) (place_is number (length config.servers) place is) ∙ get_or_from_slice_get config.routers place entry nobody there
   where
     nobody : RouterEntryValue
-    nobody = record { name = []; address = V4 []; me = record { site = 0; xtr = [] }; key_id = 0; servers = []; proxy = false; use_ttl = false; nonce_block = 1; database = [] }
+    nobody = record { name = []; address = V4 []; me = record { site = 0; xtr = [] }; key_id = 0; servers = []; proxy = false; use_ttl = false; nonce_block = 1; database = []; resolve = [] }
 
 -- there is an element at each place of a list
 pub some_at : {X : Type 0} (xs : List X) (i : ℕ) → i < length xs → (x : X) × (slice_get xs i ≡ Some x)

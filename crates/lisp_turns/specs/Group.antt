@@ -7,7 +7,7 @@ use Rattle.lisp_model.specs.declared.event.Event.TheVariants as events
 use Rattle.lisp_turns.specs.Acts.{DoesOne}
 use Rattle.lisp_turns.specs.Node.{NodeState}
 use Rattle.lisp_turns.specs.Obeying.{Outcome, Obeys}
-use Rattle.lisp_turns.specs.Outside.{Reception, Datagram, Polls, Listens, OutsideState}
+use Rattle.lisp_turns.specs.Outside.{Reception, Datagram, Polls, Listens, OutsideState, IsApart}
 use Rattle.lisp_turns.specs.Stretch.{Asks, Tells}
 use Rattle.lisp_turns.specs.Turn.{IsDatagram, EndsInDatagram, IsGroup}
 use Rattle.lisp_turns.specs.declared.group.Heard.{Heard}
@@ -34,6 +34,7 @@ IsHeard A config number now _ None old new = new ≡ old
 pub record HearsNext (A : Type 0) (config : ConfigValue) (number : ℕ) (old new : NodeState) (now : ℕ) (next : Option Heard)
     (before after : OutsideState) : Type 0 where
   pub reception : Reception
+  pub apart : IsApart before.is_asked reception
   pub heard : IsHeard A config number now reception next old new
   pub asked : Asks before after (Polls reception ∷ [])
 
@@ -41,6 +42,7 @@ pub record HearsNext (A : Type 0) (config : ConfigValue) (number : ℕ) (old new
 pub record HearsOthers (A : Type 0) (config : ConfigValue) (number places : ℕ) (old new : NodeState) (now : ℕ) (heard : List Heard)
     (before after : OutsideState) : Type 0 where
   pub others : List Reception
+  pub apart : AllByRecursion (IsApart before.is_asked) others
   pub few : length others ≤ places - 1
   pub datagrams : AllByRecursion IsDatagram (drop 1 others)
   pub full : EndsInDatagram others → (length others ≡ places - 1) ⊎ MachineMayRefuse
@@ -51,6 +53,7 @@ pub record HearsOthers (A : Type 0) (config : ConfigValue) (number places : ℕ)
 pub record HearsGroup (A : Type 0) (config : ConfigValue) (number places : ℕ) (old new : NodeState) (now : ℕ) (first : Reception) (heard : List Heard)
     (before after : OutsideState) : Type 0 where
   pub others : List Reception
+  pub apart : AllByRecursion (IsApart before.is_asked) others
   pub group : IsGroup places first others
   pub hears : HearsEach A config number now (others ++ first ∷ []) heard old new
   pub asked : Asks before after (map Polls others)

@@ -8,6 +8,7 @@ pub mod Acts
 pub mod Due
 pub mod Obeying
 pub mod Pause
+pub mod Requests
 pub mod Turn
 pub mod Stretch
 pub mod Group

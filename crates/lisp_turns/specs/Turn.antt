@@ -11,18 +11,21 @@ use Rattle.lisp_turns.specs.Node.{NodeState, core_of, Passes, TellsDead}
 use Rattle.lisp_turns.specs.Acts.{TurnAct, DoesAll, acts_calls}
 use Rattle.lisp_turns.specs.Due.{IsDuty, IsSend, IsResend, SendsDue, ResendsDue, IsRefused, NothingDue}
 use Rattle.lisp_turns.specs.Obeying.{Outcome, Obeys, obeyed, answer_of}
-use Rattle.lisp_turns.specs.Outside.{Reception, Datagram, Failed, Call, Receives, Polls, Reads, Waits, Commits, Prints, Listens, Answers, OutsideState, logged}
+use Rattle.lisp_turns.specs.Outside.{Reception, Datagram, Failed, Call, Receives, Polls, Reads, Waits, Commits, Prints, Listens, Answers, OutsideState, IsApart, logged}
 use Rattle.lisp_turns.specs.Pause.{may_try, is_told, failed}
+use Rattle.lisp_turns.specs.Requests.{RequestDeed, ResolvingValue, AnswersRequests, answered_calls}
 use Rattle.lisp_turns.specs.declared.order.Order.{Order}
 use Rattle.lisp_turns.specs.declared.outside.Printed.TheVariants as printed
 use Rattle.lisp_turns.specs.declared.outside.SocketCall.TheVariants as calls
 use Rattle.lisp_turns.specs.declared.pause.Pause.{Pause}
 
--- a node between turns: the node; when its socket's failures are told, and when what is due is tried again; and what is outside
+-- a node between turns: the node; when its socket's failures are told, and when what is due is tried again; how it answers Map-Requests;
+-- and what is outside
 pub record TurnState : Type 0 where
   pub node : NodeState
   pub receives : Pause
   pub sends : Pause
+  pub resolving : ResolvingValue
   pub outside : OutsideState
 
 -- of each datagram the node makes one act, which is told: it is given the bytes as they came, from where they came; the newest first
@@ -134,9 +137,9 @@ telling_calls number first receives now intake node =
     (Answers (core_of node) now (answer_of intake.outcome) ∷ acts_calls (acts_of number intake)) ++ failure_calls first receives now
 
 -- and in a whole turn
-abbrev pub turn_calls : ℕ → (first : Reception) → Pause → ℕ → (dead : List (RouterId × PrefixValue)) → Intake → NodeState → (served : List TurnAct) → List Call
-turn_calls number first receives now dead intake node served =
-    rest_calls first ++ acts_calls served ++ telling_calls number first receives now intake node ++ hearing_calls number first now dead intake true
+abbrev pub turn_calls : ℕ → (first : Reception) → Pause → ℕ → (dead : List (RouterId × PrefixValue)) → Intake → NodeState → (served : List TurnAct) → (answered : List Call) → List Call
+turn_calls number first receives now dead intake node served answered =
+    rest_calls first ++ answered ++ acts_calls served ++ telling_calls number first receives now intake node ++ hearing_calls number first now dead intake true
 
 -- What a node takes in: it takes the datagrams that wait behind the first one, and makes of each what it makes of it at that moment; and
 -- then it does what a user tells it.
@@ -149,16 +152,17 @@ pub record IsTakenIn (A : Type 0) (config : ConfigValue) (number places : ℕ) (
   pub obeys : Obeys A config number between new now intake.order intake.outcome
 
 -- What a node hears in a turn. It takes a datagram, if one comes, reads the clock once, drops the dead rows and tells each, and takes in
--- what waits.
+-- what waits. Where Map-Requests wait apart, it hears none.
 pub record IsHearing (A : Type 0) (config : ConfigValue) (number places : ℕ) (old : TurnState) (between : NodeState) (now : ℕ)
     (first : Reception) (dead : List (RouterId × PrefixValue)) (intake : Intake) : Type 0 where
   pub later : old.outside.moment ≤ now
   pub bound : now ≤ max_moment
+  pub apart : AllByRecursion (IsApart old.outside.is_asked) (intake.others ++ first ∷ [])
   pub passed : NodeState
   pub expires : TellsDead old.node passed now dead
   pub takes : IsTakenIn A config number places passed between now first intake
 
--- One turn: what it takes in is committed, and then told, and then it does what is due.
+-- One turn: what it takes in is committed, and then told, and then it does what is due, and answers the Map-Requests that wait.
 pub record IsTurn (A : Type 0) (config : ConfigValue) (number places : ℕ) (old new : TurnState) : Type 0 where
   pub reception : Reception
   pub now : ℕ
@@ -172,7 +176,10 @@ pub record IsTurn (A : Type 0) (config : ConfigValue) (number places : ℕ) (old
   pub served : List TurnAct
   pub did_serve : DoesAll A config number left new.node now served
   pub serves : Serves config number left new.node now old.sends new.sends served
-  pub calls : new.outside ≡ record { log = logged (turn_calls number reception old.receives now dead intake between served) old.outside.log; moment = now; is_cut = new.outside.is_cut }
+  pub deeds : List RequestDeed
+  pub ended : Bool
+  pub answers : AnswersRequests config number places new.node now old.resolving new.resolving deeds ended
+  pub calls : new.outside ≡ record old.outside { log = logged (turn_calls number reception old.receives now dead intake between served (answered_calls ended deeds)) old.outside.log; moment = now; is_cut = new.outside.is_cut }
 
 -- A turn that is lost: what it took in couldn't be committed. No line of it and no answer goes out, and no turn follows it.
 pub record IsLostTurn (A : Type 0) (config : ConfigValue) (number places : ℕ) (old : TurnState) (outside : OutsideState) : Type 0 where
@@ -183,7 +190,7 @@ pub record IsLostTurn (A : Type 0) (config : ConfigValue) (number places : ℕ) 
   pub between : NodeState
   pub hearing : IsHearing A config number places old between now reception dead intake
   pub some : acts_of number intake ≢ []
-  pub calls : outside ≡ record { log = logged (hearing_calls number reception now dead intake false) old.outside.log; moment = now; is_cut = outside.is_cut }
+  pub calls : outside ≡ record old.outside { log = logged (hearing_calls number reception now dead intake false) old.outside.log; moment = now; is_cut = outside.is_cut }
 
 -- so many turns
 abbrev pub Turns : Type 0 → ConfigValue → ℕ → ℕ → ℕ → TurnState → TurnState → Type 0

@@ -17,6 +17,8 @@
 //! - A row that dies is printed before the datagram is heard, one row after another. So each is printed once, and a router that
 //!   registers at that moment comes after it.
 //! - A failed send is printed each time, unlike a failed receive: there is at most one for each line.
+//! - Where Map-Requests wait apart (`is_asked`), no core hears one: it is a question, and the last thing in a turn, so that no reply
+//!   shows what isn't committed. A turn answers as many as it hears datagrams at most, so neither kind keeps the other waiting.
 #![tactic(auto)]
 
 // What is outside, and what is told of it.
@@ -37,6 +39,7 @@ mod server;
 mod group;
 mod intake;
 pub mod laws;
+mod requests;
 mod turn;
 
 pub use act::Act;
@@ -44,7 +47,9 @@ pub use node::Node;
 pub use node_core::NodeCore;
 pub use order::Order;
 pub use outside::{
-    Clock, Commit, Control, Endpoint, Lines, Outside, Printed, Received, SocketCall,
+    Clock, Commit, Control, Endpoint, Lines, Outside, Printed, Received, Request, Requests,
+    SocketCall,
 };
 pub use place::Place;
+pub use requests::Resolving;
 pub use turn::{Uncommitted, take_turns};

@@ -1,6 +1,6 @@
 //! A node of either kind that takes turns.
 
-ghost use Rattle.std.specs.Prelude.{◌≡◌, ◌≤◌, None, IfOk, IfSome, OnErr};
+ghost use Rattle.std.specs.Prelude.{◌≡◌, ◌≤◌, Some, None, Err, IfOk, IfSome, OnErr, length};
 ghost use Rattle.lisp_records.specs.Moment.{max_moment};
 ghost use Rattle.lisp_model.specs.declared.event.Event.TheVariants as events;
 ghost use Rattle.lisp_model.specs.Memory.{MayTell};
@@ -9,14 +9,21 @@ ghost use Rattle.lisp_turns.specs.Acts.{DoesOne};
 ghost use Rattle.lisp_turns.specs.Due.{NothingDue, DoesDuty};
 ghost use Rattle.lisp_turns.specs.Node.{NodeState, core_of, core_value, IsPlaced, DropsRow, NoneDead};
 ghost use Rattle.lisp_turns.specs.Order.{event_of, order_fault};
+ghost use Rattle.lisp_turns.specs.Outside.{came_in};
+ghost use Rattle.lisp_turns.specs.Requests.{Makes};
+ghost use Rattle.lisp_requests.specs.declared.fault.RequestFault.TheVariants.{OutOfMemory};
+ghost use Rattle.lisp_resolve.specs.declared.unasked.Unasked.TheVariants as unasked;
 
 use crate::act::Act;
 use crate::node_core::NodeCore;
 use crate::order::Order;
+use crate::outside::Request;
 use crate::place::Place;
+use lisp_mapping::Handled;
 use lisp_memory::Memory;
 use lisp_model::WorldFault;
 use lisp_records::{Addr, Prefix, RouterId};
+use lisp_resolve::Unasked;
 use std::alloc::Global;
 
 /// A Map-Server or a router that runs at a place of a configuration. Moments are in ms.
@@ -37,6 +44,24 @@ pub trait Node {
         ensures drops { IfSome result (λ row. DropsRow (state self.old) (state self.new) now row) }
         ensures none { result ≡ None → NoneDead (state self.old) now
             × (state self.new ≡ state self.old) };
+
+    /// What it makes of a Map-Request that came, in a buffer, at a moment: what it says of each EID-Prefix, and the datagrams that are to be
+    /// sent, or why it takes nothing of it; `None` where it is a router that is down. A Map-Server's life is starting for `quiet` ms: until
+    /// then rows may not have come back (RFC 9301 sections 5.2 to 5.5, 8.2 and 8.3).
+    fn handle(
+        &self,
+        alloc: Global,
+        place: &Place,
+        quiet: u64,
+        request: &Request,
+        buffer: &[u8],
+        now: u64,
+    ) -> Option<Result<Handled, Unasked>>
+        requires { request.now.count ≤ length buffer.now }
+        ensures makes { Makes place.now.config.now place.now.number (state self.now) quiet now
+            (came_in buffer.now request.now) result }
+        ensures memory { result ≡ Some (Err (unasked.Request OutOfMemory))
+            → ⟦<Global as Memory>⟧.may_refuse };
 
     /// It is given bytes that come from an address, at a moment.
     fn hear(&mut self, place: &Place, from: Addr, bytes: &[u8], now: u64) -> Act

@@ -1,14 +1,16 @@
 //! What a node has outside: a socket, a clock, the commits of its store, where its lines go, and its users. A node is proved over any that
 //! keep these contracts.
 
-ghost use Rattle.std.specs.Prelude.{◌≡◌, length};
+ghost use Rattle.std.specs.Prelude.{◌≡◌, ◌≤◌, IfSome, length};
 ghost use Rattle.lisp_turns.specs.Node.{core_value};
-ghost use Rattle.lisp_turns.specs.Outside.{call_number, OutsideState, Logs, LogsLine, ReadsClock, reception, FitsBuffer, Receives, Polls, Commits, Waits, Sends, Listens, Answers};
+ghost use Rattle.lisp_turns.specs.Outside.{call_number, OutsideState, Logs, LogsLine, ReadsClock, reception, FitsBuffer, IsApart, came, Receives, Polls, Commits, Waits, Sends, Listens, Answers, Requests, Replies};
 
 use crate::node_core::NodeCore;
 use crate::order::Order;
+use lisp_mapping::Outcome;
 use lisp_model::{Line, WorldFault};
 use lisp_records::{Addr, Prefix, RouterId};
+use lisp_resolve::{Datagram, Unasked};
 
 /// What came of waiting for a datagram.
 #[derive(Clone, Copy, Debug, PartialEq, Eq)]
@@ -24,6 +26,18 @@ pub enum Received {
     Nothing,
     /// The socket failed.
     Failed,
+}
+
+/// A Map-Request that waits: a datagram whose type is that of a Map-Request, 1, or of an Encapsulated Control Message, 8 (RFC 9301
+/// section 5.1).
+#[derive(Clone, Copy, Debug, PartialEq, Eq)]
+pub struct Request {
+    /// The address that it comes from.
+    pub from: Addr,
+    /// The UDP port that it comes from.
+    pub port: u16,
+    /// How many bytes it has.
+    pub count: usize,
 }
 
 /// A call of a socket that failed.
@@ -67,6 +81,27 @@ pub enum Printed {
         /// The EID-Prefix of the record.
         eid: Prefix,
     },
+    /// What is said of an EID-Prefix that a Map-Request asks for.
+    Asked {
+        /// The EID-Prefix.
+        eid: Prefix,
+        /// The ITR-RLOC to which Map-Replies go.
+        to: Addr,
+        /// What is said of it.
+        outcome: Outcome,
+    },
+    /// Nothing is taken of a Map-Request.
+    Unasked {
+        /// The address that it came from.
+        from: Addr,
+        /// Why.
+        why: Unasked,
+    },
+    /// A datagram for a Map-Request is held back: it is over the budget.
+    OverBudget {
+        /// The address that the Map-Request came from.
+        from: Addr,
+    },
     /// The node's socket failed.
     Failed(SocketCall),
 }
@@ -76,13 +111,14 @@ pub trait Outside {
     ghost seen: { Self → OutsideState };
 }
 
-/// A node's UDP socket.
+/// A node's UDP socket. Where Map-Requests wait apart, nothing that it gives is one.
 pub trait Endpoint: Outside {
     /// The next datagram, taken into `buffer`; `Nothing` where none comes before its time limit.
     fn receive(&mut self, buffer: &mut [u8]) -> Received
         ensures asked { Logs (Self.seen self.old) (Self.seen self.new)
             (Receives (reception result buffer.new)) }
         ensures within { FitsBuffer result buffer.new }
+        ensures apart { IsApart (Self.seen self.old).is_asked (reception result buffer.new) }
         ensures room { length buffer.new ≡ length buffer.old };
 
     /// The next datagram that waits already, taken into `buffer`; `Nothing` where none does. It waits for none.
@@ -90,12 +126,27 @@ pub trait Endpoint: Outside {
         ensures asked { Logs (Self.seen self.old) (Self.seen self.new)
             (Polls (reception result buffer.new)) }
         ensures within { FitsBuffer result buffer.new }
+        ensures apart { IsApart (Self.seen self.old).is_asked (reception result buffer.new) }
         ensures room { length buffer.new ≡ length buffer.old };
 
     /// Sends a message to an address; whether the socket took it.
     fn send(&mut self, to: &Addr, message: &[u8]) -> bool
         ensures { Logs (Self.seen self.old) (Self.seen self.new)
             (Sends to.now message.now result) };
+}
+
+/// Where Map-Requests wait that came on a node's socket, apart from what else came, and where what is sent for them goes.
+pub trait Requests: Outside {
+    /// The next Map-Request that waits already, taken into `buffer`; `None` where none does. It waits for none.
+    fn next_request(&mut self, buffer: &mut [u8]) -> Option<Request>
+        ensures asked { Logs (Self.seen self.old) (Self.seen self.new)
+            (Requests (came result buffer.new)) }
+        ensures within { IfSome result (λ request. request.count ≤ length buffer.new) }
+        ensures room { length buffer.new ≡ length buffer.old };
+
+    /// Sends a datagram to its address and UDP port; whether the socket took it.
+    fn reply(&mut self, datagram: &Datagram) -> bool
+        ensures { Logs (Self.seen self.old) (Self.seen self.new) (Replies datagram.now result) };
 }
 
 /// A node's clock.

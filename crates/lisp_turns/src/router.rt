@@ -17,14 +17,18 @@ use crate::act::Act;
 use crate::node::Node;
 use crate::node_core::NodeCore;
 use crate::order::Order;
+use crate::outside::Request;
 use crate::place::Place;
 use lisp_admission::key_at;
 use lisp_etr::SendFault;
+use lisp_mapping::{Handled, router_handles};
 use lisp_memory::Memory;
 use lisp_model::WorldFault;
 use lisp_nodes::{Arrival, RouterNode, changed, rotated, router_hears, sent};
 use lisp_nonces::{Fate, WorldStore};
 use lisp_records::{Addr, Bytes, Database, Prefix, RouterId};
+use lisp_resolve::Unasked;
+use lisp_sites::ConfigNode;
 use std::alloc::Global;
 
 impl<S: WorldStore> Node for RouterNode<S> {
@@ -36,6 +40,29 @@ impl<S: WorldStore> Node for RouterNode<S> {
 
     fn core(&self) -> NodeCore<'_> {
         NodeCore::Router(self.etr())
+    }
+
+    fn handle(
+        &self,
+        alloc: Global,
+        place: &Place,
+        _quiet: u64,
+        request: &Request,
+        buffer: &[u8],
+        _now: u64,
+    ) -> Option<Result<Handled, Unasked>> {
+        let Some(ConfigNode::Router(entry)) = place.config.node(place.number) else {
+            return None;
+        };
+        let etr = self.etr()?;
+        Some(router_handles(
+            alloc,
+            etr,
+            &entry.address,
+            &entry.resolve,
+            request.port,
+            &buffer[..request.count],
+        ))
     }
 
     /// A router holds no rows.

@@ -16,13 +16,18 @@ use crate::act::Act;
 use crate::node::Node;
 use crate::node_core::NodeCore;
 use crate::order::Order;
+use crate::outside::Request;
 use crate::place::Place;
+use lisp_mapping::{Handled, server_handles};
 use lisp_memory::Memory;
 use lisp_model::WorldFault;
 use lisp_nodes::{Arrival, ServerNode, noticed, resent, server_hears};
 use lisp_nonces::{Fate, WorldStore};
 use lisp_records::{Addr, Bytes, Prefix, RouterId};
+use lisp_replies::is_starting;
+use lisp_resolve::Unasked;
 use lisp_server::NoticeFault;
+use lisp_sites::ConfigNode;
 use std::alloc::Global;
 
 impl<S: WorldStore> Node for ServerNode<S> {
@@ -34,6 +39,30 @@ impl<S: WorldStore> Node for ServerNode<S> {
 
     fn core(&self) -> NodeCore<'_> {
         NodeCore::Server(ServerNode::core(self))
+    }
+
+    fn handle(
+        &self,
+        alloc: Global,
+        place: &Place,
+        quiet: u64,
+        request: &Request,
+        buffer: &[u8],
+        now: u64,
+    ) -> Option<Result<Handled, Unasked>> {
+        let Some(ConfigNode::Server(entry)) = place.config.node(place.number) else {
+            return None;
+        };
+        let starting = is_starting(self.started(), quiet, now);
+        Some(server_handles(
+            alloc,
+            ServerNode::core(self),
+            &entry.resolve,
+            entry.address.family(),
+            starting,
+            &buffer[..request.count],
+            now,
+        ))
     }
 
     fn expire(&mut self, now: u64) -> Option<(RouterId, Prefix)> {

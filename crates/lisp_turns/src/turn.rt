@@ -11,9 +11,12 @@ ghost use Rattle.lisp_turns.specs.Stretch.{Asks, Expires, TakesIn, ServesDue, En
 
 use crate::intake::Intake;
 use crate::node::Node;
-use crate::outside::{Clock, Commit, Control, Endpoint, Lines, Printed, Received, SocketCall};
+use crate::outside::{
+    Clock, Commit, Control, Endpoint, Lines, Printed, Received, Requests, SocketCall,
+};
 use crate::pause::{Pause, RETRY_MS};
 use crate::place::Place;
+use crate::requests::Resolving;
 use crate::telling::tell;
 use std::alloc::Global;
 
@@ -30,6 +33,8 @@ struct Station<'a> {
     receives: Pause,
     // When what is due is tried again after it was refused, and that is told again.
     sends: Pause,
+    // How it answers Map-Requests.
+    resolving: Resolving,
 }
 
 /// A turn was lost: what it heard couldn't be committed. The node has to begin anew over its store.
@@ -42,23 +47,26 @@ pub struct Uncommitted {
 /// Takes so many turns, from a node's start on; none after one in which a line couldn't be printed. A turn takes one datagram,
 /// or none where none comes in time, and then those that wait already, `places` in all, at least one; drops the rows that are dead;
 /// does what a user tells it, if one does; commits what the node saved; answers each datagram to where it came from, in their order, and
-/// last the user; and then sends what is due: a Map-Register of each part of a router's database to each Map-Server, at most one of
-/// each, or each notice of a Map-Server (RFC 9301 sections 5.7 and 8.2), until one is refused. Each event is a line, and so is each
-/// row that dies. No line of a datagram or of a user's, and no answer, goes out before the commit. A socket that fails is a line, too,
+/// last the user; sends what is due: a Map-Register of each part of a router's database to each Map-Server, at most one of
+/// each, or each notice of a Map-Server (RFC 9301 sections 5.7 and 8.2), until one is refused; and then answers the Map-Requests that wait,
+/// `places` at most, by what the node holds now, as far as the budget lets it (RFC 9301 sections 8.2 and 8.3). Each event is a line, and so
+/// is each row that dies. No line of a datagram or of a user's, and no answer, goes out before the commit. A socket that fails is a line, too,
 /// once a minute, and a second's rest; what was refused is tried again a second later, and told once a minute.
 ///
 /// `Uncommitted` where the commit of a turn failed: no line of a datagram of that turn and no answer went out, and no turn follows it.
-pub fn take_turns<N: Node, O: Endpoint + Clock + Commit + Lines + Control>(
+pub fn take_turns<N: Node, O: Endpoint + Requests + Clock + Commit + Lines + Control>(
     alloc: Global,
     node: &mut N,
     place: &Place,
     places: usize,
+    resolving: Resolving,
     turns: u64,
     outside: &mut O,
 ) -> Result<(), Uncommitted>
     requires { IsPlaced place.now.config.now place.now.number (N.state node.old) }
     ensures turns { EndsTurns Global place.now.config.now place.now.number places turns
-        (N.state node.old) (N.state node.new) (O.seen outside.old) (O.seen outside.new) result }
+        (N.state node.old) (N.state node.new) resolving (O.seen outside.old) (O.seen outside.new)
+        result }
     ensures part { RunsAsPart place.now.config.now place.now.number (N.state node.old)
         (O.seen outside.old) (O.seen outside.new) result }
     ensures placed { IsPlaced place.now.config.now place.now.number (N.state node.new) }
@@ -68,6 +76,7 @@ pub fn take_turns<N: Node, O: Endpoint + Clock + Commit + Lines + Control>(
         places,
         receives: Pause::NONE,
         sends: Pause::NONE,
+        resolving,
     };
     let mut buffer = [0; MOST_BYTES];
     for number in 0..turns {
@@ -84,7 +93,7 @@ pub fn take_turns<N: Node, O: Endpoint + Clock + Commit + Lines + Control>(
 
 // Datagrams are taken into `buffer` and answered, and what is due is sent. Whether what it heard was committed: where it wasn't,
 // it ends there.
-fn turn<N: Node, O: Endpoint + Clock + Commit + Lines + Control>(
+fn turn<N: Node, O: Endpoint + Requests + Clock + Commit + Lines + Control>(
     alloc: Global,
     node: &mut N,
     station: &mut Station,
@@ -108,6 +117,10 @@ fn turn<N: Node, O: Endpoint + Clock + Commit + Lines + Control>(
     }
     drop_withdrawn(node, now);
     serve_due(node, station, now, outside);
+    let place = &station.place;
+    station
+        .resolving
+        .answer_waiting(alloc, node, place, station.places, buffer, now, outside);
     rest(received, outside);
     true
 }
@@ -156,6 +169,7 @@ fn take_in<N: Node, O: Endpoint + Commit + Lines + Control>(
     ensures place { station.new.place ≡ station.old.place }
     ensures places { station.new.places ≡ station.old.places }
     ensures sends { station.new.sends ≡ station.old.sends }
+    ensures resolving { station.new.resolving ≡ station.old.resolving }
 {
     let place = &station.place;
     let places = station.places;
@@ -204,6 +218,7 @@ fn serve_due<N: Node, O: Endpoint + Lines>(
     ensures place { station.new.place ≡ station.old.place }
     ensures places { station.new.places ≡ station.old.places }
     ensures receives { station.new.receives ≡ station.old.receives }
+    ensures resolving { station.new.resolving ≡ station.old.resolving }
 {
     if station.sends.may_try(now) {
         serve_all(node, station, now, outside);
@@ -228,6 +243,7 @@ fn serve_all<N: Node, O: Endpoint + Lines>(
     ensures place { station.new.place ≡ station.old.place }
     ensures places { station.new.places ≡ station.old.places }
     ensures receives { station.new.receives ≡ station.old.receives }
+    ensures resolving { station.new.resolving ≡ station.old.resolving }
 {
     for _ in 0..u64::MAX {
         let Some(act) = node.serve(&station.place, now) else {

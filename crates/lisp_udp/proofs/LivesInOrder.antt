@@ -7,7 +7,7 @@ use Rattle.lisp_turns.specs.Node.{NodeState}
 use Rattle.lisp_turns.specs.Outside.{OutsideState}
 use Rattle.lisp_turns.specs.Stretch.{EndsTurns}
 use Rattle.lisp_turns.specs.declared.turn.Uncommitted.{Uncommitted}
-use Rattle.lisp_udp.specs.Running.{TakesItsTurns}
+use Rattle.lisp_udp.specs.Running.{at_first, TakesItsTurns}
 use Rattle.lisp_udp.specs.declared.life.Life.{Life}
 use Rattle.lisp_udp.specs.Lives.{SaysRestarted, LosesLife, LosesLives, Lives}
 
@@ -16,7 +16,7 @@ pub record OneLife (A : Type 0) (config : ConfigValue) (number : ℕ) (store : S
   pub begun : NodeState
   pub node : NodeState
   pub begins : Begins config number store begun
-  pub ends : EndsTurns A config number places turns begun node old new ended
+  pub ends : EndsTurns A config number places turns begun node at_first old new ended
 
 -- lives that were lost, and one behind them
 pub record SoFar (A : Type 0) (config : ConfigValue) (number : ℕ) (store : StoreState) (places turns : ℕ) (old new : OutsideState) (ended : Result (Unit {0}) Uncommitted) : Type 0 where

@@ -10,6 +10,7 @@ use Rattle.lisp_turns.specs.Outside.{OutsideState, Logs, LogsLine, Waits}
 use Rattle.lisp_turns.specs.Stretch.{StartsTurns, beginning}
 use Rattle.lisp_turns.specs.Turn.{LosesTurn}
 use Rattle.lisp_turns.specs.declared.outside.Printed.TheVariants as printed
+use Rattle.lisp_udp.specs.Running.{at_first}
 
 -- a node says that it restarted, and a second passes
 pub record SaysRestarted (number : ℕ) (old new : OutsideState) : Type 0 where
@@ -17,14 +18,14 @@ pub record SaysRestarted (number : ℕ) (old new : OutsideState) : Type 0 where
   pub line : LogsLine old said (printed.Event (lines.Restarted number))
   pub rests : Logs said new (Waits second)
 
--- In what follows each life begins over this store.
+-- In what follows each life begins over this store, and with a budget of which nothing is used.
 
 -- a life whose last turn is lost, with so many turns left behind it: it says at its end that it restarted
 pub record LosesLife (A : Type 0) (config : ConfigValue) (number : ℕ) (store : StoreState) (places turns left : ℕ) (old new : OutsideState) : Type 0 where
   pub begun : NodeState
   pub begins : Begins config number store begun
   pub lost : OutsideState
-  pub loses : LosesTurn A config number places turns left (beginning begun old) lost
+  pub loses : LosesTurn A config number places turns left (beginning begun at_first old) lost
   pub says : SaysRestarted number lost new
 
 -- a life that takes all its turns, or fewer where a line couldn't be printed
@@ -32,7 +33,7 @@ pub record EndsLife (A : Type 0) (config : ConfigValue) (number : ℕ) (store : 
   pub begun : NodeState
   pub begins : Begins config number store begun
   pub node : NodeState
-  pub takes : StartsTurns A config number places turns begun node old new
+  pub takes : StartsTurns A config number places turns begun node at_first old new
 
 -- so many lives whose last turn is lost, one behind the other: each takes the turns that the one before left
 abbrev pub LosesLives : Type 0 → ConfigValue → ℕ → StoreState → (places turns left : ℕ) → ℕ → OutsideState → OutsideState → Type 0

@@ -16,11 +16,14 @@ use Rattle.lisp_turns.specs.Outside.{call_number}
 abbrev pub failed_text : List ℕ → SocketCall → List ℕ
 failed_text name call = codes "refused " ++ name ++ codes " " ++ decimal (call_number call) ++ 10 ∷ []
 
--- the line of an event, without the number of its datagram, or of a socket that failed; of a row that died nothing
+-- the line of an event, without the number of its datagram, or of a socket that failed; of a row that died and of Map-Requests nothing
 abbrev pub printed_text : ConfigValue → List ℕ → Printed → List ℕ
 printed_text config name (printed.Event line) = line_text config Hidden line
 printed_text config name (printed.Heard line from) = line_text config Hidden line
 printed_text config name (printed.Expired router eid) = []
+printed_text config name (printed.Asked eid to outcome) = []
+printed_text config name (printed.Unasked from why) = []
+printed_text config name (printed.OverBudget from) = []
 printed_text config name (printed.Failed call) = failed_text name call
 
 -- a datagram didn't arrive

@@ -1,6 +1,6 @@
 //! What a node that runs has outside: the system's socket and clock, and where its lines go.
 
-ghost use Rattle.std.specs.Prelude.{◌≡◌, None, IfSome, IsTrue, length};
+ghost use Rattle.std.specs.Prelude.{◌≡◌, None, IfSome, IsTrue, false, length};
 ghost use Rattle.lisp_database_store.specs.Groups.{SomeIsDone};
 ghost use Rattle.lisp_records.specs.Router.{router_cmp};
 ghost use Rattle.lisp_statistics.specs.Hearing.{heard_in};
@@ -20,10 +20,12 @@ use lisp_database_store::SystemTable;
 use lisp_memory::Memory;
 use lisp_model::{Line, WorldFault};
 use lisp_records::Addr;
+use lisp_resolve::Datagram;
 use lisp_script::RunFault;
 use lisp_statistics::{LineKind, Statistics};
 use lisp_turns::{
-    Clock, Commit, Control, Endpoint, Lines, NodeCore, Order, Outside, Printed, Received,
+    Clock, Commit, Control, Endpoint, Lines, NodeCore, Order, Outside, Printed, Received, Request,
+    Requests,
 };
 use std::alloc::Global;
 use std::net::Net;
@@ -157,7 +159,7 @@ impl<R: std::time::Clock, T: SystemTable, P: Printer> Devices<'_, R, T, P> {
 }
 
 impl<R, T, P: Printer> Outside for Devices<'_, R, T, P> {
-    ghost seen = { λ d. record { log = None; moment = moment_of d.stopwatch.last; is_cut = P.cut d.printer } };
+    ghost seen = { λ d. record { log = None; moment = moment_of d.stopwatch.last; is_cut = P.cut d.printer; is_asked = false } };
 }
 
 impl<R: std::time::Clock, T: SystemTable, P: Printer> Endpoint for Devices<'_, R, T, P> {
@@ -179,6 +181,18 @@ impl<R: std::time::Clock, T: SystemTable, P: Printer> Endpoint for Devices<'_, R
 
     fn send(&mut self, to: &Addr, message: &[u8]) -> bool {
         self.socket.send(to, message)
+    }
+}
+
+impl<R, T, P: Printer> Requests for Devices<'_, R, T, P> {
+    /// No Map-Request waits apart: one that comes is heard as any datagram, and refused.
+    fn next_request(&mut self, _buffer: &mut [u8]) -> Option<Request> {
+        None
+    }
+
+    fn reply(&mut self, datagram: &Datagram) -> bool {
+        self.socket
+            .send_to(&datagram.to, datagram.port, &datagram.bytes)
     }
 }
 

@@ -1,18 +1,22 @@
 //! A life of a node, from its start over its store until its turns end.
 
-ghost use Rattle.std.specs.Prelude.{◌≡◌, Err, IsErr, IfOk, IfErr, OnOk};
+ghost use Rattle.std.specs.Prelude.{◌≡◌, Err, IsErr, IfOk, IfErr, OnOk, OnErr};
 ghost use Rattle.lisp_nonces.specs.Store.{StoreState};
 ghost use Rattle.lisp_turns.specs.Beginning.{Begins};
 ghost use Rattle.lisp_turns.specs.Node.{IsPlaced};
 ghost use Rattle.lisp_sites.specs.Numbers.{IsNode};
 ghost use Rattle.lisp_udp.specs.Running.{RunsOver, TakesItsTurns};
 
+use crate::resolving::resolving;
 use crate::router::start_router;
 use crate::server::start_server;
+use lisp_memory::Memory;
 use lisp_nonces::WorldStore;
 use lisp_script::RunFault;
 use lisp_sites::Config;
-use lisp_turns::{Clock, Commit, Control, Endpoint, Lines, Node, Place, Uncommitted, take_turns};
+use lisp_turns::{
+    Clock, Commit, Control, Endpoint, Lines, Node, Place, Requests, Uncommitted, take_turns,
+};
 use std::alloc::Global;
 
 /// What is outside a node whose turns ended.
@@ -25,8 +29,11 @@ pub(crate) struct Life<O> {
 }
 
 /// Runs the node with a number over its store, in so many turns of so many datagrams: a Map-Server that holds nothing, or a router
-/// that starts at 0 ms. Faults: those of the start, then that of what is outside.
-pub(crate) fn run_over<S: WorldStore + Drop, O: Endpoint + Clock + Commit + Lines + Control + Drop>(
+/// that starts at 0 ms. Faults: those of the start, then that of what is outside, then 97.
+pub(crate) fn run_over<
+    S: WorldStore + Drop,
+    O: Endpoint + Requests + Clock + Commit + Lines + Control + Drop,
+>(
     alloc: Global,
     config: &Config,
     number: usize,
@@ -51,7 +58,10 @@ pub(crate) fn run_over<S: WorldStore + Drop, O: Endpoint + Clock + Commit + Line
 }
 
 /// Runs the node with a number, if it starts. Faults: as those of `run_over`.
-pub(crate) fn run_at<N: Node + Drop, O: Endpoint + Clock + Commit + Lines + Control + Drop>(
+pub(crate) fn run_at<
+    N: Node + Drop,
+    O: Endpoint + Requests + Clock + Commit + Lines + Control + Drop,
+>(
     alloc: Global,
     config: &Config,
     number: usize,
@@ -69,10 +79,20 @@ pub(crate) fn run_at<N: Node + Drop, O: Endpoint + Clock + Commit + Lines + Cont
         → TakesItsTurns Global O.seen config.now number store places turns outside result }
     ensures start { IfErr node (λ fault. result ≡ Err fault) }
     ensures device { OnOk node (IfErr outside (λ fault. result ≡ Err fault)) }
+    ensures memory { OnOk node (OnOk outside (OnErr result ⟦<Global as Memory>⟧.may_refuse)) }
 {
     let mut node = node?;
     let mut outside = outside?;
     let place = Place { config, number };
-    let ended = take_turns(alloc, &mut node, &place, places, turns, &mut outside);
+    let resolving = resolving(alloc)?;
+    let ended = take_turns(
+        alloc,
+        &mut node,
+        &place,
+        places,
+        resolving,
+        turns,
+        &mut outside,
+    );
     Ok(Life { outside, ended })
 }

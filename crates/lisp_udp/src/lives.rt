@@ -11,7 +11,7 @@ use lisp_database_store::{SharedDatabase, SystemTable};
 use lisp_model::Line;
 use lisp_script::RunFault;
 use lisp_sites::Config;
-use lisp_turns::{Clock, Commit, Control, Endpoint, Lines, Printed, Uncommitted};
+use lisp_turns::{Clock, Commit, Control, Endpoint, Lines, Printed, Requests, Uncommitted};
 use std::alloc::Global;
 
 /// How long a node rests before it begins anew, in ms.
@@ -19,8 +19,11 @@ const REST_MS: u64 = 1_000;
 
 /// Runs the Map-Server with a number over a store in the database, in so many turns of so many datagrams. Where a turn couldn't be
 /// committed, it says that it restarted, rests, and begins anew over a store in that database, with the turns that are left: as a
-/// crash would have it. What is outside is given back. Faults: those of the start, then that of what is outside; at a later start 97.
-pub(crate) fn live<T: SystemTable, O: Endpoint + Clock + Commit + Lines + Control + Drop>(
+/// crash would have it. What is outside is given back. Faults: those of the start, then that of what is outside, then 97; at a later start 97.
+pub(crate) fn live<
+    T: SystemTable,
+    O: Endpoint + Requests + Clock + Commit + Lines + Control + Drop,
+>(
     alloc: Global,
     config: &Config,
     number: usize,

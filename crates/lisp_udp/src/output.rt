@@ -15,7 +15,7 @@ use lisp_turns::{Printed, SocketCall};
 use std::alloc::{AllocError, Global};
 use std::io::Write;
 
-/// Prints what a node with a name prints, by the names of its configuration; of a row that died nothing. Faults: 88, 97.
+/// Prints what a node with a name prints, by the names of its configuration; of a row that died and of Map-Requests nothing. Faults: 88, 97.
 pub(crate) fn print_line<W: Write>(
     alloc: Global,
     config: &Config,
@@ -74,7 +74,10 @@ fn printed_text(
         Printed::Event(line) | Printed::Heard { line, .. } => {
             line_text(alloc, config, line, DatagramPlace::Hidden)
         }
-        Printed::Expired { .. } => Ok(String::new(alloc)),
+        Printed::Expired { .. }
+        | Printed::Asked { .. }
+        | Printed::Unasked { .. }
+        | Printed::OverBudget { .. } => Ok(String::new(alloc)),
         Printed::Failed(call) => failed_text(alloc, name, *call),
     }
 }

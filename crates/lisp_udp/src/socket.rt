@@ -33,7 +33,7 @@ impl NodeSocket {
         address: &Addr,
         timeout_ms: u64,
     ) -> Result<NodeSocket, RunFault> {
-        let Ok(socket) = UdpSocket::bind(rt, at(address)) else {
+        let Ok(socket) = UdpSocket::bind(rt, at(address, PORT)) else {
             return Err(RunFault::BIND);
         };
         match socket.set_read_timeout(Some(Duration::from_millis(timeout_ms))) {
@@ -56,6 +56,17 @@ impl NodeSocket {
     /// The kind of the last error of a call that failed.
     pub(crate) fn failure(&self) -> Option<ErrorKind> {
         self.failure
+    }
+
+    /// Sends a message to a UDP port of an address; whether the system took it.
+    pub(crate) fn send_to(&mut self, to: &Addr, port: u16, message: &[u8]) -> bool {
+        match self.try_send(to, port, message) {
+            Ok(_) => true,
+            Err(error) => {
+                self.failure = Some(error.kind());
+                false
+            }
+        }
     }
 
     // The next datagram that comes in so many ms; with `None`, that waits already.
@@ -91,9 +102,9 @@ impl NodeSocket {
         self.socket.recv_from(buffer)
     }
 
-    fn try_send(&mut self, to: &Addr, message: &[u8]) -> io::Result<usize> {
+    fn try_send(&mut self, to: &Addr, port: u16, message: &[u8]) -> io::Result<usize> {
         self.set_waits(true)?;
-        self.socket.send_to(message, at(to))
+        self.socket.send_to(message, at(to, port))
     }
 
     fn set_waits(&mut self, waits: bool) -> io::Result<()> {
@@ -115,7 +126,7 @@ impl NodeSocket {
 }
 
 impl Outside for NodeSocket {
-    ghost seen = { λ _. record { log = None; moment = 0; is_cut = false } };
+    ghost seen = { λ _. record { log = None; moment = 0; is_cut = false; is_asked = false } };
 }
 
 impl Endpoint for NodeSocket {
@@ -129,23 +140,17 @@ impl Endpoint for NodeSocket {
 
     /// To UDP port 4342 of the address.
     fn send(&mut self, to: &Addr, message: &[u8]) -> bool {
-        match self.try_send(to, message) {
-            Ok(_) => true,
-            Err(error) => {
-                self.failure = Some(error.kind());
-                false
-            }
-        }
+        self.send_to(to, PORT, message)
     }
 }
 
-// The address with the port of LISP control messages.
-fn at(address: &Addr) -> SocketAddr {
+// The UDP port of an address.
+fn at(address: &Addr, port: u16) -> SocketAddr {
     let ip = match address {
         Addr::V4(octets) => IpAddr::V4(Ipv4Addr::from_octets(*octets)),
         Addr::V6(octets) => IpAddr::V6(Ipv6Addr::from_octets(*octets)),
     };
-    SocketAddr::new(ip, PORT)
+    SocketAddr::new(ip, port)
 }
 
 fn address_of(socket: &SocketAddr) -> Addr {

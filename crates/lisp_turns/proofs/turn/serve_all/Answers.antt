@@ -31,8 +31,8 @@ returns-then-is_refused-clause-serves g c =
     let refused = c.if-is_refused.ensures.0 refl in
     rw (sym c.loop.invariant.same)
     (elim c.if-fail.branch [
-      | then-fail w ↦ ends_told _ _ _ _ _ _ _ _ _ _ _ _ c.loop.invariant.served c.in-Some.ensures.does _ _ _ _ _ refused c.fail.ensures.told w.if-fail.true c.fail.ensures.pause (rw w.outside-is (act_told c.act.view_is w.tell.ensures))
-      | else-fail w ↦ ends_untold _ _ _ _ _ _ _ _ _ _ _ _ c.loop.invariant.served c.in-Some.ensures.does _ _ _ _ _ refused c.fail.ensures.told w.if-fail.false c.fail.ensures.pause (ap g.O.Outside.seen w.outside-is)
+      | then-fail w ↦ ends_told _ _ _ _ _ _ _ _ _ _ _ _ c.loop.invariant.served c.in-Some.ensures.does _ _ _ _ _ _ _ refused c.fail.ensures.told w.if-fail.true c.fail.ensures.pause (rw w.outside-is (act_told c.act.view_is w.tell.ensures))
+      | else-fail w ↦ ends_untold _ _ _ _ _ _ _ _ _ _ _ _ c.loop.invariant.served c.in-Some.ensures.does _ _ _ _ _ _ _ refused c.fail.ensures.told w.if-fail.false c.fail.ensures.pause (ap g.O.Outside.seen w.outside-is)
     ])
 
 pub loop-preserved : goal.loop-preserved
