@@ -39,6 +39,10 @@ why_bytes_are_not_a_record = 1 ∷ 2 ∷ 3 ∷ 9 ∷ []
 abbrev pub why_bytes_are_not_a_request : List ℕ
 why_bytes_are_not_a_request = 9 ∷ 110 ∷ 111 ∷ 112 ∷ 113 ∷ 114 ∷ 115 ∷ 116 ∷ 117 ∷ 118 ∷ 119 ∷ 120 ∷ 121 ∷ 122 ∷ 123 ∷ 124 ∷ 125 ∷ []
 
+-- why a node takes nothing of a Map-Request, or holds back what it would send
+abbrev pub why_a_request_is_not_answered : List ℕ
+why_a_request_is_not_answered = 126 ∷ 127 ∷ 128 ∷ 129 ∷ 130 ∷ 135 ∷ []
+
 -- faults of a configuration
 abbrev pub faults_of_a_configuration : List ℕ
 faults_of_a_configuration = 20 ∷ 21 ∷ 22 ∷ 23 ∷ 24 ∷ 25 ∷ []
@@ -65,7 +69,7 @@ refusals_of_a_socket = 90 ∷ 91 ∷ []
 
 -- faults of the program
 abbrev pub faults_of_the_program : List ℕ
-faults_of_the_program = 87 ∷ 88 ∷ 89 ∷ 92 ∷ 93 ∷ 95 ∷ 96 ∷ 97 ∷ 98 ∷ 99 ∷ []
+faults_of_the_program = 87 ∷ 88 ∷ 89 ∷ 92 ∷ 93 ∷ 95 ∷ 96 ∷ 97 ∷ 98 ∷ 99 ∷ 131 ∷ 132 ∷ 133 ∷ 134 ∷ []
 
 -- refusals of the library for C programs
 abbrev pub refusals_of_the_library : List ℕ
@@ -82,6 +86,7 @@ numbers = refusals_of_a_message
     ∷ why_bytes_are_not_a_message
     ∷ why_bytes_are_not_a_record
     ∷ why_bytes_are_not_a_request
+    ∷ why_a_request_is_not_answered
     ∷ faults_of_a_configuration
     ∷ faults_of_a_database
     ∷ faults_of_a_store_of_nonces

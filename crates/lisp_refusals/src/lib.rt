@@ -13,6 +13,7 @@ mod notice_faults;
 mod output;
 mod program_faults;
 mod request_faults;
+mod resolve_refusals;
 mod router_faults;
 mod row;
 mod server_refusals;

@@ -6,7 +6,7 @@ use crate::row::{HEADER, Row, Section};
 pub(crate) const REQUEST_FAULTS: Section = Section {
     title: "Why bytes are not a Map-Request, a Map-Reply or an encapsulated message",
     introduction: "The first fault from left to right (RFC 9301 sections 5.2, 5.4, 5.5 and 5.8; [PROTOCOL](PROTOCOL.md) has the layouts, and
-which fault comes where). No subcommand reads these messages yet.",
+which fault comes where). `lispd look` takes no notice of what is no Map-Reply.",
     header: HEADER,
     rows: &[
         Row {

@@ -1,7 +1,7 @@
 //! The whole table.
 
 ghost use Rattle.std.specs.Prelude.{◌≡◌};
-ghost use Rattle.lisp_refusals.specs.Numbers.{section_numbers, HasNumbers, refusals_of_a_message, faults_of_a_notice, faults_of_a_router_that_starts, faults_of_a_router_that_sends, faults_of_a_router_that_changes_its_key, refusals_of_a_router, why_bytes_are_not_a_message, why_bytes_are_not_a_record, why_bytes_are_not_a_request, faults_of_a_configuration, faults_of_a_database, faults_of_a_store_of_nonces, faults_of_a_network, faults_of_a_script, refusals_of_a_socket, faults_of_the_program, refusals_of_the_library};
+ghost use Rattle.lisp_refusals.specs.Numbers.{section_numbers, HasNumbers, refusals_of_a_message, faults_of_a_notice, faults_of_a_router_that_starts, faults_of_a_router_that_sends, faults_of_a_router_that_changes_its_key, refusals_of_a_router, why_bytes_are_not_a_message, why_bytes_are_not_a_record, why_bytes_are_not_a_request, why_a_request_is_not_answered, faults_of_a_configuration, faults_of_a_database, faults_of_a_store_of_nonces, faults_of_a_network, faults_of_a_script, refusals_of_a_socket, faults_of_the_program, refusals_of_the_library};
 
 use crate::configuration_faults::{CONFIGURATION_FAULTS, DATABASE_FAULTS};
 use crate::library_refusals::LIBRARY_REFUSALS;
@@ -10,6 +10,7 @@ use crate::network_faults::{NETWORK_FAULTS, SCRIPT_FAULTS};
 use crate::notice_faults::{NOTICE_FAULTS, STORE_FAULTS};
 use crate::program_faults::{PROGRAM_FAULTS, SOCKET_FAULTS};
 use crate::request_faults::REQUEST_FAULTS;
+use crate::resolve_refusals::RESOLVE_REFUSALS;
 use crate::router_faults::{ROTATE_FAULTS, ROUTER_REFUSALS, SEND_FAULTS, START_FAULTS};
 use crate::row::Section;
 use crate::server_refusals::SERVER_REFUSALS;
@@ -26,7 +27,7 @@ A refusal is an answer: `lispd answer` prints `refused N` and ends with status 0
 `refused NAME N`, with the name of the node, and go on. A fault ends the program, which prints `lispd: fault N` on standard
 error; its status is 1 where files, sockets, reading, writing or memory fail, and 2 for the words of the command line, the
 configuration and the script. A refusal or a fault that keeps a node from what `lispd tell` orders ends `lispd tell` so, with the
-status 3. A new refusal of a Map-Server would take 69, which is free.
+status 3; a negative Map-Reply ends `lispd look` with the status 4. A new refusal of a Map-Server would take 69, which is free.
 ";
 
 /// What stands before the sections.
@@ -36,7 +37,7 @@ pub(crate) fn opening() -> &'static str {
 
 /// The sections, in the order of the document.
 #[tactic(auto, unfolding(crate::specs::Numbers::numbers))]
-pub(crate) fn sections() -> [Section; 17]
+pub(crate) fn sections() -> [Section; 18]
     ensures { HasNumbers result }
 {
     [
@@ -49,6 +50,7 @@ pub(crate) fn sections() -> [Section; 17]
         message_faults(),
         record_faults(),
         request_faults(),
+        resolve_refusals(),
         configuration_faults(),
         database_faults(),
         store_faults(),
@@ -112,6 +114,12 @@ fn request_faults() -> Section
     ensures { section_numbers result ≡ why_bytes_are_not_a_request }
 {
     REQUEST_FAULTS
+}
+
+fn resolve_refusals() -> Section
+    ensures { section_numbers result ≡ why_a_request_is_not_answered }
+{
+    RESOLVE_REFUSALS
 }
 
 fn configuration_faults() -> Section

@@ -9,7 +9,7 @@ use lisp_sqlite::Sqlite;
 use lisp_udp::{Storage, Stretch, Subject, run_subject};
 use lispd_cli::{
     CONFIG, DATABASE, Errand, FILE, Failure, NodeWords, ProgramFault, STORE, TEXT, ask_node,
-    is_given, node_words, run_alone, word,
+    is_given, look_up, node_words, run_alone, word,
 };
 use std::alloc::Global;
 use std::fs;
@@ -150,6 +150,7 @@ fn run_other<W: Write>(
         "draw" => run_draw(rt, words, writer),
         "ask" => ask_node(rt, Errand::Ask, words, writer),
         "tell" => ask_node(rt, Errand::Tell, words, writer),
+        "look" => look_up(rt, words, writer),
         _ => run_alone(rt, named, writer),
     }
 }

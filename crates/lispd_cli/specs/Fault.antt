@@ -1,8 +1,9 @@
 -- The numbers of the program's faults, and its exit statuses: 1 where files, streams or memory failed, 2 for the
--- words of the command line, 3 where a node doesn't do what it was told.
+-- words of the command line, 3 where a node doesn't do what it was told, 4 for a negative Map-Reply.
 use Rattle.std.specs.Prelude.{◌≡◌, ℕ, Option, None}
 use Rattle.lisp_files.specs.declared.ending.Ending.{Ending}
 use Rattle.lisp_answer.specs.Fault.{fault_number}
+use Rattle.lisp_look.specs.Fault.{look_fault_number, look_fault_status}
 use Rattle.lisp_script.specs.PlayFault.{play_fault_number, play_fault_status, play_fault_line}
 use Rattle.lisp_refusals.specs.Fault.{explain_fault_number, explain_fault_status}
 use Rattle.lisp_script.specs.RunFault.{run_status, run_line}
@@ -13,7 +14,7 @@ use Rattle.lispd_cli.specs.declared.failure.Failure.{Failure}
 use Rattle.lispd_cli.specs.declared.fault.SetupFault.{SetupFault}
 use Rattle.lispd_cli.specs.declared.fault.SetupFault.TheVariants as setup_faults
 use Rattle.lispd_cli.specs.declared.fault.ProgramFault.{ProgramFault}
-use Rattle.lispd_cli.specs.declared.fault.ProgramFault.TheVariants.{Words, Setup, Answer, File, Play, Turns, Known, Group, GroupOfFiles, Run, Explain, Unanswered, Refused, Warnings}
+use Rattle.lispd_cli.specs.declared.fault.ProgramFault.TheVariants.{Words, Setup, Answer, File, Play, Turns, Known, Group, GroupOfFiles, Run, Explain, Unanswered, Refused, Question, Look, Warnings}
 
 abbrev pub setup_fault_number : SetupFault → ℕ
 setup_fault_number (setup_faults.BadOption _) = 98
@@ -37,6 +38,8 @@ program_fault_number (Run fault) = fault.number
 program_fault_number (Explain fault) = explain_fault_number fault
 program_fault_number Unanswered = 99
 program_fault_number (Refused number) = number
+program_fault_number (Question _) = 98
+program_fault_number (Look fault) = look_fault_number fault
 program_fault_number Warnings = 25
 
 abbrev pub program_fault_status : ProgramFault → ℕ
@@ -53,6 +56,8 @@ program_fault_status (Run fault) = run_status fault.number
 program_fault_status (Explain fault) = explain_fault_status fault
 program_fault_status Unanswered = 1
 program_fault_status (Refused _) = 3
+program_fault_status (Question _) = 2
+program_fault_status (Look fault) = look_fault_status fault
 program_fault_status Warnings = 2
 
 -- the faulty line of a script

@@ -1,6 +1,7 @@
 pub mod Fault
 pub mod Options
 pub mod Words
+pub mod Question
 pub mod Asking
 pub mod Check
 pub mod PrintedLine

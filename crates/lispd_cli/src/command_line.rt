@@ -3,8 +3,9 @@
 use crate::argument::Argument;
 use crate::help::{
     ABOUT, ANSWER_ABOUT, ANSWER_EXAMPLE, ASK_ABOUT, ASK_FORM, CHECK_ABOUT, CHECK_WARNS, DRAW_ABOUT,
-    DRAW_FORM, EXPLAIN_ABOUT, LINE_EXAMPLE, LOOP_ABOUT, LOOP_FORM, NODE_RUNS, PLAY_ABOUT,
-    PLAY_FORM, ROUTER_ABOUT, SERVER_ABOUT, SERVER_GROUPS, TELL_ABOUT, TELL_FORM,
+    DRAW_FORM, EXPLAIN_ABOUT, LINE_EXAMPLE, LOOK_ABOUT, LOOK_FORM, LOOP_ABOUT, LOOP_FORM,
+    NODE_RUNS, PLAY_ABOUT, PLAY_FORM, ROUTER_ABOUT, SERVER_ABOUT, SERVER_GROUPS, TELL_ABOUT,
+    TELL_FORM,
 };
 use crate::option::AnswerOption;
 use clap::Command;
@@ -33,6 +34,18 @@ pub const FORCE: &str = "force";
 
 /// What the node is asked or told.
 pub const QUESTION: &str = "WORD";
+
+/// What `look` asks for.
+pub const EID: &str = "EID";
+
+/// The option for the address of the Map-Server that it asks.
+pub const MAP_SERVER: &str = "server";
+
+/// The option for the ITR-RLOC.
+pub const FROM: &str = "from";
+
+/// The option for how many Map-Requests it sends at most.
+pub const TRIES: &str = "tries";
 
 /// The number of `explain`, and what stands behind it in a line.
 pub const NUMBER: &str = "N";
@@ -176,7 +189,7 @@ default) to 64; only with --database",
 ];
 
 /// Those that ask a node, tell it something, and look at a configuration or a number; they come after the others.
-static ASKING: [Subcommand; 4] = [
+static ASKING: [Subcommand; 5] = [
     Subcommand {
         name: "ask",
         about: ASK_ABOUT,
@@ -201,6 +214,38 @@ static ASKING: [Subcommand; 4] = [
             Argument::Switch {
                 name: FORCE,
                 help: "Send `change` also where the router's site doesn't allow a record",
+            },
+            WORDS_ARGUMENT,
+        ],
+    },
+    Subcommand {
+        name: "look",
+        about: LOOK_ABOUT,
+        after_help: Some(LOOK_FORM),
+        arguments: &[
+            Argument::Word {
+                name: EID,
+                is_required: true,
+                help: "The address, or the EID-Prefix",
+            },
+            Argument::Value {
+                name: MAP_SERVER,
+                letters: "ADDRESS",
+                is_required: true,
+                help: "The Map-Server, at UDP port 4342",
+            },
+            Argument::Value {
+                name: FROM,
+                letters: "ADDRESS",
+                is_required: false,
+                help: "The ITR-RLOC to which the Map-Reply goes, an address of this machine; left out, that from which the \
+Map-Server is reached",
+            },
+            Argument::Value {
+                name: TRIES,
+                letters: "N",
+                is_required: false,
+                help: "How often it asks at most, a second each time, from 1 to 100; left out, 3",
             },
             WORDS_ARGUMENT,
         ],

@@ -1,11 +1,14 @@
 //! What keeps `setup` from giving a setup, and what ends the program: each with its number and its exit
-//! status, 1 where files, streams or memory fail, 2 for the words of the command line and 3 where a node refuses.
+//! status, 1 where files, streams or memory fail, 2 for the words of the command line, 3 where a node refuses and 4 for a negative
+//! Map-Reply.
 
 ghost use Rattle.std.specs.Prelude.{◌≡◌};
 ghost use Rattle.lispd_cli.specs.Fault.{setup_fault_number, setup_fault_status, program_fault_number, program_fault_status, program_fault_line};
 
 use crate::option::AnswerOption;
+use crate::question::QuestionFault;
 use lisp_answer::AnswerFault;
+use lisp_look::LookFault;
 use lisp_refusals::ExplainFault;
 use lisp_script::{InputFault, PlayFault, RunFault};
 use std::alloc::AllocError;
@@ -96,14 +99,20 @@ pub enum ProgramFault {
     /// The node doesn't do what it was told, for a refusal or a fault with this number; nothing was sent, or its answer was printed.
     #[error("the node doesn't do it")]
     Refused(u16),
+    /// A word of `look` has another form than it takes.
+    #[error(transparent)]
+    Question(QuestionFault),
+    /// No positive Map-Reply came.
+    #[error(transparent)]
+    Look(LookFault),
     /// The configuration has warnings, and `--strict` was given; or it has tables that are ignored.
     #[error("the configuration has warnings, and --strict was given")]
     Warnings,
 }
 
 impl ProgramFault {
-    /// The number that operators see: `Words`, `Turns`, `Known`, `Group` and `GroupOfFiles` 98, `File` 93, `Unanswered` 99,
-    /// `Warnings` 25, or that of the fault or the refusal inside.
+    /// The number that operators see: `Words`, `Turns`, `Known`, `Group`, `GroupOfFiles` and `Question` 98, `File` 93,
+    /// `Unanswered` 99, `Warnings` 25, or that of the fault or the refusal inside.
     pub const fn number(&self) -> u16
         ensures { result ≡ program_fault_number self.now }
     {
@@ -112,7 +121,8 @@ impl ProgramFault {
             | ProgramFault::Turns
             | ProgramFault::Known
             | ProgramFault::Group
-            | ProgramFault::GroupOfFiles => 98,
+            | ProgramFault::GroupOfFiles
+            | ProgramFault::Question(_) => 98,
             ProgramFault::Setup(fault) => fault.number(),
             ProgramFault::Answer(fault) => fault.number(),
             ProgramFault::File => 93,
@@ -121,11 +131,12 @@ impl ProgramFault {
             ProgramFault::Explain(fault) => fault.number(),
             ProgramFault::Unanswered => 99,
             ProgramFault::Refused(number) => *number,
+            ProgramFault::Look(fault) => fault.number(),
             ProgramFault::Warnings => 25,
         }
     }
 
-    /// The exit status: `Words`, `Turns`, `Known`, `Group`, `GroupOfFiles` and `Warnings` 2, `Refused` 3, `File` and
+    /// The exit status: `Words`, `Turns`, `Known`, `Group`, `GroupOfFiles`, `Question` and `Warnings` 2, `Refused` 3, `File` and
     /// `Unanswered` 1, or that of the fault inside.
     pub fn status(&self) -> u8
         ensures { result ≡ program_fault_status self.now }
@@ -136,6 +147,7 @@ impl ProgramFault {
             | ProgramFault::Known
             | ProgramFault::Group
             | ProgramFault::GroupOfFiles
+            | ProgramFault::Question(_)
             | ProgramFault::Warnings => 2,
             ProgramFault::Setup(fault) => fault.status(),
             ProgramFault::Answer(fault) => fault.status(),
@@ -144,6 +156,7 @@ impl ProgramFault {
             ProgramFault::Run(fault) => fault.status(),
             ProgramFault::Explain(fault) => fault.status(),
             ProgramFault::Refused(_) => 3,
+            ProgramFault::Look(fault) => fault.status(),
         }
     }
 

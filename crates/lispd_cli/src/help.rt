@@ -135,6 +135,21 @@ but with --force.
 Example:
   lispd tell nonces/s1 notice r1";
 
+/// What `look` does, for its help.
+pub(crate) const LOOK_ABOUT: &str =
+    "Ask a Map-Server who answers for an address or an EID-Prefix, by a Map-Request as an ITR sends it, and print the Map-Reply";
+
+/// What it prints, for its help.
+pub(crate) const LOOK_FORM: &str =
+    "It prints from whom the Map-Reply comes, and after how many milliseconds: the Map-Server, or a router to which it forwards. Then a
+line for each record: `record` with its locators, or `negative` with what an ITR does with packets. The Map-Server has to reply to the
+ITR-RLOC.
+
+The status is 0 where the longest record that covers what was asked for has locators, 4 where it has none, and 1 where no Map-Reply comes.
+
+Example:
+  lispd look 10.1.2.3 --server 192.0.2.1";
+
 /// What `check` does, for its help.
 pub(crate) const CHECK_ABOUT: &str =
     "Read a configuration, and print what was understood: a line for each site, Map-Server and router, then its warnings";

@@ -1,5 +1,5 @@
 //! The words of the program `lispd`: its subcommands with their arguments and help, the options of `answer`, what is reported
-//! of a fault that ends it; the subcommands that need no network, and those that ask a node that runs.
+//! of a fault that ends it; the subcommands that need no network, those that ask a node that runs, and the one that asks a Map-Server.
 //!
 //! # Decisions
 //!
@@ -27,6 +27,7 @@ mod line_words;
 mod option;
 mod options;
 mod printed_line;
+mod question;
 mod remedy;
 mod reporting;
 mod source;
@@ -43,6 +44,7 @@ pub use failure::Failure;
 pub use fault::{ProgramFault, SetupFault};
 pub use option::AnswerOption;
 pub use options::setup;
+pub use question::{QuestionFault, look_up};
 pub use reporting::{InWords, report};
 pub use subcommands::run_alone;
 pub use words::{NodeWords, is_given, node_words, tells_words, word};

@@ -43,6 +43,9 @@ const fn form(field: Field) -> &'static str {
         Field::ServerAddress | Field::RouterAddress => {
             "an address is four numbers with dots, or eight groups with colons"
         }
+        Field::ServerResolve | Field::RouterResolve => {
+            "the value lists prefixes of ITR-RLOCs, such as 192.0.2.0/24"
+        }
         Field::Router => "routers are an array of tables: [[router]]",
         Field::RouterXtr => "an xTR-ID is a text of 32 hexadecimal digits",
         Field::RouterServers => "the value lists names of Map-Servers, none twice",
