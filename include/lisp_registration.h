@@ -129,6 +129,14 @@ enum {
     LISP_ANSWER_FORWARD = 3          /* the router itself: the Map-Request is forwarded to it */
 };
 
+/* What is sent for an EID-Prefix that a Map-Request asks for (RFC 9301 sections 5.4, 8.2 and 8.3). */
+enum {
+    LISP_REPLIED_RECORDS = 0,   /* a Map-Reply with records */
+    LISP_REPLIED_NEGATIVE = 1,  /* a negative Map-Reply: nobody is in its prefix */
+    LISP_REPLIED_FORWARD = 2,   /* the Map-Request itself, as it came, on its way to a router */
+    LISP_REPLIED_SILENT = 3     /* nothing: the Map-Server has just started, and the ITR asks again */
+};
+
 /* An address. */
 struct lisp_address {
     uint16_t family;     /* LISP_IPV4 or LISP_IPV6 */
@@ -276,6 +284,13 @@ struct lisp_answer {
     struct lisp_record record;  /* of LISP_ANSWER_REPLY the record but its locators, with places of 0, else 0 */
 };
 
+/* What is sent for an EID-Prefix that a Map-Request asks for. */
+struct lisp_replied {
+    uint8_t kind;            /* LISP_REPLIED_RECORDS and the others */
+    struct lisp_address to;  /* of LISP_REPLIED_FORWARD where the Map-Request goes on to, UDP port 4342; else 0 */
+    size_t length;           /* how many bytes of the buffer are the Map-Reply; 0 where none is sent */
+};
+
 /* Which router, or none. */
 struct lisp_router_id {
     uint64_t site;     /* its Site-ID */
@@ -366,6 +381,9 @@ uint16_t lisp_registration_server_row(struct lisp_server *server, uint64_t now, 
                                       struct lisp_locator *locators, size_t room);
 uint16_t lisp_registration_server_answer(struct lisp_server *server, const struct lisp_address *address, uint64_t now,
                                          struct lisp_answer *answer, struct lisp_locator *locators, size_t room);
+uint16_t lisp_registration_server_reply(struct lisp_server *server, const struct lisp_prefix *eid, uint64_t nonce,
+                                        uint8_t starting, uint64_t now, uint8_t *buffer, size_t room,
+                                        struct lisp_replied *replied);
 uint16_t lisp_registration_server_due(struct lisp_server *server, uint64_t now, struct lisp_router_id *router);
 uint16_t lisp_registration_server_notify(struct lisp_server *server, const struct lisp_nonce *kept,
                                          const struct lisp_router_id *router, uint64_t now, uint8_t *buffer,
@@ -385,10 +403,13 @@ uint16_t lisp_registration_router_send(struct lisp_router *router, size_t server
 uint16_t lisp_registration_router_receive(struct lisp_router *router, const struct lisp_address *from,
                                           const uint8_t *bytes, size_t length, uint64_t now, uint8_t *buffer,
                                           size_t room, struct lisp_seen *seen);
+uint16_t lisp_registration_router_reply(struct lisp_router *router, const struct lisp_prefix *eid, uint64_t nonce,
+                                        uint8_t probe, const struct lisp_address *probed, uint8_t *buffer, size_t room,
+                                        struct lisp_replied *replied);
 uint16_t lisp_registration_router_change(const uint8_t *configuration, size_t length, const uint8_t *name,
                                          size_t name_length, uint64_t now, struct lisp_router *router);
 
-/* For this header alone, as the next two: LISP_DONE where so many items can be there, else LISP_NULL or LISP_LENGTH. */
+/* For this header alone, as the next three: LISP_DONE where so many items can be there, else LISP_NULL or LISP_LENGTH. */
 static inline uint16_t lisp_span(const void *items, size_t count, size_t size)
 {
     if (items == NULL && count != 0)
@@ -408,6 +429,13 @@ static inline const struct lisp_nonce *lisp_kept(const struct lisp_nonce *kept)
 {
     static const struct lisp_nonce none = {0, 0};
     return kept == NULL ? &none : kept;
+}
+
+/* The address that is probed; a null pointer says that none is. */
+static inline const struct lisp_address *lisp_probed(const struct lisp_address *probed)
+{
+    static const struct lisp_address none = {0, {0}};
+    return probed == NULL ? &none : probed;
 }
 
 /*
@@ -828,6 +856,36 @@ static inline uint16_t lisp_server_answer(struct lisp_server *server, const stru
 }
 
 /*
+ * Tells what a Map-Server sends for an EID-Prefix that a Map-Request asks for, at a time, in ms, by the rows that are
+ * alive then (RFC 9301 sections 5.5, 8.3 and 8.4): a Map-Reply, which is the first `replied->length` bytes of the
+ * buffer and has the nonce of the Map-Request; or the Map-Request itself, which goes on as it came, all its bytes, to
+ * `replied->to`, UDP port 4342; or nothing. `starting` is 1 in the first minute of the program's life, else 0: rows
+ * may not have come back yet, so that no negative Map-Reply is sent, and no records that may leave out others.
+ *
+ * lisp_read_encapsulated and lisp_read_request tell what a datagram asks for: call this for each of its EID-Prefixes,
+ * and send a Map-Request on at most once to each address. A Map-Reply goes to the first ITR-RLOC of the program's own
+ * address family and to the inner UDP source port. These are the sender's word: send none to an address that the
+ * program doesn't expect there. Where the Map-Request has `smr`, `probe` or `no_reply`, a Map-Server sends nothing.
+ *
+ * The faults come in this order: LISP_FIELD (the EID-Prefix), LISP_NULL (the handle holds none), LISP_OUT_OF_MEMORY,
+ * LISP_ROOM (no room for the Map-Reply; LISP_MESSAGE_ROOM bytes always have). At a fault all is as it was. The memory
+ * that it takes is given back.
+ */
+static inline uint16_t lisp_server_reply(struct lisp_server *server, const struct lisp_prefix *eid, uint64_t nonce,
+                                         uint8_t starting, uint64_t now, uint8_t *buffer, size_t room,
+                                         struct lisp_replied *replied)
+{
+    uint16_t number = lisp_span(buffer, room, 1);
+
+    if (number != LISP_DONE)
+        return number;
+    if (server == NULL || eid == NULL || replied == NULL)
+        return LISP_NULL;
+    return lisp_registration_server_reply(server, eid, nonce, starting, now, (uint8_t *)lisp_pointer(buffer), room,
+                                          replied);
+}
+
+/*
  * Makes a notice for a router: a Map-Notify of the records of it that are alive at a time, in ms. `kept` is the nonce
  * that the program saved last for a notice, to whichever router: one nonce is kept for all notices of a Map-Server,
  * apart from those of its pairs. A null `kept` says that none was ever saved. The buffer needs LISP_MESSAGE_ROOM bytes.
@@ -994,6 +1052,33 @@ static inline uint16_t lisp_router_receive(struct lisp_router *router, const str
         return LISP_NULL;
     return lisp_registration_router_receive(router, from, (const uint8_t *)lisp_pointer(bytes), length, now,
                                             (uint8_t *)lisp_pointer(buffer), room, seen);
+}
+
+/*
+ * Tells what a router sends for an EID-Prefix that a Map-Request asks for, by the records that it registers (RFC 9301
+ * sections 5.5, 7.1 and 8.2): a Map-Reply, which is the first `replied->length` bytes of the buffer and has the nonce
+ * of the Map-Request. `probe` is that of the Map-Request: where it isn't 0 the Map-Reply answers a probe (P). `probed`
+ * is the address that was probed, which is the router's own: each locator of it has the probe bit. A null `probed`, or
+ * one of family 0, says that none was.
+ *
+ * lisp_server_reply says for which datagrams it is called, and where a Map-Reply goes. A router answers probes, and
+ * Map-Requests that come alone, to the UDP source port of the datagram. The faults come in this order: LISP_FIELD (the
+ * EID-Prefix, then the probed address), LISP_NULL (the handle holds none), LISP_OUT_OF_MEMORY, LISP_ROOM (no room for
+ * the Map-Reply; LISP_MESSAGE_ROOM bytes always have). At a fault all is as it was. The memory that it takes is given
+ * back.
+ */
+static inline uint16_t lisp_router_reply(struct lisp_router *router, const struct lisp_prefix *eid, uint64_t nonce,
+                                         uint8_t probe, const struct lisp_address *probed, uint8_t *buffer, size_t room,
+                                         struct lisp_replied *replied)
+{
+    uint16_t number = lisp_span(buffer, room, 1);
+
+    if (number != LISP_DONE)
+        return number;
+    if (router == NULL || eid == NULL || replied == NULL)
+        return LISP_NULL;
+    return lisp_registration_router_reply(router, eid, nonce, probe, lisp_probed(probed),
+                                          (uint8_t *)lisp_pointer(buffer), room, replied);
 }
 
 /*

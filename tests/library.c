@@ -312,6 +312,7 @@ int main(int argc, char **argv)
     held_rows();
     notices();
     routers();
+    replies();
     for (size_t i = 0; i < WORKED; i++)
         free(worked[i].secret), free(worked[i].bytes);
     return failed;

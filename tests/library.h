@@ -67,10 +67,11 @@ void requests(void);
 void start(struct lisp_server *server);
 void takes(struct lisp_server *server, int message, const struct lisp_address *from, uint64_t at);
 
-/* Test a Map-Server's core, what it holds, its notices, and a router's core. */
+/* Test a Map-Server's core, what it holds, its notices, a router's core, and what both send for a Map-Request. */
 void servers(void);
 void held_rows(void);
 void notices(void);
 void routers(void);
+void replies(void);
 
 #endif

@@ -2,4 +2,5 @@ pub mod Host
 pub mod Receiving
 pub mod Notices
 pub mod Routers
+pub mod Replying
 pub mod Held

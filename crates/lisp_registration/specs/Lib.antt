@@ -10,3 +10,4 @@ pub mod Starting
 pub mod Rows
 pub mod Notices
 pub mod Router
+pub mod Replied

@@ -32,8 +32,8 @@ impl PlainPrefix {
         }
     }
 
-    // The EID-Prefix; `None` where the family is neither IPv4 nor IPv6, and where the mask is longer than the address.
-    fn prefix(&self) -> Option<Prefix>
+    /// The EID-Prefix; `None` where the family is neither IPv4 nor IPv6, and where the mask is longer than the address.
+    pub(crate) fn prefix(&self) -> Option<Prefix>
         ensures { result ≡ prefix_in self.now }
     {
         Prefix::new(self.address.addr()?, self.mask_len)

@@ -47,8 +47,10 @@ mod reading_requests;
 mod received;
 mod record;
 mod records;
+mod replied;
 mod reply;
 mod request;
+mod resolving;
 mod room;
 mod router;
 mod router_handle;
@@ -89,8 +91,10 @@ pub use reading_requests::{
 };
 pub use received::PlainReceived;
 pub use record::PlainRecord;
+pub use replied::PlainReplied;
 pub use reply::PlainReply;
 pub use request::PlainRequest;
+pub use resolving::{lisp_registration_router_reply, lisp_registration_server_reply};
 pub use router::{
     lisp_registration_router_due, lisp_registration_router_receive, lisp_registration_router_send,
 };

@@ -177,6 +177,14 @@ pub const LISP_ANSWER_NOT_REGISTERED: u8 = 1;
 pub const LISP_ANSWER_REPLY: u8 = 2;
 /// The router answers: the Map-Request is forwarded to it (RFC 9301 section 8.3).
 pub const LISP_ANSWER_FORWARD: u8 = 3;
+/// A Map-Reply with records is sent for an EID-Prefix that a Map-Request asks for (RFC 9301 section 5.4).
+pub const LISP_REPLIED_RECORDS: u8 = 0;
+/// A negative Map-Reply is sent: nobody is in its prefix (RFC 9301 section 8.3).
+pub const LISP_REPLIED_NEGATIVE: u8 = 1;
+/// The Map-Request itself goes on to a router, as it came (RFC 9301 section 8.3).
+pub const LISP_REPLIED_FORWARD: u8 = 2;
+/// Nothing is sent: the Map-Server has just started, and the ITR asks again.
+pub const LISP_REPLIED_SILENT: u8 = 3;
 
 /// An address.
 #[repr(C)]
@@ -443,6 +451,18 @@ pub struct lisp_answer {
     pub record: lisp_record,
 }
 
+/// What is sent for an EID-Prefix that a Map-Request asks for (RFC 9301 sections 5.4, 8.2 and 8.3).
+#[repr(C)]
+#[derive(Clone, Copy, Debug, Default, PartialEq, Eq)]
+pub struct lisp_replied {
+    /// [`LISP_REPLIED_RECORDS`], [`LISP_REPLIED_NEGATIVE`], [`LISP_REPLIED_FORWARD`] or [`LISP_REPLIED_SILENT`].
+    pub kind: u8,
+    /// Of [`LISP_REPLIED_FORWARD`] where the Map-Request goes on to, UDP port 4342; else 0.
+    pub to: lisp_address,
+    /// How many bytes of the buffer are the Map-Reply; 0 where none is sent.
+    pub length: usize,
+}
+
 /// Which router, or none.
 #[repr(C)]
 #[derive(Clone, Copy, Debug, Default, PartialEq, Eq)]
@@ -705,6 +725,19 @@ extern "C" {
         room: usize,
     ) -> u16;
 
+    /// Tells what a Map-Server sends for an EID-Prefix that a Map-Request asks for, at a time, in ms (RFC 9301 sections 5.4, 5.5, 8.3
+    /// and 8.4).
+    pub fn lisp_registration_server_reply(
+        server: *mut lisp_server,
+        eid: *const lisp_prefix,
+        nonce: u64,
+        starting: u8,
+        now: u64,
+        buffer: *mut u8,
+        room: usize,
+        replied: *mut lisp_replied,
+    ) -> u16;
+
     /// Names the least router, by Site-ID, then xTR-ID, to which a notice is due again at a time, in ms.
     pub fn lisp_registration_server_due(
         server: *mut lisp_server,
@@ -786,6 +819,19 @@ extern "C" {
         buffer: *mut u8,
         room: usize,
         seen: *mut lisp_seen,
+    ) -> u16;
+
+    /// Tells what a router sends for an EID-Prefix that a Map-Request asks for (RFC 9301 sections 5.4, 5.5, 7.1 and 8.2). An address of
+    /// family 0 is not probed.
+    pub fn lisp_registration_router_reply(
+        router: *mut lisp_router,
+        eid: *const lisp_prefix,
+        nonce: u64,
+        probe: u8,
+        probed: *const lisp_address,
+        buffer: *mut u8,
+        room: usize,
+        replied: *mut lisp_replied,
     ) -> u16;
 
     /// Registers from a time on, in ms, the records that a configuration has for a name.

@@ -31,7 +31,7 @@ macro_rules! structs {
 types! { (): "void", bool: "bool", u8: "uint8_t", u16: "uint16_t", u64: "uint64_t", usize: "size_t", }
 structs!(lisp_address, lisp_locator, lisp_record, lisp_message, lisp_server, lisp_pair, lisp_nonce);
 structs!(lisp_prefix, lisp_request, lisp_reply, lisp_encapsulated);
-structs!(lisp_received, lisp_row, lisp_answer, lisp_router_id, lisp_notice);
+structs!(lisp_received, lisp_row, lisp_answer, lisp_replied, lisp_router_id, lisp_notice);
 structs!(lisp_router, lisp_due, lisp_sent, lisp_seen);
 
 impl<T: CType> CType for *const T {
@@ -99,6 +99,7 @@ fn the_header_agrees() {
         lisp_registration_server_expire(_, _)
         lisp_registration_server_row(_, _, _, _, _, _)
         lisp_registration_server_answer(_, _, _, _, _, _)
+        lisp_registration_server_reply(_, _, _, _, _, _, _, _)
         lisp_registration_server_due(_, _, _)
         lisp_registration_server_notify(_, _, _, _, _, _, _)
         lisp_registration_server_resend(_, _, _, _, _, _)
@@ -108,6 +109,7 @@ fn the_header_agrees() {
         lisp_registration_router_due(_, _, _)
         lisp_registration_router_send(_, _, _, _, _, _, _)
         lisp_registration_router_receive(_, _, _, _, _, _, _, _)
+        lisp_registration_router_reply(_, _, _, _, _, _, _, _)
         lisp_registration_router_change(_, _, _, _, _, _)
     };
     header::agrees("functions.c", &claims);

@@ -12,6 +12,8 @@ fn a_server_that_is_not_there() {
     let (mut answer, mut notice) = (lisp_answer::default(), lisp_notice::default());
     let (mut due, mut buffer) = (router, [0xee; LISP_MESSAGE_ROOM]);
     let mut received = lisp_received::default();
+    let replied_before = lisp_replied { length: 7, ..lisp_replied::default() };
+    let (eid, mut replied) = (lisp_prefix { mask_len: 0, address: from }, replied_before);
     let (handle, room) = (&mut server as *mut lisp_server, buffer.len());
     let bytes = buffer.as_mut_ptr();
     // SAFETY: the pointers are of locals and of their first items, of which there are so many as is said; `handle` holds none.
@@ -28,6 +30,7 @@ fn a_server_that_is_not_there() {
                 locators.as_mut_ptr(),
                 1,
             ),
+            lisp_registration_server_reply(handle, &eid, 1, 0, 0, bytes, room, &mut replied),
             lisp_registration_server_due(handle, 0, &mut due),
             lisp_registration_server_notify(handle, &kept, &router, 0, bytes, room, &mut notice),
             lisp_registration_server_resend(handle, &router, 0, bytes, room, &mut notice),
@@ -44,8 +47,8 @@ fn a_server_that_is_not_there() {
             ),
         ]
     };
-    assert_eq!(numbers, [LISP_NULL; 8]);
-    assert_eq!((row, place), (row_before, 9));
+    assert_eq!(numbers, [LISP_NULL; 9]);
+    assert_eq!((row, place, replied), (row_before, 9, replied_before));
     assert!(buffer.iter().all(|&byte| byte == 0xee));
     // SAFETY: the handle holds none.
     unsafe { lisp_registration_server_stop(&mut server) };
@@ -61,6 +64,8 @@ fn a_router_that_is_not_there() {
     let (handle, room) = (&mut router as *mut lisp_router, buffer.len());
     let bytes = buffer.as_mut_ptr();
     let text = include_bytes!("../../../worked.toml");
+    let replied_before = lisp_replied { length: 7, ..lisp_replied::default() };
+    let (eid, mut replied) = (lisp_prefix { mask_len: 0, address: from }, replied_before);
     // SAFETY: the pointers are of locals and of their first items, of which there are so many as is said; `handle` holds none.
     let numbers = unsafe {
         [
@@ -76,6 +81,7 @@ fn a_router_that_is_not_there() {
                 room,
                 &mut seen,
             ),
+            lisp_registration_router_reply(handle, &eid, 1, 0, &from, bytes, room, &mut replied),
             lisp_registration_router_change(
                 text.as_ptr(),
                 text.len(),
@@ -86,7 +92,8 @@ fn a_router_that_is_not_there() {
             ),
         ]
     };
-    assert_eq!(numbers, [LISP_NULL; 4]);
+    assert_eq!(numbers, [LISP_NULL; 5]);
+    assert_eq!(replied, replied_before);
     assert!(buffer.iter().all(|&byte| byte == 0xee));
     // SAFETY: the handle holds none.
     unsafe { lisp_registration_router_stop(&mut router) };

@@ -45,6 +45,7 @@ fn claims() -> Vec<String> {
         lisp_received { nonce, site, xtr, key_id, accepted, reply_length }
         lisp_row { nonce, site, accepted, life, xtr, from, key_id, proxy, is_there, record }
         lisp_answer { kind, to, record }
+        lisp_replied { kind, to, length }
         lisp_router_id { site, xtr, is_there }
         lisp_notice { nonce, to, length }
         lisp_router { core }
@@ -127,7 +128,11 @@ fn claims() -> Vec<String> {
         LISP_ANSWER_NO_SITE,
         LISP_ANSWER_NOT_REGISTERED,
         LISP_ANSWER_REPLY,
-        LISP_ANSWER_FORWARD
+        LISP_ANSWER_FORWARD,
+        LISP_REPLIED_RECORDS,
+        LISP_REPLIED_NEGATIVE,
+        LISP_REPLIED_FORWARD,
+        LISP_REPLIED_SILENT
     ];
     layouts.into_iter().chain(values).collect()
 }

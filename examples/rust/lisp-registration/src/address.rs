@@ -15,6 +15,11 @@ pub(crate) fn to_raw(address: IpAddr) -> lisp_address {
     }
 }
 
+/// No address, as the library has it.
+pub(crate) fn none() -> lisp_address {
+    lisp_address::default()
+}
+
 /// An address that the library read: it is of one of two families.
 pub(crate) fn from_raw(address: &lisp_address) -> IpAddr {
     match address.family {

@@ -26,6 +26,7 @@ mod pair;
 #[allow(unsafe_code)]
 mod raw;
 mod record;
+mod reply;
 pub mod router;
 pub mod server;
 mod start_error;
@@ -36,6 +37,7 @@ pub use datagram::{Datagram, Locators, RecordLayout, Records};
 pub use error::{Error, RecordFault};
 pub use message::{Kind, Message, Registration};
 pub use record::{Locator, Record, RecordWithLocators};
+pub use reply::{EidPrefix, Reply, ReplyError};
 pub use tag::{is_authentic, sign};
 pub use writing::{write, write_into};
 

@@ -42,6 +42,7 @@ pub use error::{Refusal, SendError};
 
 use crate::datagram::Datagram;
 use crate::pair::kept_to_raw;
+use crate::reply::{EidPrefix, Reply, ReplyError};
 use crate::{address, raw};
 use lisp_registration_sys::{lisp_due, lisp_seen, lisp_sent, LISP_ROOM, LISP_ROUTER_READ};
 use std::net::IpAddr;
@@ -179,6 +180,29 @@ impl Router {
         match self.handle.receive(&address::to_raw(from), datagram, now_ms, buffer) {
             Ok(seen) => Ok(Seen::from_raw(&seen, buffer)),
             Err(number) => Err(refusal(number, datagram)),
+        }
+    }
+
+    /// What is sent for an EID-Prefix that a Map-Request with this nonce asks for, by the records that the router registers (RFC 9301
+    /// sections 5.4, 5.5, 7.1 and 8.2): a Map-Reply, which answers a `probe` where the Map-Request is one. Each locator of the address
+    /// that is `probed`, the router's own, has the probe bit. In [`MESSAGE_ROOM`](crate::MESSAGE_ROOM) bytes of the buffer there always
+    /// is room for it.
+    ///
+    /// # Errors
+    ///
+    /// Each [`ReplyError`]; all is then as it was.
+    pub fn reply<'a>(
+        &mut self,
+        eid: EidPrefix,
+        nonce: u64,
+        probe: bool,
+        probed: Option<IpAddr>,
+        buffer: &'a mut [u8],
+    ) -> Result<Reply<'a>, ReplyError> {
+        let probed = probed.map_or_else(address::none, address::to_raw);
+        match self.handle.reply(&eid.to_raw(), nonce, probe, &probed, buffer) {
+            Ok(replied) => Ok(Reply::from_raw(&replied, buffer)),
+            Err(number) => Err(ReplyError::of(number)),
         }
     }
 

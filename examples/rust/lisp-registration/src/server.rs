@@ -61,6 +61,7 @@ pub use row::{Row, Rows};
 
 use crate::datagram::Datagram;
 use crate::pair::kept_to_raw;
+use crate::reply::{EidPrefix, Reply, ReplyError};
 use crate::{address, raw};
 use lisp_registration_sys::{lisp_received, LISP_CLOCK, LISP_READ, LISP_ROOM};
 use std::net::IpAddr;
@@ -187,6 +188,28 @@ impl MapServer {
         let mut locators = row::room_for_locators();
         let answer = self.handle.answer(&address::to_raw(address), now_ms, &mut locators);
         Answer::from_raw(&answer.expect(ROOM), &locators)
+    }
+
+    /// What is sent for an EID-Prefix that a Map-Request with this nonce asks for, at a time, in ms, by the rows that are alive then (RFC
+    /// 9301 sections 5.4, 5.5, 8.3 and 8.4). It is `starting` in the first minute of the program's life: rows may not have come back yet.
+    /// A Map-Reply goes to the ITR-RLOC that the Map-Request names and to its UDP source port: to none that the program doesn't expect
+    /// there. In [`MESSAGE_ROOM`](crate::MESSAGE_ROOM) bytes of the buffer there always is room for it.
+    ///
+    /// # Errors
+    ///
+    /// Each [`ReplyError`]; all is then as it was.
+    pub fn reply<'a>(
+        &mut self,
+        eid: EidPrefix,
+        nonce: u64,
+        starting: bool,
+        now_ms: u64,
+        buffer: &'a mut [u8],
+    ) -> Result<Reply<'a>, ReplyError> {
+        match self.handle.reply(&eid.to_raw(), nonce, starting, now_ms, buffer) {
+            Ok(replied) => Ok(Reply::from_raw(&replied, buffer)),
+            Err(number) => Err(ReplyError::of(number)),
+        }
     }
 
     /// Makes a notice for a router: a Map-Notify of the records of it that are alive at a time, in ms (RFC 9301 section 5.7). `kept`

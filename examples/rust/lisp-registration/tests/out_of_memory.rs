@@ -11,7 +11,7 @@ use common::{
 };
 use lisp_registration::router::{self, Due, Router, Seen, SendError};
 use lisp_registration::server::{MapServer, NoticeError, Received, Refusal, StartError};
-use lisp_registration::{write, write_into, Error, Message, MESSAGE_ROOM};
+use lisp_registration::{write, write_into, EidPrefix, Error, Message, ReplyError, MESSAGE_ROOM};
 use std::alloc::{GlobalAlloc, Layout};
 use std::cell::Cell;
 use std::ffi::c_void;
@@ -250,6 +250,27 @@ fn a_notice_that_gets_no_memory_is_none() {
         result
     });
     assert_eq!(numbers, [66]);
+}
+
+#[test]
+fn a_map_reply_that_gets_no_memory_is_none() {
+    let asked = EidPrefix { address: address("10.1.0.9"), mask_len: 32 };
+    let numbers = faults(registered, |server| {
+        let mut buffer = [0xee; MESSAGE_ROOM];
+        let result = server.reply(asked, 1, false, 0, &mut buffer);
+        let result = result.map(|_| ()).map_err(ReplyError::number);
+        assert!(result.is_ok() || buffer == [0xee; MESSAGE_ROOM]);
+        result
+    });
+    assert_eq!(numbers, [105]);
+    let numbers = faults(started, |router| {
+        let mut buffer = [0xee; MESSAGE_ROOM];
+        let result = router.reply(asked, 1, false, None, &mut buffer);
+        let result = result.map(|_| ()).map_err(ReplyError::number);
+        assert!(result.is_ok() || buffer == [0xee; MESSAGE_ROOM]);
+        result
+    });
+    assert_eq!(numbers, [105]);
 }
 
 /// What the router has to send to its first Map-Server.

@@ -92,6 +92,33 @@ impl RouterHandle {
         done(number, seen)
     }
 
+    /// What is sent for an EID-Prefix (RFC 9301 sections 5.4 and 8.2).
+    pub(crate) fn reply(
+        &mut self,
+        eid: &lisp_prefix,
+        nonce: u64,
+        probe: bool,
+        probed: &lisp_address,
+        buffer: &mut [u8],
+    ) -> Result<lisp_replied, u16> {
+        let mut replied = lisp_replied::default();
+        // SAFETY: the pointers are of references and of a slice that live for the call; the handle, the buffer and the local that
+        // are written are borrowed mutably, and so overlap no other. Any numbers are allowed.
+        let number = unsafe {
+            lisp_registration_router_reply(
+                &mut self.0,
+                eid,
+                nonce,
+                probe.into(),
+                probed,
+                buffer.as_mut_ptr(),
+                buffer.len(),
+                &mut replied,
+            )
+        };
+        done(number, replied)
+    }
+
     /// Registers from a time on, in ms, the records that a configuration has for a name.
     pub(crate) fn change(
         &mut self,

@@ -108,6 +108,33 @@ impl ServerHandle {
         done(number, answer)
     }
 
+    /// What is sent for an EID-Prefix at a time, in ms (RFC 9301 sections 5.4 and 8.3).
+    pub(crate) fn reply(
+        &mut self,
+        eid: &lisp_prefix,
+        nonce: u64,
+        starting: bool,
+        now: u64,
+        buffer: &mut [u8],
+    ) -> Result<lisp_replied, u16> {
+        let mut replied = lisp_replied::default();
+        // SAFETY: the pointers are of references and of a slice that live for the call; the handle, the buffer and the local that
+        // are written are borrowed mutably, and so overlap no other. Any numbers and any time are allowed.
+        let number = unsafe {
+            lisp_registration_server_reply(
+                &mut self.0,
+                eid,
+                nonce,
+                starting.into(),
+                now,
+                buffer.as_mut_ptr(),
+                buffer.len(),
+                &mut replied,
+            )
+        };
+        done(number, replied)
+    }
+
     /// The router to which a notice is due again at a time, in ms.
     pub(crate) fn due(&mut self, now: u64) -> Result<lisp_router_id, u16> {
         let mut router = lisp_router_id::default();
