@@ -8,3 +8,4 @@ pub mod Encapsulated
 pub mod Meaning
 pub mod Layout
 pub mod ReplyLayout
+pub mod MessageType

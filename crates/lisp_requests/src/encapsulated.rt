@@ -18,8 +18,8 @@ use std::alloc::AllocError;
 /// The UDP port of LISP control messages.
 const CONTROL_PORT: u16 = 4342;
 
-// The message type.
-const ENCAPSULATED: u8 = 8;
+/// The message type.
+pub(crate) const ENCAPSULATED: u8 = 8;
 
 // The flag S in the first byte: an authentication header follows.
 const SECURITY: u8 = 0x08;

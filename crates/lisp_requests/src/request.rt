@@ -18,7 +18,7 @@ use std::alloc::{AllocError, Allocator, Global};
 use std::marker::Model;
 
 /// The message type.
-const MAP_REQUEST: u8 = 1;
+pub(crate) const MAP_REQUEST: u8 = 1;
 
 // The flags in the first byte.
 pub(crate) const AUTHORITATIVE: u8 = 0x08;

@@ -1,11 +1,12 @@
 -- What a node has outside: its socket, its clock, the commits of its store, its lines and its users; and what was asked of them and
 -- answered.
-use Rattle.std.specs.Prelude.{◌≡◌, ℕ, ◌/◌, ◌≤◌, ◌==◌, ◌||◌, Bool, true, false, List, [], ◌∷◌, ◌++◌, length, take, Option, Result}
+use Rattle.std.specs.Prelude.{◌≡◌, ℕ, ◌≤◌, Bool, true, false, List, [], ◌∷◌, ◌++◌, length, take, Option, Result}
 use Rattle.std.specs.Option.{option_map}
 use Rattle.lisp_records.specs.declared.address.Addr.{Addr}
 use Rattle.lisp_records.specs.Moment.{max_moment}
 use Rattle.lisp_model.specs.declared.line.Line.{Line}
 use Rattle.lisp_model.specs.declared.world_fault.WorldFault.{WorldFault}
+use Rattle.lisp_requests.specs.MessageType.{is_request}
 use Rattle.lisp_resolve.specs.Sends.{DatagramValue}
 use Rattle.lisp_turns.specs.Node.{CoreState}
 use Rattle.lisp_turns.specs.declared.order.Order.{Order}
@@ -82,11 +83,6 @@ abbrev pub reception : Received → List ℕ → Reception
 reception (received.Datagram from count) buffer = Datagram from (take count buffer)
 reception received.Nothing buffer = Nothing
 reception received.Failed buffer = Failed
-
--- bytes that are a Map-Request by their type, 1, or may have one inside them, 8 (RFC 9301 section 5.1)
-abbrev pub is_request : List ℕ → Bool
-is_request [] = false
-is_request (first ∷ _) = (first / 16 == 1) || (first / 16 == 8)
 
 -- where Map-Requests wait apart, nothing else that is received is one
 abbrev pub IsApart : Bool → Reception → Type 0
