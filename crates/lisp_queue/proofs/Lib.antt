@@ -1,1 +1,2 @@
 mod Fair
+mod Kept

@@ -1,15 +1,20 @@
 -- Datagrams that wait, and which of them a group takes next.
-use Rattle.std.specs.Prelude.{◌≡◌, ◌⊎◌, ℕ, ◌+◌, ◌/◌, ◌<◌, ◌≤◌, Bool, nat_lt, List, [], ◌∷◌, ◌++◌, length, count_by, remove, slice_get, position, Option, Some, None, unwrap_or, if◌then◌else◌}
+use Rattle.std.specs.Prelude.{◌≡◌, ◌⊎◌, ℕ, ◌+◌, ◌/◌, ◌<◌, ◌≤◌, Bool, true, false, nat_lt, List, [], ◌∷◌, ◌++◌, length, count_by, remove, slice_get, position, Option, Some, None, unwrap_or, if◌then◌else◌}
 use Rattle.lisp_records.specs.declared.address.Addr.{Addr}
 use Rattle.lisp_records.specs.Address.{addr_eq}
+use Rattle.lisp_queue.specs.Kind.{is_of}
+use Rattle.lisp_queue.specs.declared.kind.Kind.{Kind}
 
--- a datagram that waits: the address that it comes from, and its bytes
+-- a datagram that waits: the address and the UDP port that it comes from, and its bytes
 pub record WaitingValue : Type 0 where
   pub from : Addr
+  pub port : ℕ
   pub bytes : List ℕ
 
--- those that wait, in the order in which they came; the sources of the datagrams that the present group took; and how many it may take
+-- which datagrams it takes; those that wait, in the order in which they came; the sources of those that the present group took; and how many
+-- that may take
 pub record QueueState : Type 0 where
+  pub kind : Kind
   pub waiting : List WaitingValue
   pub taken : List Addr
   pub places : ℕ
@@ -36,11 +41,18 @@ half q = (q.places + 1) / 2
 abbrev pub may_take : QueueState → Addr → Bool
 may_take q from = nat_lt (places_of q.taken from) (half q)
 
--- a datagram is offered: it waits behind the others, or finds no room, or memory was refused
+-- a datagram finds room, or none
+abbrev pub FindsRoom : QueueState → WaitingValue → Type 0
+FindsRoom q w = (length q.waiting < room) × (waiting_of q.waiting w.from < most_of_one)
+
+abbrev pub FindsNone : QueueState → WaitingValue → Type 0
+FindsNone q w = (room ≤ length q.waiting) ⊎ (most_of_one ≤ waiting_of q.waiting w.from)
+
+-- a datagram is offered: it waits behind the others; or it is of another kind, or finds no room, or memory was refused
 abbrev pub Offers : Type 0 → QueueState → QueueState → WaitingValue → Type 0
 Offers may_refuse old new w =
-    ((length old.waiting < room) × (waiting_of old.waiting w.from < most_of_one) × (new ≡ record old { waiting = old.waiting ++ w ∷ [] }))
-    ⊎ (((room ≤ length old.waiting) ⊎ ((most_of_one ≤ waiting_of old.waiting w.from) ⊎ may_refuse)) × (new ≡ old))
+    ((is_of old.kind w.bytes ≡ true) × FindsRoom old w × (new ≡ record old { waiting = old.waiting ++ w ∷ [] }))
+    ⊎ (((is_of old.kind w.bytes ≡ false) ⊎ (FindsNone old w ⊎ may_refuse)) × (new ≡ old))
 
 -- a source takes a place of the group, if there is one
 abbrev pub taken_after : QueueState → Addr → List Addr

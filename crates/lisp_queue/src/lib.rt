@@ -1,5 +1,5 @@
-//! Datagrams that were received and wait to be heard, and the order in which a group takes them, so that one source can't starve the
-//! others.
+//! Datagrams that were received and wait to be heard or answered, and the order in which a group takes them, so that one source can't
+//! starve the others. Each kind has a queue of its own, so that neither kind takes the places of the other.
 //!
 //! # Decisions
 //!
@@ -7,7 +7,9 @@
 //!   is dropped, as a socket without room drops it.
 #![tactic(auto)]
 
+mod kind;
 pub mod laws;
 mod queue;
 
+pub use kind::Kind;
 pub use queue::{Queue, Waiting};

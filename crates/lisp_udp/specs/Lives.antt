@@ -18,35 +18,35 @@ pub record SaysRestarted (number : ℕ) (old new : OutsideState) : Type 0 where
   pub line : LogsLine old said (printed.Event (lines.Restarted number))
   pub rests : Logs said new (Waits second)
 
--- In what follows each life begins over this store, and with a budget of which nothing is used.
+-- In what follows each life begins over this store, is starting for so many quiet ms, and has a budget of which nothing is used.
 
 -- a life whose last turn is lost, with so many turns left behind it: it says at its end that it restarted
-pub record LosesLife (A : Type 0) (config : ConfigValue) (number : ℕ) (store : StoreState) (places turns left : ℕ) (old new : OutsideState) : Type 0 where
+pub record LosesLife (A : Type 0) (config : ConfigValue) (number : ℕ) (store : StoreState) (places quiet turns left : ℕ) (old new : OutsideState) : Type 0 where
   pub begun : NodeState
   pub begins : Begins config number store begun
   pub lost : OutsideState
-  pub loses : LosesTurn A config number places turns left (beginning begun at_first old) lost
+  pub loses : LosesTurn A config number places turns left (beginning begun (at_first quiet) old) lost
   pub says : SaysRestarted number lost new
 
 -- a life that takes all its turns, or fewer where a line couldn't be printed
-pub record EndsLife (A : Type 0) (config : ConfigValue) (number : ℕ) (store : StoreState) (places turns : ℕ) (old new : OutsideState) : Type 0 where
+pub record EndsLife (A : Type 0) (config : ConfigValue) (number : ℕ) (store : StoreState) (places quiet turns : ℕ) (old new : OutsideState) : Type 0 where
   pub begun : NodeState
   pub begins : Begins config number store begun
   pub node : NodeState
-  pub takes : StartsTurns A config number places turns begun node at_first old new
+  pub takes : StartsTurns A config number places turns begun node (at_first quiet) old new
 
 -- so many lives whose last turn is lost, one behind the other: each takes the turns that the one before left
-abbrev pub LosesLives : Type 0 → ConfigValue → ℕ → StoreState → (places turns left : ℕ) → ℕ → OutsideState → OutsideState → Type 0
-LosesLives A config number store places turns left zero old new = (left ≡ turns) × (new ≡ old)
-LosesLives A config number store places turns left (suc n) old new = (more : ℕ) × (between : OutsideState) × LosesLives A config number store places turns more n old between
-    × LosesLife A config number store places more left between new × (new.is_cut ≡ false)
+abbrev pub LosesLives : Type 0 → ConfigValue → ℕ → StoreState → (places quiet turns left : ℕ) → ℕ → OutsideState → OutsideState → Type 0
+LosesLives A config number store places quiet turns left zero old new = (left ≡ turns) × (new ≡ old)
+LosesLives A config number store places quiet turns left (suc n) old new = (more : ℕ) × (between : OutsideState) × LosesLives A config number store places quiet turns more n old between
+    × LosesLife A config number store places quiet more left between new × (new.is_cut ≡ false)
 
 -- All lives: those whose last turn is lost, and one behind them. That takes the turns that are left; or its last turn is lost, too,
 -- and the line that says so couldn't be printed.
-pub record Lives (A : Type 0) (config : ConfigValue) (number : ℕ) (store : StoreState) (places turns : ℕ) (old new : OutsideState) : Type 0 where
+pub record Lives (A : Type 0) (config : ConfigValue) (number : ℕ) (store : StoreState) (places quiet turns : ℕ) (old new : OutsideState) : Type 0 where
   pub count : ℕ
   pub left : ℕ
   pub between : OutsideState
-  pub lost : LosesLives A config number store places turns left count old between
-  pub last : EndsLife A config number store places left between new
-      ⊎ ((unused : ℕ) × LosesLife A config number store places left unused between new × (new.is_cut ≡ true))
+  pub lost : LosesLives A config number store places quiet turns left count old between
+  pub last : EndsLife A config number store places quiet left between new
+      ⊎ ((unused : ℕ) × LosesLife A config number store places quiet left unused between new × (new.is_cut ≡ true))

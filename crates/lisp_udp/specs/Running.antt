@@ -1,6 +1,5 @@
 -- A life of a node that runs, over any store and whatever is outside.
 use Rattle.std.specs.Prelude.{◌≡◌, ℕ, IsTrue, List, [], ◌++◌, Some, Result, IfOk, OnOk}
-use Rattle.lisp_records.specs.Moment.{minute}
 use Rattle.lisp_budget.specs.Budget.{unused}
 use Rattle.lisp_policy.specs.Configuration.{ConfigValue}
 use Rattle.lisp_nonces.specs.Store.{StoreState}
@@ -20,12 +19,12 @@ RunsOver seen config number store outside result = IsNetwork config → IsTrue s
     → IfOk result (λ life. (calls lost : List Call) × ((seen life.outside).log ≡ Some (lost ++ calls)) × IsMute lost × OnOk life.ended (lost ≡ [])
     × IsWholePart config number store calls))
 
--- how it answers Map-Requests as it begins: a Map-Server is starting for a minute, and of 4,096 bytes a second to each destination, and
+-- how it answers Map-Requests as it begins: a Map-Server is starting for so many ms, and of 4,096 bytes a second to each destination, and
 -- 262,144 to all, none is used
-abbrev pub at_first : ResolvingValue
-at_first = record { quiet = minute; budget = unused 4096 262144 }
+abbrev pub at_first : ℕ → ResolvingValue
+at_first quiet = record { quiet = quiet; budget = unused 4096 262144 }
 
 -- it begins over its store and takes so many turns; fewer where a line can't be printed, or a turn was lost. A is the kind of its memory
-abbrev pub TakesItsTurns : {O F : Type 0} → Type 0 → (O → OutsideState) → ConfigValue → ℕ → StoreState → (places turns : ℕ) → Result O F → Result (Life O) F → Type 0
-TakesItsTurns A seen config number store places turns outside result = IfOk outside (λ before. IfOk result (λ life. (begun node : NodeState)
-    × Begins config number store begun × EndsTurns A config number places turns begun node at_first (seen before) (seen life.outside) life.ended))
+abbrev pub TakesItsTurns : {O F : Type 0} → Type 0 → (O → OutsideState) → ConfigValue → ℕ → StoreState → (places quiet turns : ℕ) → Result O F → Result (Life O) F → Type 0
+TakesItsTurns A seen config number store places quiet turns outside result = IfOk outside (λ before. IfOk result (λ life. (begun node : NodeState)
+    × Begins config number store begun × EndsTurns A config number places turns begun node (at_first quiet) (seen before) (seen life.outside) life.ended))

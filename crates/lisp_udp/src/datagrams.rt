@@ -76,7 +76,7 @@ impl<'a> Sockets<'a, NodeSocket> {
         ensures { OnOk result ((s : SocketValue) × IsSocketAt config.now number s
             × (self.new.sockets.items ≡ self.old.sockets.items ++ s ∷ [])) }
     {
-        let NodeEntry { name, address } = entry_at(config, number);
+        let NodeEntry { name, address, .. } = entry_at(config, number);
         let socket = NodeSocket::bind(rt, address, RECEIVE_TIMEOUT_MS)?;
         let address = *address;
         self.sockets.try_push(NamedSocket {

@@ -6,17 +6,18 @@ ghost use Rattle.lisp_records.specs.Router.{router_cmp};
 ghost use Rattle.lisp_statistics.specs.Hearing.{heard_in};
 ghost use Rattle.lisp_statistics.specs.Kind.{kind_of};
 ghost use Rattle.lisp_statistics.specs.Statistics.{CountsLine, HearsLine};
-ghost use Rattle.lisp_turns.specs.Outside.{Commits, FitsBuffer, Logs, LogsLine};
+ghost use Rattle.lisp_turns.specs.Outside.{Commits, FitsBuffer, IsApart, Logs, LogsLine, reception};
+ghost use Rattle.lisp_udp.specs.Inbox.{keeps_apart};
 ghost use Rattle.lisp_udp.specs.Moments.{moment_of};
 
 use crate::control::ControlSocket;
-use crate::group::Group;
+use crate::inbox::Inbox;
 use crate::pace::Pace;
 use crate::printer::Printer;
 use crate::save_times::SaveTimes;
 use crate::socket::NodeSocket;
 use crate::stopwatch::Stopwatch;
-use lisp_database_store::SystemTable;
+use lisp_database_store::{SharedDatabase, SystemTable};
 use lisp_memory::Memory;
 use lisp_model::{Line, WorldFault};
 use lisp_records::Addr;
@@ -48,13 +49,17 @@ const US_PER_MS: u64 = 1_000;
 pub(crate) struct Devices<'a, R, T, P> {
     rt: &'a R,
     socket: NodeSocket,
-    // None where each datagram is taken alone, and each save is committed by itself.
-    group: Option<Group<'a, T>>,
+    // None where each datagram is taken from the socket as it comes.
+    inbox: Option<Inbox>,
+    // What a turn's nonces are committed to; None where each save is committed by itself.
+    database: Option<&'a SharedDatabase<'a, T>>,
     // None where it couldn't be opened.
     control: Option<ControlSocket<'a>>,
     pace: Pace,
     // Since when it takes the datagrams of this turn, while somebody asks; its answer left out.
     works_since: Option<Instant>,
+    // When the last Map-Request was taken.
+    asked_at: Option<Instant>,
     stopwatch: Stopwatch,
     statistics: Statistics,
     saves: &'a SaveTimes<'a, R>,
@@ -67,11 +72,13 @@ impl<'a, R: Net + std::time::Clock + AllocGlobal, T: SystemTable, P: Printer + D
     T,
     P,
 > {
-    /// Those of a node at an address, which takes datagrams in groups where there is a `group`; it is 0 ms now. Fault: 92.
+    /// Those of a node at an address, whose turns take what waits in the `inbox` and are committed to the `database`, where there are
+    /// these; it is 0 ms now. Fault: 92.
     pub(crate) fn open(
         rt: &'a R,
         address: &Addr,
-        group: Option<Group<'a, T>>,
+        inbox: Option<Inbox>,
+        database: Option<&'a SharedDatabase<'a, T>>,
         control: Option<ControlSocket<'a>>,
         saves: &'a SaveTimes<'a, R>,
         printer: P,
@@ -79,10 +86,12 @@ impl<'a, R: Net + std::time::Clock + AllocGlobal, T: SystemTable, P: Printer + D
         Ok(Devices {
             rt,
             socket: NodeSocket::bind(rt, address, RECEIVE_TIMEOUT_MS)?,
-            group,
+            inbox,
+            database,
             control,
             pace: Pace::start(),
             works_since: None,
+            asked_at: None,
             stopwatch: Stopwatch::start(rt)?,
             statistics: Statistics::start(rt.alloc()),
             saves,
@@ -104,6 +113,14 @@ impl<R, T, P> Devices<'_, R, T, P> {
             None => false,
         }
     }
+
+    // Whether a Map-Request waits.
+    fn is_asked(&self) -> bool {
+        match &self.inbox {
+            Some(inbox) => inbox.is_asked(),
+            None => false,
+        }
+    }
 }
 
 impl<R: std::time::Clock, T: SystemTable, P: Printer> Devices<'_, R, T, P> {
@@ -111,12 +128,13 @@ impl<R: std::time::Clock, T: SystemTable, P: Printer> Devices<'_, R, T, P> {
     fn receive_in(&mut self, ms: Option<u64>, buffer: &mut [u8]) -> Received
         ensures seen { ⟦<Self as Outside>⟧.seen self.new ≡ ⟦<Self as Outside>⟧.seen self.old }
         ensures within { FitsBuffer result buffer.new }
+        ensures apart { IsApart (keeps_apart self.old.inbox) (reception result buffer.new) }
         ensures room { length buffer.new ≡ length buffer.old }
     {
         self.socket.set_receive_ms(ms);
-        match &mut self.group {
+        match &mut self.inbox {
             None => self.socket.receive(buffer),
-            Some(group) => group.receive(&mut self.socket, buffer),
+            Some(inbox) => inbox.receive(&mut self.socket, buffer),
         }
     }
 
@@ -124,20 +142,21 @@ impl<R: std::time::Clock, T: SystemTable, P: Printer> Devices<'_, R, T, P> {
     fn receive_paced(&mut self, buffer: &mut [u8]) -> Received
         ensures seen { ⟦<Self as Outside>⟧.seen self.new ≡ ⟦<Self as Outside>⟧.seen self.old }
         ensures within { FitsBuffer result buffer.new }
+        ensures apart { IsApart (keeps_apart self.old.inbox) (reception result buffer.new) }
         ensures room { length buffer.new ≡ length buffer.old }
     {
         let mut begun = Instant::now(self.rt).ok();
         self.pace
             .work(us_between(self.works_since.take(), begun).unwrap_or(0));
         let mut received = self.receive_in(None, buffer);
-        if received == Received::Nothing {
+        if received == Received::Nothing && !self.is_asked() {
             received = self.rest(buffer);
             let rested = Instant::now(self.rt).ok();
             self.pace
                 .rest(us_between(begun, rested).unwrap_or(BUSY_REST_US));
             begun = rested;
         }
-        if let Received::Datagram { .. } = received {
+        if received != Received::Nothing || self.is_asked() {
             self.pace.hear();
             self.works_since = begun;
         }
@@ -148,6 +167,7 @@ impl<R: std::time::Clock, T: SystemTable, P: Printer> Devices<'_, R, T, P> {
     fn rest(&mut self, buffer: &mut [u8]) -> Received
         ensures seen { ⟦<Self as Outside>⟧.seen self.new ≡ ⟦<Self as Outside>⟧.seen self.old }
         ensures within { FitsBuffer result buffer.new }
+        ensures apart { IsApart (keeps_apart self.old.inbox) (reception result buffer.new) }
         ensures room { length buffer.new ≡ length buffer.old }
     {
         if self.pace.awaits_next() {
@@ -159,7 +179,7 @@ impl<R: std::time::Clock, T: SystemTable, P: Printer> Devices<'_, R, T, P> {
 }
 
 impl<R, T, P: Printer> Outside for Devices<'_, R, T, P> {
-    ghost seen = { λ d. record { log = None; moment = moment_of d.stopwatch.last; is_cut = P.cut d.printer; is_asked = false } };
+    ghost seen = { λ d. record { log = None; moment = moment_of d.stopwatch.last; is_cut = P.cut d.printer; is_asked = keeps_apart d.inbox } };
 }
 
 impl<R: std::time::Clock, T: SystemTable, P: Printer> Endpoint for Devices<'_, R, T, P> {
@@ -173,9 +193,9 @@ impl<R: std::time::Clock, T: SystemTable, P: Printer> Endpoint for Devices<'_, R
     }
 
     fn poll(&mut self, buffer: &mut [u8]) -> Received {
-        match &mut self.group {
+        match &mut self.inbox {
             None => self.socket.poll(buffer),
-            Some(group) => group.poll(&mut self.socket, buffer),
+            Some(inbox) => inbox.poll(&mut self.socket, buffer),
         }
     }
 
@@ -184,15 +204,23 @@ impl<R: std::time::Clock, T: SystemTable, P: Printer> Endpoint for Devices<'_, R
     }
 }
 
-impl<R, T, P: Printer> Requests for Devices<'_, R, T, P> {
-    /// No Map-Request waits apart: one that comes is heard as any datagram, and refused.
-    fn next_request(&mut self, _buffer: &mut [u8]) -> Option<Request> {
-        None
+impl<R: std::time::Clock, T, P: Printer> Requests for Devices<'_, R, T, P> {
+    fn next_request(&mut self, buffer: &mut [u8]) -> Option<Request> {
+        let request = self.inbox.as_mut()?.next_request(buffer)?;
+        self.statistics.note_request();
+        self.asked_at = Instant::now(self.rt).ok();
+        Some(request)
     }
 
+    /// From the address of the node, UDP port 4342. The time since the Map-Request was taken is noted.
     fn reply(&mut self, datagram: &Datagram) -> bool {
-        self.socket
-            .send_to(&datagram.to, datagram.port, &datagram.bytes)
+        let is_taken = self
+            .socket
+            .send_to(&datagram.to, datagram.port, &datagram.bytes);
+        let now = Instant::now(self.rt).ok();
+        self.statistics
+            .note_reply(us_between(self.asked_at, now).unwrap_or(0));
+        is_taken
     }
 }
 
@@ -201,13 +229,14 @@ impl<R: std::time::Clock, T: SystemTable, P: Printer> Commit for Devices<'_, R, 
     fn commit(&mut self) -> bool
         ensures logs { Logs (⟦<Self as Outside>⟧.seen self.old) (⟦<Self as Outside>⟧.seen self.new)
             (Commits result) }
-        ensures group { IfSome self.old.group (λ group. IsTrue result → SomeIsDone T.Table.means) }
+        ensures group { IfSome self.old.database
+            (λ database. IsTrue result → SomeIsDone T.Table.means) }
     {
-        let Some(group) = &self.group else {
+        let Some(database) = self.database else {
             return true;
         };
         let begun = self.saves.begin();
-        let is_done = group.commit();
+        let is_done = database.commit();
         self.saves.end(begun);
         is_done
     }

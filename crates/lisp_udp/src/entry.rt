@@ -1,21 +1,24 @@
 //! The nodes of a configuration: by their numbers, and by their names.
 
 ghost use Rattle.std.specs.Prelude.{◌≡◌, Some, IfOk, IfErr};
+ghost use Rattle.lisp_udp.specs.Inbox.{resolve_at};
 ghost use Rattle.lisp_udp.specs.Names.{IsNamed, IsNameFault};
 ghost use Rattle.lisp_sites.specs.Numbers.{IsNode, name_at, address_at};
 
 use lisp_model::WorldFault;
-use lisp_records::Addr;
+use lisp_records::{Addr, Prefix};
 use lisp_script::RunFault;
 use lisp_sites::Config;
 
-/// A node: its name, which its folder has too, and its address.
+/// A node: its name, which its folder has too, its address, and whom it answers.
 #[derive(Clone, Copy)]
 pub(crate) struct NodeEntry<'a> {
     /// Its name.
     pub(crate) name: &'a str,
     /// Its address.
     pub(crate) address: &'a Addr,
+    /// The prefixes of the ITR-RLOCs that its Map-Replies go to; none where it answers no Map-Requests.
+    pub(crate) resolve: &'a [Prefix],
 }
 
 /// The node with a number: Map-Servers first, then routers.
@@ -23,6 +26,7 @@ pub(crate) fn entry_at(config: &Config, number: usize) -> NodeEntry<'_>
     requires { IsNode config.now number }
     ensures name { name_at config.now number ≡ Some result.name.now }
     ensures address { address_at config.now number ≡ Some result.address.now }
+    ensures resolve { resolve_at config.now number ≡ result.resolve.now }
 {
     let servers = config.servers();
     if number < servers.len() {
@@ -30,12 +34,14 @@ pub(crate) fn entry_at(config: &Config, number: usize) -> NodeEntry<'_>
         return NodeEntry {
             name: server.name.as_str(),
             address: &server.address,
+            resolve: &server.resolve,
         };
     }
     let router = &config.routers()[number - servers.len()];
     NodeEntry {
         name: router.name.as_str(),
         address: &router.address,
+        resolve: &router.resolve,
     }
 }
 

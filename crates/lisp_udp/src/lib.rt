@@ -35,7 +35,7 @@ mod control;
 mod devices;
 mod entry;
 mod folder;
-mod group;
+mod inbox;
 mod pace;
 mod save_times;
 mod socket;

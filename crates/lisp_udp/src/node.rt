@@ -7,7 +7,7 @@ use crate::control::ControlSocket;
 use crate::devices::Devices;
 use crate::entry::{NodeKind, entry_at, number_named};
 use crate::folder::open_folder;
-use crate::group::Group;
+use crate::inbox::inbox_at;
 use crate::journal::Journal;
 use crate::life::run_over;
 use crate::line_writer::LineWriter;
@@ -36,6 +36,8 @@ pub(crate) struct NodeStart<'a> {
     pub(crate) storage: Storage,
     /// The folder in which it is asked; `None` where that is its own.
     pub(crate) control: Option<&'a str>,
+    /// For how many ms of each life a Map-Server is starting.
+    pub(crate) quiet: u64,
 }
 
 /// Runs a node of a configuration for so many turns, as `run_server` and `run_router` do, with the file or the folder that
@@ -54,7 +56,9 @@ pub(crate) fn run<T: SystemTable, W: Write>(
     let store = folder.open_store::<T>(rt, node.storage, &failure)?;
     let control = folder.control(rt, node.control, asked_node(rt, config, number, name));
     let printer = LineWriter::new(rt.alloc(), config, name, writer);
-    let printer = run_in_store(rt, config, number, store, &failure, control, turns, printer)?;
+    let printer = run_in_store(
+        rt, config, number, store, &failure, control, node.quiet, turns, printer,
+    )?;
     Ok(printer.end()?)
 }
 
@@ -82,6 +86,7 @@ pub(crate) fn keep_running<T: SystemTable>(
         store,
         &failure,
         control,
+        node.quiet,
         u64::MAX,
         journal,
     )?;
@@ -112,6 +117,7 @@ fn run_in_store<T: SystemTable, P: Printer + Drop>(
     store: NodeStore<'_, T>,
     failure: &Cell<Option<ErrorKind>>,
     control: Option<ControlSocket<'_>>,
+    quiet: u64,
     turns: u64,
     printer: P,
 ) -> Result<P, RunFault>
@@ -121,17 +127,19 @@ fn run_in_store<T: SystemTable, P: Printer + Drop>(
     let is_server = config.is_server(number);
     match store {
         NodeStore::Files(store) => run_alone::<T, _, P>(
-            rt, config, number, store, &saves, control, turns, printer,
+            rt, config, number, store, &saves, control, quiet, turns, printer,
         ),
         NodeStore::Database { database, group } if is_server && group > 1 => {
             let database = SharedDatabase::over(database, failure);
             run_in_groups(
-                rt, config, number, &database, group, &saves, control, turns, printer,
+                rt, config, number, &database, group, &saves, control, quiet, turns, printer,
             )
         }
         NodeStore::Database { database, .. } => {
             let store = DatabaseStore::over(database, failure);
-            run_alone::<T, _, P>(rt, config, number, store, &saves, control, turns, printer)
+            run_alone::<T, _, P>(
+                rt, config, number, store, &saves, control, quiet, turns, printer,
+            )
         }
     }
 }
@@ -144,15 +152,17 @@ fn run_alone<'a, T: SystemTable, S: WorldStore + Drop, P: Printer + Drop>(
     store: S,
     saves: &'a SaveTimes<'a, HostRuntime>,
     control: Option<ControlSocket<'a>>,
+    quiet: u64,
     turns: u64,
     printer: P,
 ) -> Result<P, RunFault>
     requires { IsNode config.now number }
 {
+    let inbox = inbox_at(rt.alloc(), config, number, 1)?;
     let address = entry_at(config, number).address;
-    let devices = Devices::<_, T, _>::open(rt, address, None, control, saves, printer);
+    let devices = Devices::<_, T, _>::open(rt, address, inbox, None, control, saves, printer);
     let store = TimedStore::over(store, saves);
-    let life = run_over(rt.alloc(), config, number, store, 1, turns, devices)?;
+    let life = run_over(rt.alloc(), config, number, store, 1, quiet, turns, devices)?;
     Ok(life.outside.into_printer())
 }
 
@@ -165,15 +175,25 @@ fn run_in_groups<'a, T: SystemTable, P: Printer + Drop>(
     places: u8,
     saves: &'a SaveTimes<'a, HostRuntime>,
     control: Option<ControlSocket<'a>>,
+    quiet: u64,
     turns: u64,
     printer: P,
 ) -> Result<P, RunFault>
     requires { IsMapServer config.now number }
 {
-    let group = Group::new(rt.alloc(), places, database)?;
+    let inbox = inbox_at(rt.alloc(), config, number, places)?;
     let address = entry_at(config, number).address;
-    let devices = Devices::open(rt, address, Some(group), control, saves, printer);
+    let devices = Devices::open(rt, address, inbox, Some(database), control, saves, printer);
     let places = usize::from(places);
-    let outside = live(rt.alloc(), config, number, database, places, turns, devices)?;
+    let outside = live(
+        rt.alloc(),
+        config,
+        number,
+        database,
+        places,
+        quiet,
+        turns,
+        devices,
+    )?;
     Ok(outside.into_printer())
 }

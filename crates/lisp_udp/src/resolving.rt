@@ -5,7 +5,6 @@ ghost use Rattle.lisp_udp.specs.Running.{at_first};
 
 use lisp_budget::Budget;
 use lisp_memory::Memory;
-use lisp_replies::QUIET;
 use lisp_turns::Resolving;
 use std::alloc::{AllocError, Global};
 
@@ -15,13 +14,13 @@ const MOST_TO_EACH: u32 = 4_096;
 /// And how many to all.
 const MOST_TO_ALL: u32 = 262_144;
 
-/// How a node answers Map-Requests in a life that begins: of its budget nothing is used.
-pub(crate) fn resolving(alloc: Global) -> Result<Resolving, AllocError>
-    ensures first { IfOk result (λ r. r ≡ at_first) }
+/// How a node answers Map-Requests in a life that begins, of which a Map-Server is starting for so many ms: of its budget nothing is used.
+pub(crate) fn resolving(alloc: Global, quiet: u64) -> Result<Resolving, AllocError>
+    ensures first { IfOk result (λ r. r ≡ at_first quiet) }
     ensures memory { OnErr result ⟦<Global as Memory>⟧.may_refuse }
 {
     Ok(Resolving {
-        quiet: QUIET,
+        quiet,
         budget: Budget::new(alloc, MOST_TO_EACH, MOST_TO_ALL)?,
     })
 }

@@ -9,6 +9,7 @@ use crate::subject::{Stretch, Subject, run_subject};
 use lisp_database_store::SystemTable;
 use lisp_nodes::ServerNode;
 use lisp_nonces::WorldStore;
+use lisp_replies::QUIET;
 use lisp_script::RunFault;
 use lisp_sites::Config;
 use std::alloc::Global;
@@ -42,6 +43,7 @@ pub fn run_server<T: SystemTable, W: Write>(
         name,
         stretch: Stretch::Turns(turns),
         control: None,
+        quiet: QUIET,
     };
     run_subject::<T, W>(rt, config, dir, storage, subject, writer)?;
     Ok(())
@@ -65,6 +67,7 @@ pub fn keep_server_running<T: SystemTable>(
         name,
         stretch: Stretch::Endless { is_known },
         control: None,
+        quiet: QUIET,
     };
     run_subject::<T, _>(rt, config, dir, storage, subject, &mut io::sink())?;
     Ok(())

@@ -1,6 +1,6 @@
 //! The UDP socket of a node: one of the devices, whose calls are the system's.
 
-ghost use Rattle.std.specs.Prelude.{◌≡◌, ◌≤◌, None, false, length, IfOk};
+ghost use Rattle.std.specs.Prelude.{◌≡◌, ◌≤◌, ℕ, List, None, false, length, IfOk, IfSome};
 ghost use Rattle.lisp_turns.specs.Outside.{FitsBuffer};
 
 use lisp_records::Addr;
@@ -12,6 +12,17 @@ use std::time::Duration;
 
 /// The UDP port of LISP control messages (RFC 9301 section 5).
 const PORT: u16 = 4342;
+
+/// A datagram that came.
+#[derive(Clone, Copy)]
+pub(crate) struct Incoming {
+    /// The address that it comes from.
+    pub(crate) from: Addr,
+    /// The UDP port that it comes from.
+    pub(crate) port: u16,
+    /// How many bytes it has.
+    pub(crate) count: usize,
+}
 
 /// A socket at a node's address. Of what the system makes of its calls nothing is known.
 #[derive(Drop)]
@@ -69,23 +80,38 @@ impl NodeSocket {
         }
     }
 
-    // The next datagram that comes in so many ms; with `None`, that waits already.
-    fn next(&mut self, buffer: &mut [u8], ms: Option<u64>) -> Received
-        ensures within { FitsBuffer result buffer.new }
+    /// The next datagram that comes in the time of a receive, taken into `buffer`, if one does. Where the socket fails, the kind of
+    /// the error.
+    pub(crate) fn take_in_time(&mut self, buffer: &mut [u8]) -> Result<Option<Incoming>, ErrorKind>
+        ensures within { IfOk result (λ next.
+            IfSome next (λ incoming. incoming.count ≤ length buffer.new)) }
+        ensures room { length buffer.new ≡ length buffer.old }
+    {
+        self.take(buffer, self.receive_ms)
+    }
+
+    /// The next datagram that comes in so many ms, taken into `buffer`, if one does; with `None`, that waits already. Where the socket
+    /// fails, the kind of the error.
+    pub(crate) fn take(
+        &mut self,
+        buffer: &mut [u8],
+        ms: Option<u64>,
+    ) -> Result<Option<Incoming>, ErrorKind>
+        ensures within { IfOk result (λ next.
+            IfSome next (λ incoming. incoming.count ≤ length buffer.new)) }
         ensures room { length buffer.new ≡ length buffer.old }
     {
         match self.try_next(buffer, ms) {
-            Ok((count, from)) => Received::Datagram {
+            Ok((count, from)) => Ok(Some(Incoming {
                 from: address_of(&from),
+                port: from.port(),
                 count,
-            },
+            })),
             Err(error) => match error.kind() {
-                ErrorKind::WouldBlock | ErrorKind::TimedOut | ErrorKind::Interrupted => {
-                    Received::Nothing
-                }
+                ErrorKind::WouldBlock | ErrorKind::TimedOut | ErrorKind::Interrupted => Ok(None),
                 kind => {
                     self.failure = Some(kind);
-                    Received::Failed
+                    Err(kind)
                 }
             },
         }
@@ -131,16 +157,29 @@ impl Outside for NodeSocket {
 
 impl Endpoint for NodeSocket {
     fn receive(&mut self, buffer: &mut [u8]) -> Received {
-        self.next(buffer, self.receive_ms)
+        received(self.take_in_time(buffer))
     }
 
     fn poll(&mut self, buffer: &mut [u8]) -> Received {
-        self.next(buffer, None)
+        received(self.take(buffer, None))
     }
 
     /// To UDP port 4342 of the address.
     fn send(&mut self, to: &Addr, message: &[u8]) -> bool {
         self.send_to(to, PORT, message)
+    }
+}
+
+// What came of waiting for a datagram.
+fn received(taken: Result<Option<Incoming>, ErrorKind>) -> Received
+    ensures { (buffer : List ℕ)
+        → IfOk taken (λ next. IfSome next (λ incoming. incoming.count ≤ length buffer))
+        → FitsBuffer result buffer }
+{
+    match taken {
+        Ok(Some(Incoming { from, count, .. })) => Received::Datagram { from, count },
+        Ok(None) => Received::Nothing,
+        Err(_) => Received::Failed,
     }
 }
 

@@ -6,6 +6,7 @@ use crate::node::{NodeStart, keep_running, run};
 use crate::storage::Storage;
 use lisp_database_store::SystemTable;
 use lisp_files::{Ending, read_config};
+use lisp_replies::QUIET;
 use std::io::Write;
 
 /// What runs on sockets.
@@ -19,6 +20,8 @@ pub enum Subject<'a> {
         stretch: Stretch,
         /// The folder in which it is asked; `None` where that is its own.
         control: Option<&'a str>,
+        /// For how many ms of each life it is starting: it replies to Map-Requests with no prefix that may be wrong then.
+        quiet: u64,
     },
     /// The site router with a name.
     Router {
@@ -61,17 +64,18 @@ pub fn run_subject<T: SystemTable, W: Write>(
     writer: &mut W,
 ) -> Result<(), Ending> {
     let config = read_config(rt, config)?;
-    let (kind, name, stretch, control) = match subject {
+    let (kind, name, stretch, control, quiet) = match subject {
         Subject::Server {
             name,
             stretch,
             control,
-        } => (NodeKind::Server, name, stretch, control),
+            quiet,
+        } => (NodeKind::Server, name, stretch, control, quiet),
         Subject::Router {
             name,
             stretch,
             control,
-        } => (NodeKind::Router, name, stretch, control),
+        } => (NodeKind::Router, name, stretch, control, QUIET),
         Subject::Network { script } => {
             return run_network::<T, W>(rt, &config, script, dir, storage, writer);
         }
@@ -82,6 +86,7 @@ pub fn run_subject<T: SystemTable, W: Write>(
         dir,
         storage,
         control,
+        quiet,
     };
     match stretch {
         Stretch::Turns(turns) => run::<T, W>(rt, &config, node, u64::from(turns), writer),

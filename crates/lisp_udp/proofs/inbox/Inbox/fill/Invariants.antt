@@ -1,0 +1,10 @@
+use Rattle.std.proofs.Common.{◌≡◌, length}
+use Rattle.lisp_udp.proofs.inbox.Inbox.fill.Given as goal
+
+abbrev pub invariant-loop : goal.invariant-loop
+invariant-loop g l = record {
+  shares : l.self.heard.taken ≡ l.fn.self.heard.taken;
+  places : l.self.heard.places ≡ l.fn.self.heard.places;
+  kind : l.self.heard.kind ≡ l.fn.self.heard.kind;
+  room : length l.buffer ≡ length l.fn.buffer;
+}

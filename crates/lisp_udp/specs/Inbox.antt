@@ -1,0 +1,53 @@
+-- The datagrams of a node that wait, of which no source takes more than its share while others wait; Map-Requests may wait apart.
+use Rattle.std.specs.Prelude.{◌≡◌, ℕ, ◌<◌, nat_lt, Bool, true, false, List, [], length, Option, Some, None, unwrap_or, if◌then◌else◌}
+use Rattle.std.specs.Option.{option_map}
+use Rattle.lisp_policy.specs.Configuration.{ConfigValue}
+use Rattle.lisp_records.specs.declared.address.Addr.{Addr}
+use Rattle.lisp_records.specs.Address.{PrefixValue}
+use Rattle.lisp_queue.specs.Queue.{QueueState, taken_after}
+use Rattle.lisp_queue.specs.declared.kind.Kind.{Kind}
+use Rattle.lisp_queue.specs.declared.kind.Kind.TheVariants as kinds
+use Rattle.lisp_sites.specs.Numbers.{NodeValue, node_at}
+use Rattle.lisp_sites.specs.Numbers as nodes
+use Rattle.lisp_turns.specs.declared.outside.Received.{Received}
+use Rattle.lisp_turns.specs.declared.outside.Received.TheVariants as received
+use Rattle.lisp_udp.specs.declared.inbox.Inbox.{Inbox}
+use Rattle.lisp_udp.specs.declared.socket.Incoming.{Incoming}
+
+-- the source of a datagram that is taken, if one is, takes a place of the group
+abbrev pub taken_with : QueueState → Option Incoming → List Addr
+taken_with q (Some incoming) = taken_after q incoming.from
+taken_with q None = q.taken
+
+-- and of one that was received
+abbrev pub sources_after : QueueState → Received → List Addr
+sources_after q (received.Datagram from count) = taken_after q from
+sources_after q _ = q.taken
+
+-- and as the first of a group that begins
+abbrev pub first_sources : QueueState → Received → List Addr
+first_sources q received = sources_after (record q { taken = [] }) received
+
+-- the core hears all that comes, or what is no Map-Request
+abbrev pub heard_kind : Bool → Kind
+heard_kind is_asked = if is_asked then kinds.Others else kinds.All
+
+abbrev pub leaves_requests : Kind → Bool
+leaves_requests kinds.Others = true
+leaves_requests _ = false
+
+-- whether Map-Requests wait apart; where nothing waits, none do
+abbrev pub keeps_apart : Option Inbox → Bool
+keeps_apart (Some inbox) = leaves_requests inbox.heard.kind
+keeps_apart None = false
+
+-- a node answers Map-Requests where its entry in the configuration lists prefixes of ITR-RLOCs
+abbrev pub resolve_of : NodeValue → List PrefixValue
+resolve_of (nodes.Server entry) = entry.resolve
+resolve_of (nodes.Router entry) = entry.resolve
+
+abbrev pub resolve_at : ConfigValue → ℕ → List PrefixValue
+resolve_at config number = unwrap_or (option_map resolve_of (node_at config number)) []
+
+abbrev pub answers_requests : ConfigValue → ℕ → Bool
+answers_requests config number = nat_lt 0 (length (resolve_at config number))

@@ -1,0 +1,218 @@
+//! The datagrams of a node that wait to be heard or answered.
+
+ghost use Rattle.std.specs.Prelude.{◌≡◌, ◌≤◌, [], true, false, length, take, IfOk, IfSome, OnErr};
+ghost use Rattle.lisp_queue.specs.declared.kind.Kind.TheVariants as kinds;
+ghost use Rattle.lisp_requests.specs.MessageType.{is_request};
+ghost use Rattle.lisp_sites.specs.Numbers.{IsNode};
+ghost use Rattle.lisp_turns.specs.Outside.{FitsBuffer, IsApart, reception};
+ghost use Rattle.lisp_udp.specs.Inbox.{answers_requests, first_sources, heard_kind, keeps_apart, leaves_requests, sources_after, taken_with};
+
+use crate::entry::entry_at;
+use crate::socket::{Incoming, NodeSocket};
+use lisp_memory::Memory;
+use lisp_queue::{Kind, Queue};
+use lisp_sites::Config;
+use lisp_turns::{Received, Request};
+use std::alloc::{AllocError, Global};
+
+/// The most datagrams that are taken from a socket at once.
+const MOST_AT_ONCE: usize = 1_024;
+
+/// The datagrams of a node that wait, in the order in which its turns take them.
+#[derive(Drop)]
+pub(crate) struct Inbox {
+    // Those that its core hears.
+    heard: Queue,
+    // Map-Requests; None where the node answers none, so that its core hears them as any datagram.
+    asked: Option<Queue>,
+}
+
+/// What waits for the node with a number, whose turns hear so many datagrams at most. `None` where it takes each from the socket
+/// as it comes: one a turn, and none apart.
+pub(crate) fn inbox_at(
+    alloc: Global,
+    config: &Config,
+    number: usize,
+    places: u8,
+) -> Result<Option<Inbox>, AllocError>
+    requires { IsNode config.now number }
+    ensures apart { IfOk result (λ inbox. keeps_apart inbox ≡ answers_requests config.now number) }
+    ensures memory { OnErr result ⟦<Global as Memory>⟧.may_refuse }
+{
+    let is_asked = !entry_at(config, number).resolve.is_empty();
+    if places == 1 && !is_asked {
+        return Ok(None);
+    }
+    Ok(Some(Inbox::new(alloc, places, is_asked)?))
+}
+
+impl Inbox {
+    // For turns that hear so many datagrams at most, and where `is_asked` answer as many Map-Requests. Takes all memory but that of the
+    // datagrams' bytes.
+    fn new(alloc: Global, places: u8, is_asked: bool) -> Result<Inbox, AllocError>
+        ensures heard { IfOk result (λ i. i.heard
+            ≡ record { kind = heard_kind is_asked; waiting = []; taken = []; places = places }) }
+        ensures memory { OnErr result ⟦<Global as Memory>⟧.may_refuse }
+    {
+        if !is_asked {
+            return Ok(Inbox {
+                heard: Queue::new(alloc, Kind::All, places)?,
+                asked: None,
+            });
+        }
+        Ok(Inbox {
+            heard: Queue::new(alloc, Kind::Others, places)?,
+            asked: Some(Queue::new(alloc, Kind::Requests, places)?),
+        })
+    }
+
+    /// A turn begins: the first datagram that its core hears, taken into `buffer`. Where nothing waits, the socket waits for a datagram.
+    pub(crate) fn receive(&mut self, socket: &mut NodeSocket, buffer: &mut [u8]) -> Received
+        ensures shares { self.new.heard.taken ≡ first_sources self.old.heard result }
+        ensures places { self.new.heard.places ≡ self.old.heard.places }
+        ensures kind { self.new.heard.kind ≡ self.old.heard.kind }
+        ensures apart { IsApart (leaves_requests self.old.heard.kind)
+            (reception result buffer.new) }
+        ensures within { FitsBuffer result buffer.new }
+        ensures room { length buffer.new ≡ length buffer.old }
+    {
+        self.begin();
+        let is_failed = self.fill(socket, buffer);
+        let is_asked = self.is_asked();
+        match self.next(buffer) {
+            Received::Nothing if is_failed => Received::Failed,
+            Received::Nothing if !is_asked => self.wait(socket, buffer),
+            received => received,
+        }
+    }
+
+    /// The next datagram of the turn, taken into `buffer`; `Nothing` where none waits.
+    pub(crate) fn poll(&mut self, socket: &mut NodeSocket, buffer: &mut [u8]) -> Received
+        ensures shares { self.new.heard.taken ≡ sources_after self.old.heard result }
+        ensures places { self.new.heard.places ≡ self.old.heard.places }
+        ensures kind { self.new.heard.kind ≡ self.old.heard.kind }
+        ensures apart { IsApart (leaves_requests self.old.heard.kind)
+            (reception result buffer.new) }
+        ensures within { FitsBuffer result buffer.new }
+        ensures room { length buffer.new ≡ length buffer.old }
+    {
+        self.fill(socket, buffer);
+        self.next(buffer)
+    }
+
+    /// The next Map-Request of the turn, taken into `buffer`, if one waits.
+    pub(crate) fn next_request(&mut self, buffer: &mut [u8]) -> Option<Request>
+        ensures heard { self.new.heard ≡ self.old.heard }
+        ensures within { IfSome result (λ request. request.count ≤ length buffer.new) }
+        ensures room { length buffer.new ≡ length buffer.old }
+    {
+        let Incoming { from, port, count } = next_of(self.asked.as_mut()?, buffer)?;
+        Some(Request { from, port, count })
+    }
+
+    /// Whether a Map-Request waits.
+    pub(crate) fn is_asked(&self) -> bool {
+        match &self.asked {
+            Some(asked) => !asked.is_empty(),
+            None => false,
+        }
+    }
+
+    // A turn took nothing yet.
+    fn begin(&mut self)
+        ensures { self.new.heard ≡ record self.old.heard { taken = [] } }
+    {
+        self.heard.begin();
+        if let Some(asked) = &mut self.asked {
+            asked.begin();
+        }
+    }
+
+    // What waits in the socket waits here then, as far as there is room. Whether the socket failed.
+    fn fill(&mut self, socket: &mut NodeSocket, buffer: &mut [u8]) -> bool
+        ensures shares { self.new.heard.taken ≡ self.old.heard.taken }
+        ensures places { self.new.heard.places ≡ self.old.heard.places }
+        ensures kind { self.new.heard.kind ≡ self.old.heard.kind }
+        ensures room { length buffer.new ≡ length buffer.old }
+    {
+        for _ in 0..MOST_AT_ONCE {
+            match socket.take(buffer, None) {
+                Ok(Some(incoming)) => self.offer(&incoming, buffer),
+                Ok(None) => return false,
+                Err(_) => return true,
+            }
+        }
+        false
+    }
+
+    // A datagram in a buffer waits where it belongs, if there is room.
+    fn offer(&mut self, incoming: &Incoming, buffer: &[u8])
+        requires { incoming.now.count ≤ length buffer.now }
+        ensures shares { self.new.heard.taken ≡ self.old.heard.taken }
+        ensures places { self.new.heard.places ≡ self.old.heard.places }
+        ensures kind { self.new.heard.kind ≡ self.old.heard.kind }
+    {
+        let bytes = &buffer[..incoming.count];
+        self.heard.offer(incoming.from, incoming.port, bytes);
+        if let Some(asked) = &mut self.asked {
+            asked.offer(incoming.from, incoming.port, bytes);
+        }
+    }
+
+    // The next datagram that the core hears.
+    fn next(&mut self, buffer: &mut [u8]) -> Received
+        ensures shares { self.new.heard.taken ≡ sources_after self.old.heard result }
+        ensures places { self.new.heard.places ≡ self.old.heard.places }
+        ensures kind { self.new.heard.kind ≡ self.old.heard.kind }
+        ensures apart { IsApart (leaves_requests self.old.heard.kind)
+            (reception result buffer.new) }
+        ensures within { FitsBuffer result buffer.new }
+        ensures room { length buffer.new ≡ length buffer.old }
+    {
+        match next_of(&mut self.heard, buffer) {
+            Some(Incoming { from, count, .. }) => Received::Datagram { from, count },
+            None => Received::Nothing,
+        }
+    }
+
+    // The next datagram that comes to the socket, in its time limit.
+    fn wait(&mut self, socket: &mut NodeSocket, buffer: &mut [u8]) -> Received
+        ensures shares { self.new.heard.taken ≡ sources_after self.old.heard result }
+        ensures places { self.new.heard.places ≡ self.old.heard.places }
+        ensures kind { self.new.heard.kind ≡ self.old.heard.kind }
+        ensures apart { IsApart (leaves_requests self.old.heard.kind)
+            (reception result buffer.new) }
+        ensures within { FitsBuffer result buffer.new }
+        ensures room { length buffer.new ≡ length buffer.old }
+    {
+        match socket.take_in_time(buffer) {
+            Ok(Some(incoming)) => {
+                self.offer(&incoming, buffer);
+                self.next(buffer)
+            }
+            Ok(None) => Received::Nothing,
+            Err(_) => Received::Failed,
+        }
+    }
+}
+
+// The datagram of a queue that is next, taken into `buffer`.
+fn next_of(queue: &mut Queue, buffer: &mut [u8]) -> Option<Incoming>
+    ensures shares { queue.new.taken ≡ taken_with queue.old result }
+    ensures places { queue.new.places ≡ queue.old.places }
+    ensures kind { queue.new.kind ≡ queue.old.kind }
+    ensures apart { IfSome result (λ incoming. leaves_requests queue.old.kind ≡ true
+        → is_request (take incoming.count buffer.new) ≡ false) }
+    ensures within { IfSome result (λ incoming. incoming.count ≤ length buffer.new) }
+    ensures room { length buffer.new ≡ length buffer.old }
+{
+    let waiting = queue.next()?;
+    let bytes = waiting.bytes.as_slice();
+    let count = bytes.len().min(buffer.len());
+    buffer[..count].copy_from_slice(&bytes[..count]);
+    Some(Incoming {
+        from: waiting.from,
+        port: waiting.port,
+        count,
+    })
+}
