@@ -1,8 +1,9 @@
 -- Datagrams that wait, and which of them a group takes next.
-use Rattle.std.specs.Prelude.{◌≡◌, ◌⊎◌, ℕ, ◌+◌, ◌/◌, ◌<◌, ◌≤◌, Bool, true, false, nat_lt, List, [], ◌∷◌, ◌++◌, length, count_by, remove, slice_get, position, Option, Some, None, unwrap_or, if◌then◌else◌}
+use Rattle.std.specs.Prelude.{◌≡◌, ◌⊎◌, ℕ, ◌+◌, ◌/◌, ◌<◌, ◌≤◌, Bool, true, false, nat_lt, List, [], ◌∷◌, ◌++◌, length, count_by, min, take, remove, slice_get, position, Option, Some, None, unwrap_or, if◌then◌else◌}
 use Rattle.lisp_records.specs.declared.address.Addr.{Addr}
 use Rattle.lisp_records.specs.Address.{addr_eq}
 use Rattle.lisp_queue.specs.Kind.{is_of}
+use Rattle.lisp_queue.specs.declared.incoming.Incoming.{Incoming}
 use Rattle.lisp_queue.specs.declared.kind.Kind.{Kind}
 
 -- a datagram that waits: the address and the UDP port that it comes from, and its bytes
@@ -67,3 +68,19 @@ abbrev pub TakesNext : QueueState → QueueState → Option WaitingValue → Typ
 TakesNext old new None = (old.waiting ≡ []) × (new ≡ old)
 TakesNext old new (Some w) = (slice_get old.waiting (next_place old) ≡ Some w)
     × (new ≡ record old { waiting = remove old.waiting (next_place old); taken = taken_after old w.from })
+
+-- it is taken into a buffer: as much of it as that holds
+pub record IsInBuffer (w : WaitingValue) (buffer : List ℕ) (incoming : Incoming) : Type 0 where
+  pub from : incoming.from ≡ w.from
+  pub port : incoming.port ≡ w.port
+  pub count : incoming.count ≡ min (length w.bytes) (length buffer)
+  pub bytes : take incoming.count buffer ≡ take incoming.count w.bytes
+
+abbrev pub TakesInto : QueueState → QueueState → List ℕ → Option Incoming → Type 0
+TakesInto old new buffer None = TakesNext old new None
+TakesInto old new buffer (Some incoming) = (w : WaitingValue) × TakesNext old new (Some w) × IsInBuffer w buffer incoming
+
+-- and its source takes a place of the group
+abbrev pub taken_with : QueueState → Option Incoming → List Addr
+taken_with q (Some incoming) = taken_after q incoming.from
+taken_with q None = q.taken

@@ -7,9 +7,11 @@
 //!   is dropped, as a socket without room drops it.
 #![tactic(auto)]
 
+mod incoming;
 mod kind;
 pub mod laws;
 mod queue;
 
+pub use incoming::Incoming;
 pub use kind::Kind;
 pub use queue::{Queue, Waiting};

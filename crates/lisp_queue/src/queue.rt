@@ -1,11 +1,12 @@
 //! A queue of datagrams, from which groups are taken.
 
-ghost use Rattle.std.specs.Prelude.{◌≡◌, ◌<◌, ◌≤◌, ◌↔◌, [], true, length, count_by, remove, slice_get, position, Some, unwrap_or, nat_lt, IsTrue, IfOk, IfSome, OnErr};
+ghost use Rattle.std.specs.Prelude.{◌≡◌, ◌<◌, ◌≤◌, ◌↔◌, [], true, length, min, take, count_by, remove, slice_get, position, Some, unwrap_or, nat_lt, IsTrue, IfOk, IfSome, OnErr};
 ghost use Rattle.std.specs.Option.{option_map};
 ghost use Rattle.lisp_records.specs.Address.{addr_eq};
-ghost use Rattle.lisp_queue.specs.Kind.{is_of};
-ghost use Rattle.lisp_queue.specs.Queue.{room, most_of_one, waiting_of, may_take, next_place, taken_after, places_of, Offers, TakesNext};
+ghost use Rattle.lisp_queue.specs.Kind.{is_of, is_within};
+ghost use Rattle.lisp_queue.specs.Queue.{room, most_of_one, waiting_of, may_take, next_place, taken_after, places_of, Offers, TakesNext, TakesInto, taken_with};
 
+use crate::incoming::Incoming;
 use crate::kind::Kind;
 use lisp_memory::{FallibleCopies, FallibleVec, Memory};
 use lisp_records::{Addr, Bytes};
@@ -158,6 +159,26 @@ impl<A: Memory + Copy> Queue<A> {
         Some(next)
     }
 
+    /// The datagram that is heard next, as `next` takes it, at the start of `buffer`: as much of it as that holds. `None` where none waits.
+    pub fn next_into(&mut self, buffer: &mut [u8]) -> Option<Incoming>
+        ensures next { TakesInto self.old self.new buffer.new result }
+        ensures within { IfSome result (λ incoming. incoming.count ≤ length buffer.new) }
+        ensures kind { IfSome result (λ incoming.
+            is_within self.old.kind (take incoming.count buffer.new) ≡ true) }
+        ensures taken { self.new.taken ≡ taken_with self.old result }
+        ensures places { self.new.places ≡ self.old.places }
+        ensures same_kind { self.new.kind ≡ self.old.kind }
+        ensures room { length buffer.new ≡ length buffer.old }
+    {
+        let waiting = self.next()?;
+        let count = copy_into(waiting.bytes.as_slice(), buffer);
+        Some(Incoming {
+            from: waiting.from,
+            port: waiting.port,
+            count,
+        })
+    }
+
     // The datagram at a place, which no longer waits.
     fn take_at(&mut self, place: usize) -> Waiting<A>
         requires { place < length self.now.waiting }
@@ -177,6 +198,17 @@ impl<A: Memory + Copy> Queue<A> {
         let (taken, half) = (&self.taken, self.places.div_ceil(2));
         first_below(&self.waiting, taken, half).unwrap_or(0)
     }
+}
+
+// Copies bytes to the start of a buffer, as many as it holds. How many these are.
+fn copy_into(bytes: &[u8], buffer: &mut [u8]) -> usize
+    ensures count { result ≡ min (length bytes.now) (length buffer.old) }
+    ensures copied { take result buffer.new ≡ take result bytes.now }
+    ensures room { length buffer.new ≡ length buffer.old }
+{
+    let count = bytes.len().min(buffer.len());
+    buffer[..count].copy_from_slice(&bytes[..count]);
+    count
 }
 
 // The place of the first datagram whose source has fewer than so many places.

@@ -1,5 +1,5 @@
 -- The datagrams of a node that wait, of which no source takes more than its share while others wait; Map-Requests may wait apart.
-use Rattle.std.specs.Prelude.{◌≡◌, ℕ, ◌<◌, nat_lt, Bool, true, false, List, [], length, Option, Some, None, unwrap_or, if◌then◌else◌}
+use Rattle.std.specs.Prelude.{ℕ, nat_lt, Bool, true, false, List, [], length, Option, Some, None, unwrap_or, if◌then◌else◌}
 use Rattle.std.specs.Option.{option_map}
 use Rattle.lisp_policy.specs.Configuration.{ConfigValue}
 use Rattle.lisp_records.specs.declared.address.Addr.{Addr}
@@ -12,14 +12,8 @@ use Rattle.lisp_sites.specs.Numbers as nodes
 use Rattle.lisp_turns.specs.declared.outside.Received.{Received}
 use Rattle.lisp_turns.specs.declared.outside.Received.TheVariants as received
 use Rattle.lisp_udp.specs.declared.inbox.Inbox.{Inbox}
-use Rattle.lisp_udp.specs.declared.socket.Incoming.{Incoming}
 
--- the source of a datagram that is taken, if one is, takes a place of the group
-abbrev pub taken_with : QueueState → Option Incoming → List Addr
-taken_with q (Some incoming) = taken_after q incoming.from
-taken_with q None = q.taken
-
--- and of one that was received
+-- the source of a datagram that was received takes a place of the group
 abbrev pub sources_after : QueueState → Received → List Addr
 sources_after q (received.Datagram from count) = taken_after q from
 sources_after q _ = q.taken

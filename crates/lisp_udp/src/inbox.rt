@@ -1,16 +1,14 @@
 //! The datagrams of a node that wait to be heard or answered.
 
-ghost use Rattle.std.specs.Prelude.{◌≡◌, ◌≤◌, [], true, false, length, take, IfOk, IfSome, OnErr};
-ghost use Rattle.lisp_queue.specs.declared.kind.Kind.TheVariants as kinds;
-ghost use Rattle.lisp_requests.specs.MessageType.{is_request};
+ghost use Rattle.std.specs.Prelude.{◌≡◌, ◌≤◌, [], length, IfOk, IfSome, OnErr};
 ghost use Rattle.lisp_sites.specs.Numbers.{IsNode};
 ghost use Rattle.lisp_turns.specs.Outside.{FitsBuffer, IsApart, reception};
-ghost use Rattle.lisp_udp.specs.Inbox.{answers_requests, first_sources, heard_kind, keeps_apart, leaves_requests, sources_after, taken_with};
+ghost use Rattle.lisp_udp.specs.Inbox.{answers_requests, first_sources, heard_kind, keeps_apart, leaves_requests, sources_after};
 
 use crate::entry::entry_at;
-use crate::socket::{Incoming, NodeSocket};
+use crate::socket::NodeSocket;
 use lisp_memory::Memory;
-use lisp_queue::{Kind, Queue};
+use lisp_queue::{Incoming, Kind, Queue};
 use lisp_sites::Config;
 use lisp_turns::{Received, Request};
 use std::alloc::{AllocError, Global};
@@ -106,7 +104,7 @@ impl Inbox {
         ensures within { IfSome result (λ request. request.count ≤ length buffer.new) }
         ensures room { length buffer.new ≡ length buffer.old }
     {
-        let Incoming { from, port, count } = next_of(self.asked.as_mut()?, buffer)?;
+        let Incoming { from, port, count } = self.asked.as_mut()?.next_into(buffer)?;
         Some(Request { from, port, count })
     }
 
@@ -169,7 +167,7 @@ impl Inbox {
         ensures within { FitsBuffer result buffer.new }
         ensures room { length buffer.new ≡ length buffer.old }
     {
-        match next_of(&mut self.heard, buffer) {
+        match self.heard.next_into(buffer) {
             Some(Incoming { from, count, .. }) => Received::Datagram { from, count },
             None => Received::Nothing,
         }
@@ -194,25 +192,4 @@ impl Inbox {
             Err(_) => Received::Failed,
         }
     }
-}
-
-// The datagram of a queue that is next, taken into `buffer`.
-fn next_of(queue: &mut Queue, buffer: &mut [u8]) -> Option<Incoming>
-    ensures shares { queue.new.taken ≡ taken_with queue.old result }
-    ensures places { queue.new.places ≡ queue.old.places }
-    ensures kind { queue.new.kind ≡ queue.old.kind }
-    ensures apart { IfSome result (λ incoming. leaves_requests queue.old.kind ≡ true
-        → is_request (take incoming.count buffer.new) ≡ false) }
-    ensures within { IfSome result (λ incoming. incoming.count ≤ length buffer.new) }
-    ensures room { length buffer.new ≡ length buffer.old }
-{
-    let waiting = queue.next()?;
-    let bytes = waiting.bytes.as_slice();
-    let count = bytes.len().min(buffer.len());
-    buffer[..count].copy_from_slice(&bytes[..count]);
-    Some(Incoming {
-        from: waiting.from,
-        port: waiting.port,
-        count,
-    })
 }

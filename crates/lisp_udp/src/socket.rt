@@ -3,6 +3,7 @@
 ghost use Rattle.std.specs.Prelude.{◌≡◌, ◌≤◌, ℕ, List, None, false, length, IfOk, IfSome};
 ghost use Rattle.lisp_turns.specs.Outside.{FitsBuffer};
 
+use lisp_queue::Incoming;
 use lisp_records::Addr;
 use lisp_script::RunFault;
 use lisp_turns::{Endpoint, Outside, Received};
@@ -12,17 +13,6 @@ use std::time::Duration;
 
 /// The UDP port of LISP control messages (RFC 9301 section 5).
 const PORT: u16 = 4342;
-
-/// A datagram that came.
-#[derive(Clone, Copy)]
-pub(crate) struct Incoming {
-    /// The address that it comes from.
-    pub(crate) from: Addr,
-    /// The UDP port that it comes from.
-    pub(crate) port: u16,
-    /// How many bytes it has.
-    pub(crate) count: usize,
-}
 
 /// A socket at a node's address. Of what the system makes of its calls nothing is known.
 #[derive(Drop)]
