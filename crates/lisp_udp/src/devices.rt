@@ -156,7 +156,11 @@ impl<R: std::time::Clock, T: SystemTable, P: Printer> Devices<'_, R, T, P> {
                 .rest(us_between(begun, rested).unwrap_or(BUSY_REST_US));
             begun = rested;
         }
-        if received != Received::Nothing || self.is_asked() {
+        let has_work = match received {
+            Received::Datagram { .. } => true,
+            _ => self.is_asked(),
+        };
+        if has_work {
             self.pace.hear();
             self.works_since = begun;
         }
