@@ -91,7 +91,8 @@ def what_is_counted(here):
     """Which routers it heard, how many lines of each kind it printed, and what it has, in lines and for Prometheus."""
     process = up(here, "server", "s1", here.s1, env=with_slow_syncs(SLOW_MS * 1000))
     check("nobody was heard", ask(here, "s1", "routers"), (0, "routers s1 0\n", ""))
-    check("nothing is counted", counts(here, "s1"), {"rows": "0", "sites": "0", "standing_notices": "0", "replays": "0", "longest_save_ms": "0"})
+    check("nothing is counted", counts(here, "s1"), {"rows": "0", "sites": "0", "standing_notices": "0", "replays": "0", "longest_save_ms": "0",
+                                                              "requests": "0", "slowest_reply_us": "0"})
     with peer(here.r1) as it:
         for nonce in (7, 8):
             check("its answer", nonce_in(here.answer(it, map_register(nonce))), nonce)
@@ -102,10 +103,11 @@ def what_is_counted(here):
     found = counts(here, "s1")
     found.pop("resent", None)
     check("in the order of their words, refusals by their numbers behind them", list(found),
-          ["accepted", "notice", "refused 50", "refused 57", "rows", "sites", "standing_notices", "replays", "longest_save_ms"])
+          ["accepted", "notice", "refused 50", "refused 57", "rows", "sites", "standing_notices", "replays", "longest_save_ms",
+           "requests", "slowest_reply_us"])
     check("how long a save takes", SLOW_MS <= int(found.pop("longest_save_ms")) < LIMIT * 1000, True)
     check("what is counted", found, {"accepted": "2", "notice": "1", "refused 50": "1", "refused 57": "1",
-                                     "rows": "1", "sites": "1", "standing_notices": "1", "replays": "0"})
+                                     "rows": "1", "sites": "1", "standing_notices": "1", "replays": "0", "requests": "0", "slowest_reply_us": "0"})
     status, text, wrongs = ask(here, "s1", "routers")
     ages = re.findall(r" age (\d+)", text)
     check("its router, and its replay", (status, re.sub(r" age \d+", " age", text), wrongs),
@@ -113,12 +115,14 @@ def what_is_counted(here):
     check("their ages", all(0 <= int(age) < LIMIT * 1000 for age in ages), True)
     status, text, wrongs = ask(here, "s1", "counts", "--prometheus")
     lines = [line for line in text.splitlines() if line[0] != "#" and "resent" not in line]
-    check("metrics", (status, wrongs, lines[:-1]), (0, "", [
+    save = lines.pop(8)
+    check("metrics", (status, wrongs, lines), (0, "", [
         'lisp_lines_total{node="s1",line="accepted"} 2', 'lisp_lines_total{node="s1",line="notice"} 1',
         'lisp_refusals_total{node="s1",number="50"} 1', 'lisp_refusals_total{node="s1",number="57"} 1',
         'lisp_rows{node="s1"} 1', 'lisp_sites{node="s1"} 1', 'lisp_standing_notices{node="s1"} 1',
-        'lisp_replayed_sources{node="s1"} 0']))
-    check("the longest save", re.fullmatch(r'lisp_longest_save_seconds\{node="s1"\} \d+e-3', lines[-1]) is not None, True)
+        'lisp_replayed_sources{node="s1"} 0', 'lisp_map_requests_total{node="s1"} 0',
+        'lisp_slowest_reply_seconds{node="s1"} 0e-6']))
+    check("the longest save", re.fullmatch(r'lisp_longest_save_seconds\{node="s1"\} \d+e-3', save) is not None, True)
     killed(process)
 
 
