@@ -6,8 +6,8 @@ use crate::row::{HEADER, Row, Section};
 pub(crate) const RESOLVE_REFUSALS: Section = Section {
     title: "Why a Map-Request isn't answered",
     introduction: "The first reason from top to bottom, where the bytes are a Map-Request (RFC 9301 sections 5.3, 8.2 and 8.3). `lispd server` and
-`lispd router` take Map-Requests where their entry in the configuration has `resolve`, and print `refused NAME N`. Without it a
-Map-Server refuses one with 50, and a router with 43.",
+`lispd router` take Map-Requests where their entry in the configuration has `resolve`; without `--turns` they print
+`refused NAME N`. A Map-Server without `resolve` refuses one with 50, such a router with 43.",
     header: HEADER,
     rows: &[
         Row {
