@@ -2,7 +2,7 @@
 
 /// What the program does, for its help.
 pub(crate) const ABOUT: &str =
-    "Map-Server registration of LISP (RFC 9301); with no words, `answer`";
+    "Map-Server and site router (ETR) of LISP (RFC 9301); with no words, `answer`";
 
 /// What `answer` does, for its help.
 pub(crate) const ANSWER_ABOUT: &str =
