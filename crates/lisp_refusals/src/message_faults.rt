@@ -31,7 +31,7 @@ profile). Of `read 15 record I fault R`, R has a section of its own.",
             name: "Kind",
             meaning: "a type other than 3, 4 and 5",
             status: "",
-            remedy: "check what sends to this port",
+            remedy: "check what sends to this port; Map-Requests (types 1 and 8) are taken only with `resolve`",
         },
         Row {
             number: 11,

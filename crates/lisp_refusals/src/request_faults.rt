@@ -6,7 +6,8 @@ use crate::row::{HEADER, Row, Section};
 pub(crate) const REQUEST_FAULTS: Section = Section {
     title: "Why bytes are not a Map-Request, a Map-Reply or an encapsulated message",
     introduction: "The first fault from left to right (RFC 9301 sections 5.2, 5.4, 5.5 and 5.8; [PROTOCOL](PROTOCOL.md) has the layouts, and
-which fault comes where). `lispd look` takes no notice of what is no Map-Reply.",
+which fault comes where). A node that takes Map-Requests (`resolve`) prints `refused NAME N` for those of a Map-Request and of what
+stands around it, without `--turns`. `lispd look` takes no notice of what is no Map-Reply.",
     header: HEADER,
     rows: &[
         Row {

@@ -5,8 +5,9 @@ use crate::row::{HEADER, Row, Section};
 /// Why a node takes nothing of a Map-Request, or holds back what it would send for one.
 pub(crate) const RESOLVE_REFUSALS: Section = Section {
     title: "Why a Map-Request isn't answered",
-    introduction: "The first reason from top to bottom, where the bytes are a Map-Request (RFC 9301 sections 5.3, 8.2 and 8.3). No subcommand
-takes Map-Requests yet: `lispd server` and `lispd router` refuse one with 50.",
+    introduction: "The first reason from top to bottom, where the bytes are a Map-Request (RFC 9301 sections 5.3, 8.2 and 8.3). `lispd server` and
+`lispd router` take Map-Requests where their entry in the configuration has `resolve`; without `--turns` they print
+`refused NAME N`. A Map-Server without `resolve` refuses one with 50, such a router with 43.",
     header: HEADER,
     rows: &[
         Row {
@@ -53,7 +54,7 @@ takes Map-Requests yet: `lispd server` and `lispd router` refuse one with 50.",
             number: 135,
             carried: "",
             name: "OverBudget",
-            meaning: "a datagram for the Map-Request is held back: with it more bytes than allowed would go out in a second, to its destination or to all",
+            meaning: "a datagram for the Map-Request is held back: with it more bytes than allowed would go out in a second, to its destination (4,096) or to all (262,144)",
             status: "",
             remedy: "find out who asks that often, and for which ITR-RLOC: an ITR asks again by itself",
         },

@@ -83,6 +83,7 @@ fn node_run<'a>(kind: NodeKind, words: &ArgMatches<'a>) -> Result<Run<'a>, Progr
         is_known,
         has_database,
         group,
+        quiet,
         control,
     } = node_words(words)?;
     let stretch = match turns {
@@ -93,7 +94,7 @@ fn node_run<'a>(kind: NodeKind, words: &ArgMatches<'a>) -> Result<Run<'a>, Progr
         config,
         dir,
         storage: storage(has_database, group),
-        subject: node(kind, name, stretch, control),
+        subject: node(kind, name, stretch, control, quiet),
     })
 }
 
@@ -102,12 +103,14 @@ fn node<'a>(
     name: &'a str,
     stretch: Stretch,
     control: Option<&'a str>,
+    quiet: u64,
 ) -> Subject<'a> {
     match kind {
         NodeKind::Server => Subject::Server {
             name,
             stretch,
             control,
+            quiet,
         },
         NodeKind::Router => Subject::Router {
             name,

@@ -1,5 +1,5 @@
 -- The words of `server` and `router`, as `clap` matched them.
-use Rattle.std.specs.Prelude.{◌≡◌, ℕ, ◌^◌, nat_lt, Bool, List, [], codes, Option, Some, None, unwrap_or, if◌then◌else◌}
+use Rattle.std.specs.Prelude.{◌≡◌, ℕ, ◌*◌, ◌^◌, nat_lt, Bool, List, [], codes, Option, Some, None, unwrap_or, if◌then◌else◌}
 use Rattle.std.specs.Option.{option_map}
 use Rattle.clap.specs.Words.{first_value, found_of}
 use Rattle.clap.specs.declared.parser.matches.ArgMatches.{ArgMatches}
@@ -37,6 +37,16 @@ abbrev pub group_of : Option (List ℕ) → Option ℕ
 group_of None = Some 1
 group_of (Some text) = group_below (number_of text)
 
+-- for how many ms after its start a Map-Server sends no negative Map-Reply: a decimal number of seconds from 0 to 3600;
+-- 60 seconds where it wasn't given
+abbrev pub quiet_below : Option ℕ → Option ℕ
+quiet_below None = None
+quiet_below (Some seconds) = if nat_lt 3600 seconds then None else Some (seconds * 1000)
+
+abbrev pub quiet_of : Option (List ℕ) → Option ℕ
+quiet_of None = Some 60000
+quiet_of (Some text) = quiet_below (number_of text)
+
 -- each word is that which was given, in its form
 pub record ReadsNode (words : ArgMatches) (read : NodeWords) : Type 0 where
   pub config : read.config.now ≡ word_in words (codes "CONFIG")
@@ -46,4 +56,5 @@ pub record ReadsNode (words : ArgMatches) (read : NodeWords) : Type 0 where
   pub known : read.is_known ≡ is_given_in words (codes "known")
   pub database : read.has_database ≡ is_given_in words (codes "database")
   pub group : group_of (option_in words (codes "group")) ≡ Some read.group
+  pub quiet : quiet_of (option_in words (codes "quiet")) ≡ Some read.quiet
   pub control : option_map (λ dir. dir.now) read.control ≡ option_in words (codes "control")

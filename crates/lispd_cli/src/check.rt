@@ -15,9 +15,9 @@ use lisp_check::{
 };
 use lisp_memory::{FallibleString, FallibleVec};
 use lisp_policy::{Site, SitePrefix};
-use lisp_records::{Addr, Database};
+use lisp_records::{Addr, Database, Prefix};
 use lisp_script::{InputFault, PlayFault};
-use lisp_sites::{Config, Name, PlacedFault, RouterEntry};
+use lisp_sites::{Config, Name, PlacedFault, RouterEntry, ServerEntry};
 use lisp_texts::{addr_to_text, prefix_to_text, record_to_text};
 use std::alloc::{AllocError, Global};
 use std::fmt::Display;
@@ -266,8 +266,7 @@ fn print_config<W: Write>(alloc: Global, config: &Config, writer: &mut W) -> Res
         print(site_line(alloc, site), writer)?;
     }
     for server in config.servers() {
-        let line = node_line(alloc, "server", &server.name, &server.address);
-        print(line, writer)?;
+        print(server_line(alloc, server), writer)?;
     }
     for router in config.routers() {
         print(router_line(alloc, config, router), writer)?;
@@ -310,12 +309,19 @@ fn put_prefixes(
     Ok(())
 }
 
+fn server_line(alloc: Global, server: &ServerEntry) -> Result<String, AllocError> {
+    let mut line = node_line(alloc, "server", &server.name, &server.address)?;
+    put_resolve(&mut line, alloc, &server.resolve)?;
+    Ok(line)
+}
+
 fn router_line(alloc: Global, config: &Config, router: &RouterEntry) -> Result<String, AllocError> {
     let mut line = node_line(alloc, "router", &router.name, &router.address)?;
     put_identity(&mut line, router)?;
     put_servers(&mut line, config, router.servers.as_slice())?;
     put_flags(&mut line, router)?;
     put_database(&mut line, alloc, &router.database)?;
+    put_resolve(&mut line, alloc, &router.resolve)?;
     Ok(line)
 }
 
@@ -364,6 +370,14 @@ fn put_database(line: &mut String, alloc: Global, database: &Database) -> Result
     }
     for record in database.records() {
         put(line, "record", record_to_text(alloc, record)?)?;
+    }
+    Ok(())
+}
+
+// The prefixes of the ITR-RLOCs that a node replies to.
+fn put_resolve(line: &mut String, alloc: Global, resolve: &[Prefix]) -> Result<(), AllocError> {
+    for prefix in resolve {
+        put(line, "resolve", prefix_to_text(alloc, prefix)?)?;
     }
     Ok(())
 }

@@ -59,6 +59,9 @@ pub const DATABASE: &str = "database";
 /// The option for how many datagrams are committed together.
 pub const GROUP: &str = "group";
 
+/// The option for how long after its start a Map-Server sends no negative Map-Reply.
+pub const QUIET: &str = "quiet";
+
 /// The option for the number of turns.
 pub const TURNS: &str = "turns";
 
@@ -148,6 +151,13 @@ static RUNNING: [Subcommand; 6] = [
                 is_required: false,
                 help: "How many datagrams that wait it takes in a turn at most, whose nonces are saved with one sync, from 1 (the \
 default) to 64; only with --database",
+            },
+            Argument::Value {
+                name: QUIET,
+                letters: "SECONDS",
+                is_required: false,
+                help: "For how long after its start it sends no negative Map-Reply, since its routers may not have registered again yet, \
+from 0 to 3600; left out, 60",
             },
             TURNS_ARGUMENT,
             KNOWN_ARGUMENT,

@@ -87,6 +87,9 @@ pub enum ProgramFault {
     /// `--group` comes without `--database`.
     #[error("--group is taken only with --database")]
     GroupOfFiles,
+    /// `--quiet` has another form than it takes.
+    #[error("--quiet takes a whole number from 0 to 3600, in seconds")]
+    Quiet,
     /// A node or network on sockets and files ended before its end.
     #[error("the program stopped")]
     Run(RunFault),
@@ -111,7 +114,7 @@ pub enum ProgramFault {
 }
 
 impl ProgramFault {
-    /// The number that operators see: `Words`, `Turns`, `Known`, `Group`, `GroupOfFiles` and `Question` 98, `File` 93,
+    /// The number that operators see: `Words`, `Turns`, `Known`, `Group`, `GroupOfFiles`, `Quiet` and `Question` 98, `File` 93,
     /// `Unanswered` 99, `Warnings` 25, or that of the fault or the refusal inside.
     pub const fn number(&self) -> u16
         ensures { result ≡ program_fault_number self.now }
@@ -122,6 +125,7 @@ impl ProgramFault {
             | ProgramFault::Known
             | ProgramFault::Group
             | ProgramFault::GroupOfFiles
+            | ProgramFault::Quiet
             | ProgramFault::Question(_) => 98,
             ProgramFault::Setup(fault) => fault.number(),
             ProgramFault::Answer(fault) => fault.number(),
@@ -136,8 +140,8 @@ impl ProgramFault {
         }
     }
 
-    /// The exit status: `Words`, `Turns`, `Known`, `Group`, `GroupOfFiles`, `Question` and `Warnings` 2, `Refused` 3, `File` and
-    /// `Unanswered` 1, or that of the fault inside.
+    /// The exit status: `Words`, `Turns`, `Known`, `Group`, `GroupOfFiles`, `Quiet`, `Question` and `Warnings` 2, `Refused` 3,
+    /// `File` and `Unanswered` 1, or that of the fault inside.
     pub fn status(&self) -> u8
         ensures { result ≡ program_fault_status self.now }
     {
@@ -147,6 +151,7 @@ impl ProgramFault {
             | ProgramFault::Known
             | ProgramFault::Group
             | ProgramFault::GroupOfFiles
+            | ProgramFault::Quiet
             | ProgramFault::Question(_)
             | ProgramFault::Warnings => 2,
             ProgramFault::Setup(fault) => fault.status(),

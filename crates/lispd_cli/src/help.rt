@@ -2,7 +2,7 @@
 
 /// What the program does, for its help.
 pub(crate) const ABOUT: &str =
-    "Map-Server registration of LISP (RFC 9301); with no words, `answer`";
+    "Map-Server and site router (ETR) of LISP (RFC 9301); with no words, `answer`";
 
 /// What `answer` does, for its help.
 pub(crate) const ANSWER_ABOUT: &str =
@@ -64,12 +64,12 @@ Examples:
 /// What `server` does, for its help.
 pub(crate) const SERVER_ABOUT: &str =
     "Run a Map-Server of a configuration at its address, UDP port 4342, and print what each datagram \
-comes to, a line for each";
+comes to, a line for each; it answers Map-Requests where its entry there has `resolve`";
 
 /// What `router` does, for its help.
 pub(crate) const ROUTER_ABOUT: &str =
     "Run a site router (ETR) of a configuration at its address, UDP port 4342: it sends Map-Registers \
-when they are due, and prints a line for each event";
+when they are due, answers Map-Requests where its entry there has `resolve`, and prints a line for each event";
 
 /// How long a node runs, for its help.
 pub(crate) const NODE_RUNS: &str =
@@ -79,12 +79,15 @@ pub(crate) const NODE_RUNS: &str =
 Example:
   lispd router examples/configuration.toml r1 --store nonces --turns 10";
 
-/// How long a Map-Server runs and what it saves together, for its help.
+/// How long a Map-Server runs, what it saves together and when it is quiet, for its help.
 pub(crate) const SERVER_GROUPS: &str =
     "Nonces are saved before their messages are answered, so it may be killed at any time (SIGINT and SIGTERM end it at once).
 
-Example:
-  lispd server examples/configuration.toml s1 --store nonces --database --group 64";
+With --quiet 0 it tells an ITR that nobody is there from the first second on, also of what its routers have yet to register again.
+
+Examples:
+  lispd server examples/configuration.toml s1 --store nonces --database --group 64
+  lispd server examples/configuration.toml s1 --store nonces --quiet 120";
 
 /// What `loop` does, for its help.
 pub(crate) const LOOP_ABOUT: &str =
@@ -112,7 +115,7 @@ a router:
                 which of these records its site doesn't allow: a Map-Server refuses each Map-Register with one of them (55)
   due           to which Map-Server it has a Map-Register to send
 and both:
-  counts        how many lines of each kind it printed since its start; and its rows, sites and notices, or its records
+  counts        how many lines of each kind it printed since its start; its rows, sites and notices, or its records; its Map-Requests
 
 Example:
   lispd ask nonces/s1 hold";

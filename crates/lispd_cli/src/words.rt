@@ -1,11 +1,11 @@
 //! The words of the command line, as `clap` matched them.
 
 ghost use Rattle.std.specs.Prelude.{◌≡◌, ◌≢◌, ◌≤◌, true, codes, Some, None, IfOk, IfSome};
-ghost use Rattle.lispd_cli.specs.Words.{word_in, is_given_in, option_in, turns_of, group_below, group_of, ReadsNode};
+ghost use Rattle.lispd_cli.specs.Words.{word_in, is_given_in, option_in, turns_of, group_below, group_of, quiet_below, quiet_of, ReadsNode};
 ghost use Rattle.lisp_texts.specs.Number.{number_of};
 
 use crate::command_line::{
-    CHECK, CONFIG, CONTROL, DATABASE, GROUP, KNOWN, NAME, STORE, TURNS, WORDS,
+    CHECK, CONFIG, CONTROL, DATABASE, GROUP, KNOWN, NAME, QUIET, STORE, TURNS, WORDS,
 };
 use crate::fault::ProgramFault;
 use clap::ArgMatches;
@@ -13,6 +13,12 @@ use lisp_texts::number_from_text;
 
 /// The most datagrams that are committed together.
 const MOST_TOGETHER: u64 = 64;
+
+/// For how long a Map-Server is quiet where nobody says so, in ms.
+const QUIET_LEFT_OUT: u64 = 60_000;
+
+/// The longest that it may be, in seconds.
+const LONGEST_QUIET: u64 = 3_600;
 
 /// A word that the subcommand requires.
 pub fn word<'a>(words: &ArgMatches<'a>, name: &str) -> &'a str
@@ -60,19 +66,23 @@ pub struct NodeWords<'a> {
     pub has_database: bool,
     /// How many datagrams it takes in a turn at most, whose nonces are committed together; 1 where they are in files.
     pub group: u8,
+    /// For how long after its start a Map-Server sends no negative Map-Reply, in ms; a router has no such time.
+    pub quiet: u64,
     /// The folder in which it is asked; `None` where that is its own.
     pub control: Option<&'a str>,
 }
 
 /// The words of `server` and `router`. Faults, all 98: `ProgramFault::Turns` where the turns have another form than they take,
 /// `ProgramFault::Known` where `--known` comes with them, `ProgramFault::Group` where the group has another form than it takes,
-/// `ProgramFault::GroupOfFiles` where `--group` comes without `--database`.
+/// `ProgramFault::GroupOfFiles` where `--group` comes without `--database`, `ProgramFault::Quiet` where `--quiet` has another form
+/// than it takes.
 pub fn node_words<'a>(words: &ArgMatches<'a>) -> Result<NodeWords<'a>, ProgramFault>
     ensures words { IfOk result (ReadsNode words.now) }
     ensures known { IfOk result (λ w. w.is_known ≡ true → w.turns ≡ None) }
     ensures database { IfOk result (λ w. option_in words.now (codes "group") ≢ None
         → w.has_database ≡ true) }
     ensures group { IfOk result (λ w. (1 ≤ w.group) × (w.group ≤ 64)) }
+    ensures quiet { IfOk result (λ w. w.quiet ≤ 3600000) }
 {
     let turns = turns(words)?;
     let is_known = is_given(words, KNOWN);
@@ -88,6 +98,7 @@ pub fn node_words<'a>(words: &ArgMatches<'a>) -> Result<NodeWords<'a>, ProgramFa
         is_known,
         has_database,
         group: group(words, has_database)?,
+        quiet: quiet(words)?,
         control: words.get_str(CONTROL),
     })
 }
@@ -129,6 +140,28 @@ fn group_in(text: &str) -> Option<u8>
 {
     match number_from_text(text) {
         Some(group) if 1 <= group && group <= MOST_TOGETHER => Some(group as u8),
+        _ => None,
+    }
+}
+
+// For how long after its start a Map-Server sends no negative Map-Reply, in ms. Fault: `Quiet`.
+fn quiet(words: &ArgMatches<'_>) -> Result<u64, ProgramFault>
+    ensures number { IfOk result
+        (λ quiet. quiet_of (option_in words.now (codes "quiet")) ≡ Some quiet) }
+    ensures bounds { IfOk result (λ quiet. quiet ≤ 3600000) }
+{
+    match words.get_str(QUIET) {
+        Some(text) => quiet_in(text).ok_or(ProgramFault::Quiet),
+        None => Ok(QUIET_LEFT_OUT),
+    }
+}
+
+fn quiet_in(text: &str) -> Option<u64>
+    ensures number { result ≡ quiet_below (number_of text.now) }
+    ensures bounds { IfSome result (λ quiet. quiet ≤ 3600000) }
+{
+    match number_from_text(text) {
+        Some(seconds) if seconds <= LONGEST_QUIET => Some(seconds * 1_000),
         _ => None,
     }
 }
