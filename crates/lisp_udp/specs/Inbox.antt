@@ -1,5 +1,5 @@
 -- The datagrams of a node that wait, of which no source takes more than its share while others wait; Map-Requests may wait apart.
-use Rattle.std.specs.Prelude.{ℕ, nat_lt, Bool, true, false, List, [], length, Option, Some, None, unwrap_or, if◌then◌else◌}
+use Rattle.std.specs.Prelude.{◌≡◌, ℕ, nat_lt, Bool, true, false, List, [], length, Option, Some, None, unwrap_or, if◌then◌else◌}
 use Rattle.std.specs.Option.{option_map}
 use Rattle.lisp_policy.specs.Configuration.{ConfigValue}
 use Rattle.lisp_records.specs.declared.address.Addr.{Addr}
@@ -11,6 +11,7 @@ use Rattle.lisp_sites.specs.Numbers.{NodeValue, node_at}
 use Rattle.lisp_sites.specs.Numbers as nodes
 use Rattle.lisp_turns.specs.declared.outside.Received.{Received}
 use Rattle.lisp_turns.specs.declared.outside.Received.TheVariants as received
+use Rattle.lisp_turns.specs.declared.outside.Request.{Request}
 use Rattle.lisp_udp.specs.declared.inbox.Inbox.{Inbox}
 
 -- the source of a datagram that was received takes a place of the group
@@ -21,6 +22,16 @@ sources_after q _ = q.taken
 -- and as the first of a group that begins
 abbrev pub first_sources : QueueState → Received → List Addr
 first_sources q received = sources_after (record q { taken = [] }) received
+
+-- of Map-Requests, too, where they wait apart
+abbrev pub sources_with : QueueState → Option Request → List Addr
+sources_with q (Some request) = taken_after q request.from
+sources_with q None = q.taken
+
+abbrev pub SharesAsked : Option QueueState → Option QueueState → Option Request → Type 0
+SharesAsked (Some old) (Some new) request = new.taken ≡ sources_with old request
+SharesAsked None None request = request ≡ None
+SharesAsked _ _ _ = ⊥
 
 -- the core hears all that comes, or what is no Map-Request
 abbrev pub heard_kind : Bool → Kind

@@ -3,7 +3,7 @@
 ghost use Rattle.std.specs.Prelude.{◌≡◌, ◌≤◌, [], length, IfOk, IfSome, OnErr};
 ghost use Rattle.lisp_sites.specs.Numbers.{IsNode};
 ghost use Rattle.lisp_turns.specs.Outside.{FitsBuffer, IsApart, reception};
-ghost use Rattle.lisp_udp.specs.Inbox.{answers_requests, first_sources, heard_kind, keeps_apart, leaves_requests, sources_after};
+ghost use Rattle.lisp_udp.specs.Inbox.{answers_requests, first_sources, SharesAsked, heard_kind, keeps_apart, leaves_requests, sources_after};
 
 use crate::entry::entry_at;
 use crate::socket::NodeSocket;
@@ -100,6 +100,7 @@ impl Inbox {
 
     /// The next Map-Request of the turn, taken into `buffer`, if one waits.
     pub(crate) fn next_request(&mut self, buffer: &mut [u8]) -> Option<Request>
+        ensures shares { SharesAsked self.old.asked self.new.asked result }
         ensures heard { self.new.heard ≡ self.old.heard }
         ensures within { IfSome result (λ request. request.count ≤ length buffer.new) }
         ensures room { length buffer.new ≡ length buffer.old }

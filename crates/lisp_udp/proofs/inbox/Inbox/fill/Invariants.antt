@@ -2,7 +2,7 @@ use Rattle.std.proofs.Common.{◌≡◌, length}
 use Rattle.lisp_udp.proofs.inbox.Inbox.fill.Given as goal
 
 abbrev pub invariant-loop : goal.invariant-loop
-invariant-loop g l = record {
+invariant-loop l = record {
   shares : l.self.heard.taken ≡ l.fn.self.heard.taken;
   places : l.self.heard.places ≡ l.fn.self.heard.places;
   kind : l.self.heard.kind ≡ l.fn.self.heard.kind;
