@@ -1,7 +1,7 @@
 mod DroppedLaws
 pub mod Due
 mod FewLaws
-mod Kinds
+mod KindLaws
 mod Pouring
 mod Repeating
 pub mod Silent

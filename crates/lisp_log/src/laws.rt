@@ -28,7 +28,7 @@ pub fn few_are_told()
 {}
 
 /// Each line that may repeat is of one of 60 things, as is presupposed there.
-#[tactic(auto, using(crate::proofs::Kinds::kinds_are_all))]
+#[tactic(auto, using(crate::proofs::KindLaws::kinds_are_all))]
 pub fn kinds_are_all()
     ensures { KindsAreAll }
 {}
