@@ -18,7 +18,7 @@ use Rattle.lisp_statistics.specs.Counts.{counts_text}
 use Rattle.lisp_statistics.specs.declared.counts.Format.{Format}
 use Rattle.lisp_statistics.specs.declared.gathering.Gathering.{Gathering}
 use Rattle.lisp_statistics.specs.declared.gauge.Figure.{Figure}
-use Rattle.lisp_statistics.specs.declared.gauge.Figure.TheVariants.{Records, Rows, Sites, StandingNotices, Replays, LongestSave}
+use Rattle.lisp_statistics.specs.declared.gauge.Figure.TheVariants.{Records, Rows, Sites, StandingNotices, Replays, LongestSave, Requests, SlowestReply}
 use Rattle.lisp_statistics.specs.declared.gauge.Gauge.{Gauge}
 use Rattle.lisp_statistics.specs.declared.statistics.Statistics.{Statistics}
 use Rattle.lisp_lines.specs.declared.datagram_place.DatagramPlace.TheVariants.{Hidden}
@@ -40,25 +40,28 @@ outcome_text c (Ok line) = line_text c Hidden line
 outcome_text c (Err fault) = numbered (world_fault_number fault)
 
 -- what a node has: a Map-Server its rows, their sites, its notices and the runs of replays that last, a
--- router its records; and either its longest save
+-- router its records; and either its longest save, how many Map-Requests came, and the slowest answer to one
 abbrev pub gauge : Figure → ℕ → Gauge
 gauge figure value = record { figure = figure; value = value }
 
-abbrev pub server_gauges : {A : Type 0} → Gathering A → ServerState → ℕ → ℕ → List Gauge
-server_gauges rows core replays save = gauge Rows rows.walk.rows ∷ gauge Sites rows.sites
-    ∷ gauge StandingNotices (length core.notices) ∷ gauge Replays replays ∷ gauge LongestSave save ∷ []
+abbrev pub node_gauges : {A : Type 0} → Statistics A → List Gauge
+node_gauges s = gauge LongestSave s.longest_save ∷ gauge Requests s.requests ∷ gauge SlowestReply s.slowest_reply ∷ []
 
-abbrev pub router_gauges : EtrState → ℕ → List Gauge
-router_gauges core save = gauge Records (length core.database) ∷ gauge LongestSave save ∷ []
+abbrev pub server_gauges : {A B : Type 0} → Gathering A → ServerState → ℕ → Statistics B → List Gauge
+server_gauges rows core replays s = gauge Rows rows.walk.rows ∷ gauge Sites rows.sites
+    ∷ gauge StandingNotices (length core.notices) ∷ gauge Replays replays ∷ node_gauges s
+
+abbrev pub router_gauges : {A : Type 0} → EtrState → Statistics A → List Gauge
+router_gauges core s = gauge Records (length core.database) ∷ node_gauges s
 
 -- what is counted of a node, and what it has
 abbrev pub told_counts : {A : Type 0} → ConfigValue → ℕ → Statistics A → Format → List Gauge → List ℕ
 told_counts c number s format gauges = counts_text format (node_name c number) s.tallies.entries gauges
 
--- a router's; of one that is down its longest save
+-- a router's; one that is down has no records
 abbrev pub router_counts : {A : Type 0} → ConfigValue → ℕ → Option EtrState → Statistics A → Format → List ℕ
-router_counts c number (Some core) s format = told_counts c number s format (router_gauges core s.longest_save)
-router_counts c number None s format = told_counts c number s format (gauge LongestSave s.longest_save ∷ [])
+router_counts c number (Some core) s format = told_counts c number s format (router_gauges core s)
+router_counts c number None s format = told_counts c number s format (node_gauges s)
 
 -- the lines that answer a question to the router with a number at a moment, by its core, if it is up
 abbrev pub AnswersRouter : {A : Type 0} → ConfigValue → ℕ → Option EtrState → Statistics A → Question → ℕ → List ℕ → Type 0

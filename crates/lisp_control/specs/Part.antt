@@ -87,7 +87,7 @@ HeardPart c number core s runs progress now text rest = CountsPart core progress
 
 -- what is counted of it, and what it has
 abbrev pub told_server : {A : Type 0} → ConfigValue → ℕ → ServerState → Statistics A → List Replay → Format → ℕ → Gathering Global → List ℕ
-told_server c number core s runs format now rows = told_counts c number s format (server_gauges rows core (replay_count now runs) s.longest_save)
+told_server c number core s runs format now rows = told_counts c number s format (server_gauges rows core (replay_count now runs) s)
 
 abbrev pub TellsCounts : {A : Type 0} → ConfigValue → ℕ → ServerState → Statistics A → List Replay → Format → ℕ → Gathering Global → List ℕ → Option Progress → Type 0
 TellsCounts c number core s runs format now rows text rest = (text ≡ told_server c number core s runs format now rows) × (rest ≡ None)

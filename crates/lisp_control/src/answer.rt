@@ -68,13 +68,18 @@ fn router_counts(
     ensures memory { OnErr result ⟦<Global as Memory>⟧.may_refuse }
 {
     let save = gauge(Figure::LongestSave, statistics.longest_save());
+    let requests = gauge(Figure::Requests, statistics.requests());
+    let reply = gauge(Figure::SlowestReply, statistics.slowest_reply());
     match core {
         Some(core) => {
             let records = core.database().records().len() as u64;
-            let gauges = [gauge(Figure::Records, records), save];
+            let gauges = [gauge(Figure::Records, records), save, requests, reply];
             counts_text(alloc, config, number, format, statistics, &gauges)
         }
-        None => counts_text(alloc, config, number, format, statistics, &[save]),
+        None => {
+            let gauges = [save, requests, reply];
+            counts_text(alloc, config, number, format, statistics, &gauges)
+        }
     }
 }
 
@@ -101,6 +106,8 @@ pub(crate) fn server_counts(
         gauge(Figure::StandingNotices, core.count_notices() as u64),
         gauge(Figure::Replays, count_replays(runs, now)),
         gauge(Figure::LongestSave, statistics.longest_save()),
+        gauge(Figure::Requests, statistics.requests()),
+        gauge(Figure::SlowestReply, statistics.slowest_reply()),
     ];
     counts_text(alloc, config, number, format, statistics, &gauges)
 }

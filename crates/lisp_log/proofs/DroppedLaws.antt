@@ -109,10 +109,10 @@ module _ (may_refuse : Type 0) where
       waits_if s ss old between new some.0 within put rest (λ kept. waits_all ss between new some.1 (omega (arith, kept, sum, within)) rest) (old.dropped == 0 && nat_le (length old.bytes + length s.text) room) refl
 
   pub dropped_sums_are_counted : DroppedSumsAreCounted may_refuse
-  dropped_sums_are_counted refusals entries name old new left puts within =
-      let events = events_are refusals entries left name in
-      let waits = waits_all (sums name entries) old new (each_tells name entries) (omega (arith, events, within)) puts in
+  dropped_sums_are_counted events entries name old new left puts within =
+      let untold = events_are events entries left name in
+      let waits = waits_all (sums name entries) old new (each_tells name entries) (omega (arith, untold, within)) puts in
       record {
         waits = waits;
-        none_lost = sym (sum_by-append (λ (s : Sum). s.events) waits.first waits.others) ∙ ap (λ (all : List Sum). events_in all) (sym waits.all_are) ∙ events;
+        none_lost = sym (sum_by-append (λ (s : Sum). s.events) waits.first waits.others) ∙ ap (λ (all : List Sum). events_in all) (sym waits.all_are) ∙ untold;
       }

@@ -6,3 +6,4 @@ pub mod Whole
 pub mod Text
 pub mod Log
 pub mod Sums
+pub mod Few

@@ -1,4 +1,4 @@
--- What a node that runs without an end tells: its lines, but for refusals that repeat others; how many
+-- What a node that runs without an end tells: its lines, but for those that repeat others; how many
 -- those were; which Map-Servers are silent; and from where Map-Registers are refused as replays for long.
 use Rattle.std.specs.Prelude.{◌≡◌, ◌⊎◌, ℕ, ◌+◌, ◌*◌, ◌<◌, ◌≤◌, ◌==◌, Bool, true, false, List, [], ◌∷◌, Option, Some, None, if◌then◌else◌}
 use Rattle.std.specs.List.{flat_map}
@@ -9,13 +9,17 @@ use Rattle.lisp_model.specs.Faults.{refusal_number}
 use Rattle.lisp_model.specs.declared.refusal.Refusal.{Refusal}
 use Rattle.lisp_model.specs.declared.refusal.Refusal.TheVariants as refusals
 use Rattle.lisp_model.specs.declared.line.Line.TheVariants as lines
+use Rattle.lisp_mapping.specs.declared.outcome.Outcome.{Outcome}
+use Rattle.lisp_mapping.specs.declared.outcome.Outcome.TheVariants as outcomes
 use Rattle.lisp_resolve.specs.Unasked.{unasked_number}
 use Rattle.lisp_turns.specs.declared.outside.Printed.{Printed}
 use Rattle.lisp_turns.specs.declared.outside.Printed.TheVariants as printed
 use Rattle.lisp_log.specs.declared.repeats.Repeat.{Repeat}
+use Rattle.lisp_log.specs.declared.repeats.Repeated.{Repeated}
+use Rattle.lisp_log.specs.declared.repeats.Repeated.TheVariants as repeated
 use Rattle.lisp_log.specs.declared.replays.Replay.{Replay}
 use Rattle.lisp_log.specs.declared.silences.Silence.{Silence}
-use Rattle.lisp_log.specs.Repeats.{TellsRefusal}
+use Rattle.lisp_log.specs.Repeats.{TellsEvent}
 use Rattle.lisp_log.specs.Replays.{without, ongoing, Replayed, TellsReplay, NoneDue}
 use Rattle.lisp_log.specs.Silences.{never_heard, Acknowledges, TellsSilence, NoneSilent}
 use Rattle.lisp_log.specs.Waiting.{WaitingState, nothing_waits, put_line, put_sum, drops, drops_one}
@@ -46,16 +50,25 @@ begins config name servers pairs = record {
 abbrev pub Puts : Type 0 → WaitingState → WaitingState → List ℕ → Type 0
 Puts may_refuse old new text = (new ≡ put_line old text) ⊎ (may_refuse × (new ≡ drops_one old))
 
--- a refusal of a datagram, by its number and source address
-abbrev pub refused_from : Printed → Option (ℕ × Addr)
-refused_from (printed.Heard (lines.Refused node what) from) = Some (refusal_number what, from)
-refused_from (printed.Unasked from why) = Some (unasked_number why, from)
-refused_from (printed.OverBudget from) = Some (over_budget_number, from)
-refused_from _ = None
+-- what is said of an EID-Prefix that a Map-Request asks for, with the address that the line names: where Map-Replies go, or the router that
+-- the Map-Request goes on to
+abbrev pub answer_to : Addr → Outcome → Repeated × Addr
+answer_to to (outcomes.Replied records) = (repeated.Replied, to)
+answer_to to (outcomes.Negative hole) = (repeated.Negative, to)
+answer_to to (outcomes.Forwarded router) = (repeated.Forwarded, router)
+answer_to to outcomes.Silent = (repeated.Unanswered, to)
 
--- whether a line is told: each is, but for a refusal of a datagram that repeats another
-abbrev pub IsToldOf : Option (ℕ × Addr) → List Repeat → List Repeat → Bool → Type 0
-IsToldOf (Some refusal) old new told = TellsRefusal old new refusal.0 refusal.1 told
+-- what a line says that may repeat, with the address that it names: a refusal of a datagram, by its number and source address; or an answer
+abbrev pub repeating : Printed → Option (Repeated × Addr)
+repeating (printed.Heard (lines.Refused node what) from) = Some (repeated.Refused (refusal_number what), from)
+repeating (printed.Unasked from why) = Some (repeated.Refused (unasked_number why), from)
+repeating (printed.OverBudget from) = Some (repeated.Refused over_budget_number, from)
+repeating (printed.Asked eid to outcome) = Some (answer_to to outcome)
+repeating _ = None
+
+-- whether a line is told: each is, but for one that repeats another
+abbrev pub IsToldOf : Option (Repeated × Addr) → List Repeat → List Repeat → Bool → Type 0
+IsToldOf (Some it) old new told = TellsEvent old new it.0 it.1 told
 IsToldOf None old new told = (new ≡ old) × (told ≡ true)
 
 abbrev pub PutsIf : Type 0 → Bool → WaitingState → WaitingState → List ℕ → Type 0
@@ -85,7 +98,7 @@ NotesReplay _ old new now = new ≡ old
 -- the node prints a line, at a moment
 pub record TellsLine (may_refuse : Type 0) (old new : LogState) (line : Printed) (cause : Option (List ℕ)) (now : ℕ) : Type 0 where
   pub told : Bool
-  pub repeats : IsToldOf (refused_from line) old.repeats new.repeats told
+  pub repeats : IsToldOf (repeating line) old.repeats new.repeats told
   pub silences : AcknowledgesBy line old.silences new.silences now
   pub replays : NotesReplay line old.replays new.replays now
   pub waiting : PutsIf may_refuse told old.waiting new.waiting (told_text old.config old.name cause line)

@@ -27,6 +27,8 @@ use Rattle.lisp_turns.specs.declared.outside.Printed.TheVariants as printed
 use Rattle.lisp_turns.specs.declared.outside.SocketCall.{SocketCall}
 use Rattle.lisp_turns.specs.Outside.{call_number}
 use Rattle.lisp_log.specs.declared.repeats.Repeat.{Repeat}
+use Rattle.lisp_log.specs.declared.repeats.Repeated.{Repeated}
+use Rattle.lisp_log.specs.declared.repeats.Repeated.TheVariants as repeated
 use Rattle.lisp_log.specs.declared.repeats.Source.{Source}
 use Rattle.lisp_log.specs.declared.repeats.Source.TheVariants.{Address, Others}
 use Rattle.lisp_log.specs.declared.replays.Replay.{Replay}
@@ -112,13 +114,21 @@ told_words c name cause (printed.Failed call) = failed_words name call ++ cause_
 abbrev pub told_text : ConfigValue → List ℕ → Option (List ℕ) → Printed → List ℕ
 told_text c name cause line = told_words c name cause line ++ 10 ∷ []
 
--- how many refusals of a number from a source weren't told
-abbrev pub from_text : Source → List ℕ
-from_text (Address a) = addr_text a
-from_text Others = codes "others"
+-- how many lines of what repeats with a source weren't told: the first word, the node's name, of refusals their number, and what stands in
+-- front of the source
+abbrev pub repeated_words : List ℕ → Repeated → List ℕ
+repeated_words name (repeated.Refused number) = codes "refused " ++ name ++ codes " " ++ decimal number ++ codes " from"
+repeated_words name repeated.Replied = codes "replied " ++ name ++ codes " to"
+repeated_words name repeated.Negative = codes "negative " ++ name ++ codes " to"
+repeated_words name repeated.Forwarded = codes "forwarded " ++ name ++ codes " to"
+repeated_words name repeated.Unanswered = codes "unanswered " ++ name ++ codes " to"
+
+abbrev pub source_text : Source → List ℕ
+source_text (Address a) = addr_text a
+source_text Others = codes "others"
 
 abbrev pub repeat_text : List ℕ → Repeat → List ℕ
-repeat_text name r = codes "refused " ++ name ++ codes " " ++ decimal r.number ++ codes " from " ++ from_text r.source ++ codes " times " ++ decimal r.times ++ 10 ∷ []
+repeat_text name r = repeated_words name r.what ++ codes " " ++ source_text r.source ++ codes " times " ++ decimal r.times ++ 10 ∷ []
 
 -- how long a Map-Server hasn't acknowledged
 abbrev pub silent_text : ConfigValue → List ℕ → ℕ → ℕ → List ℕ

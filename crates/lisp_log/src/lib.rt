@@ -1,12 +1,17 @@
-//! What a node that runs without an end writes of itself: its lines, with what one needs at night behind them. Repeats of refusals
-//! are summed, and lines wait in a bounded buffer while they can't be written, so that neither a stranger nor whoever reads the
-//! lines can fill a disk, take memory, or hold the node back.
+//! What a node that runs without an end writes of itself: its lines, with what one needs at night behind them. Repeats of refusals and
+//! of answers to Map-Requests are summed, and lines wait in a bounded buffer while they can't be written, so that neither a stranger
+//! nor whoever reads the lines can fill a disk, take memory, or hold the node back.
 //!
 //! # Decisions
 //!
-//! - Refusals are summed by the second of the node's clock, and not from the first of each on. Then one table is enough, which
+//! - Lines are summed by the second of the node's clock, and not from the first of each on. Then one table is enough, which
 //!   is emptied each second.
 //! - Only refusals of datagrams are summed: those of what is due have a pause of their own.
+//! - Answers to Map-Requests (RFC 9301 sections 5.2 to 5.5, 8.2 and 8.3) are summed as refusals are: anybody may ask, and each EID-Prefix
+//!   that is asked for has a line, so that a stranger could else fill a disk. They are summed whatever the EID-Prefix is, by the address
+//!   that the line names: the ITR-RLOC, or the router that the Map-Request goes on to.
+//! - 64 pairs of what repeats and an address are told apart, and the table has 64 entries more for all others: there are 60 things that
+//!   repeat, and one without an entry would be told each time. So at most 128 of these lines are printed in a second, and as many sums.
 //! - What was written stays before the bytes that wait until it is as much as they may be. So a reader who takes little at a
 //!   time costs no move of all that waits.
 //! - Once a line was dropped, all are until what waits has been written. So the line `dropped N` stands where they are missing,
@@ -31,7 +36,7 @@ pub mod laws;
 mod log;
 
 pub use log::Log;
-pub use repeats::{Repeat, Repeats, Source};
+pub use repeats::{Repeat, Repeated, Repeats, Source};
 pub use replays::{Replay, Replays};
 pub use silences::{Silence, Silences};
 pub use text::{Device, OVER_BUDGET, device_of, replay_text};

@@ -3,18 +3,19 @@
 ghost use Rattle.std.specs.Prelude.{◌≡◌, ◌≤◌, ℕ, List, true, false, string_bytes, OnErr, IfOk};
 ghost use Rattle.std.specs.Option.{option_copied};
 ghost use Rattle.lisp_records.specs.Moment.{max_moment};
-ghost use Rattle.lisp_log.specs.Log.{begins, refused_from, IsToldOf, AcknowledgesBy, saved_in, NotesReplay, TellsLine, sum_of, sums, PutsAll, EndsSecond, TellsOneSilence, TellsSilences, TellsOneReplay, TellsReplays, Passes};
+ghost use Rattle.lisp_log.specs.Log.{begins, answer_to, repeating, IsToldOf, AcknowledgesBy, saved_in, NotesReplay, TellsLine, sum_of, sums, PutsAll, EndsSecond, TellsOneSilence, TellsSilences, TellsOneReplay, TellsReplays, Passes};
 ghost use Rattle.lisp_log.specs.Replays.{NoneDue};
 ghost use Rattle.lisp_log.specs.Silences.{NoneSilent};
 ghost use Rattle.lisp_log.specs.declared.replays.Replay.{Replay};
 ghost use Rattle.lisp_log.specs.Waiting.{put_line, drops_one, Pours};
 
-use crate::repeats::{Repeat, Repeats};
+use crate::repeats::{Repeat, Repeated, Repeats};
 use crate::replays::{Replay, Replays};
 use crate::silences::Silences;
 use crate::text::{OVER_BUDGET, repeat_text, replay_text, silent_text, started_text, told_text};
 use crate::waiting::{Sink, Waiting};
 use lisp_admission::Refused;
+use lisp_mapping::Outcome;
 use lisp_memory::Memory;
 use lisp_model::{Line, Refusal};
 use lisp_records::Addr;
@@ -23,15 +24,15 @@ use lisp_turns::Printed;
 use std::alloc::{AllocError, Allocator, Global};
 use std::marker::Model;
 
-/// What the node with a name tells: its lines, without the repeats of refusals, which are summed at the end of each
-/// second; which Map-Servers are silent; from where Map-Registers are refused as replays time and again;
+/// What the node with a name tells: its lines, without the repeats of refusals and of answers to Map-Requests, which are summed at the
+/// end of each second; which Map-Servers are silent; from where Map-Registers are refused as replays time and again;
 /// and what of it waits until it is written. Moments are in ms.
 #[derive(Drop)]
 pub struct Log<'a, A: Allocator = Global> {
     alloc: A,
     config: &'a Config,
     name: &'a str,
-    // The refusals of this second, by number from the start on.
+    // What repeats in this second; seconds are counted from the start on.
     repeats: Repeats<A>,
     second: u64,
     silences: Silences<A>,
@@ -79,7 +80,7 @@ impl<'a, A: Memory + Copy> Log<'a, A> {
     }
 
     /// The node prints a line, at a moment in ms: it is told, with the kind of the system's error behind it, in a word,
-    /// where there is one. A refusal that repeats another of this second is counted in its place. A
+    /// where there is one. A refusal, or an answer to a Map-Request, that repeats another of this second is counted in its place. A
     /// Map-Register that is refused as a replay is noted in the run of its source address; one that is
     /// accepted ends that run. A line for which no memory is had is dropped.
     pub fn tell(&mut self, line: &Printed, cause: Option<&str>, now: u64)
@@ -188,28 +189,43 @@ impl<'a, A: Memory + Copy> Log<'a, A> {
     }
 }
 
-// Whether a line is told; a refusal that repeats another is counted.
+// Whether a line is told; one that repeats another is counted.
 fn is_told<A: Memory + Copy>(repeats: &mut Repeats<A>, line: &Printed) -> bool
-    ensures { IsToldOf (refused_from line.now) repeats.old repeats.new result }
+    ensures { IsToldOf (repeating line.now) repeats.old repeats.new result }
 {
-    match refused_from(line) {
-        Some((number, from)) => repeats.tells(number, from),
+    match repeating(line) {
+        Some((what, from)) => repeats.tells(what, from),
         None => true,
     }
 }
 
-// The number of a refusal of a datagram, and the datagram's source address; of a datagram that is held back that of the Map-Request.
-fn refused_from(line: &Printed) -> Option<(u16, Addr)>
-    ensures { result ≡ refused_from line.now }
+// What a line says that may repeat, and the address that it names. Of a refusal that is the datagram's source address; of a datagram that
+// is held back that of the Map-Request.
+fn repeating(line: &Printed) -> Option<(Repeated, Addr)>
+    ensures { result ≡ repeating line.now }
 {
     match line {
         Printed::Heard {
             line: Line::Refused { what, .. },
             from,
-        } => Some((what.number(), *from)),
-        Printed::Unasked { from, why } => Some((why.number(), *from)),
-        Printed::OverBudget { from } => Some((OVER_BUDGET, *from)),
+        } => Some((Repeated::Refused(what.number()), *from)),
+        Printed::Unasked { from, why } => Some((Repeated::Refused(why.number()), *from)),
+        Printed::OverBudget { from } => Some((Repeated::Refused(OVER_BUDGET), *from)),
+        Printed::Asked { to, outcome, .. } => Some(answer_to(to, outcome)),
         _ => None,
+    }
+}
+
+// What is said of an EID-Prefix that a Map-Request asks for, and the address that the line names: where Map-Replies go, or the router that
+// the Map-Request goes on to.
+fn answer_to(to: &Addr, outcome: &Outcome) -> (Repeated, Addr)
+    ensures { result ≡ answer_to to.now outcome.now }
+{
+    match outcome {
+        Outcome::Replied(_) => (Repeated::Replied, *to),
+        Outcome::Negative(_) => (Repeated::Negative, *to),
+        Outcome::Forwarded(router) => (Repeated::Forwarded, *router),
+        Outcome::Silent => (Repeated::Unanswered, *to),
     }
 }
 

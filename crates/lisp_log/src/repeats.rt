@@ -1,7 +1,7 @@
-//! Refusals of one second that repeat.
+//! Lines of one second that repeat.
 
 ghost use Rattle.std.specs.Prelude.{◌≡◌, ◌↔◌, IsTrue, [], None, IfOk, IfSome, OnErr};
-ghost use Rattle.lisp_log.specs.Repeats.{IsOf, HasEntry, HasEntryAt, IsSource, Notes, TellsRefusal};
+ghost use Rattle.lisp_log.specs.Repeats.{IsOf, HasEntry, HasEntryAt, IsSource, Notes, TellsEvent};
 
 use lisp_memory::{FallibleVec, Memory};
 use lisp_records::Addr;
@@ -11,31 +11,48 @@ use std::marker::Model;
 /// The most addresses that are told apart.
 const MOST_ADDRESSES: usize = 64;
 
-/// The most entries: those of addresses, and those of all others, one of each number.
-const MOST_ENTRIES: usize = 96;
+/// The most entries: those of addresses, and those of all others, one of each thing that repeats. There is room for these, since there are
+/// 60 such things.
+const MOST_ENTRIES: usize = 128;
 
-/// Where a refused datagram came from.
+/// What repeats in a second: refusals, or what is said of EID-Prefixes that Map-Requests ask for.
+#[derive(Clone, Copy, Debug, PartialEq, Eq)]
+pub enum Repeated {
+    /// Refusals with the number that operators see.
+    Refused(u16),
+    /// Map-Replies of records.
+    Replied,
+    /// Negative Map-Replies.
+    Negative,
+    /// Map-Requests that went on to a router.
+    Forwarded,
+    /// Map-Requests that weren't answered, because the Map-Server has just started.
+    Unanswered,
+}
+
+/// The address that lines name: of a refused datagram where it came from, of an answer to a Map-Request where it went, or the Map-Request
+/// itself.
 #[derive(Clone, Copy, Debug, PartialEq, Eq)]
 pub enum Source {
-    /// From an address that is told apart.
+    /// An address that is told apart.
     Address(Addr),
-    /// From any other.
+    /// Any other.
     Others,
 }
 
-/// Refusals of one number from one source.
+/// What repeats with one source.
 #[derive(Clone, Copy, Debug, PartialEq, Eq)]
 pub struct Repeat {
-    /// The number that operators see.
-    pub number: u16,
-    /// Where the datagrams came from.
+    /// What it is.
+    pub what: Repeated,
+    /// The address that its lines name.
     pub source: Source,
     /// How many weren't told: all but the first.
     pub times: u64,
 }
 
-/// The refusals of one second: of each number from each source the first is told, and the others are counted. At most 64
-/// addresses are told apart, so that forged ones take no memory.
+/// What repeats in one second: of each thing with each source the first is told, and the others are counted. At most 64 addresses are
+/// told apart, so that forged ones take no memory.
 #[derive(Drop)]
 pub struct Repeats<A: Allocator = Global> {
     entries: Vec<Repeat, A>,
@@ -65,13 +82,13 @@ impl<A: Memory + Copy> Repeats<A> {
         Ok(Repeats { entries })
     }
 
-    /// Whether a refusal with a number, of a datagram from an address, is told. Else it is counted.
-    pub fn tells(&mut self, number: u16, from: Addr) -> bool
-        ensures { TellsRefusal self.old self.new number from result }
+    /// Whether a line of what repeats, which names an address, is told. Else it is counted.
+    pub fn tells(&mut self, what: Repeated, from: Addr) -> bool
+        ensures { TellsEvent self.old self.new what from result }
     {
-        let source = source_of(&self.entries, number, from);
-        let Some(place) = place_of(&self.entries, number, source) else {
-            self.note(number, source);
+        let source = source_of(&self.entries, what, from);
+        let Some(place) = place_of(&self.entries, what, source) else {
+            self.note(what, source);
             return true;
         };
         let times = self.entries[place].times;
@@ -82,13 +99,13 @@ impl<A: Memory + Copy> Repeats<A> {
         false
     }
 
-    // Makes the entry of a number and a source, where there is room.
-    fn note(&mut self, number: u16, source: Source)
-        ensures { Notes self.old self.new number source }
+    // Makes the entry of what repeats with a source, where there is room.
+    fn note(&mut self, what: Repeated, source: Source)
+        ensures { Notes self.old self.new what source }
     {
         if self.entries.len() < MOST_ENTRIES {
             self.entries.push_reserved(Repeat {
-                number,
+                what,
                 source,
                 times: 0,
             });
@@ -110,31 +127,31 @@ impl<A: Memory + Copy> Repeats<A> {
     }
 }
 
-// The source of a refusal of a datagram from an address.
-fn source_of(entries: &[Repeat], number: u16, from: Addr) -> Source
-    ensures { IsSource entries.now number from result }
+// The source of what repeats with an address.
+fn source_of(entries: &[Repeat], what: Repeated, from: Addr) -> Source
+    ensures { IsSource entries.now what from result }
 {
     let source = Source::Address(from);
-    if entries.len() < MOST_ADDRESSES || place_of(entries, number, source).is_some() {
+    if entries.len() < MOST_ADDRESSES || place_of(entries, what, source).is_some() {
         source
     } else {
         Source::Others
     }
 }
 
-// The place of the entry of a number and a source.
-fn place_of(entries: &[Repeat], number: u16, source: Source) -> Option<usize>
-    ensures found { IfSome result (HasEntryAt entries.now number source) }
-    ensures none { result ≡ None → HasEntry entries.now number source → ⊥ }
+// The place of the entry of what repeats with a source.
+fn place_of(entries: &[Repeat], what: Repeated, source: Source) -> Option<usize>
+    ensures found { IfSome result (HasEntryAt entries.now what source) }
+    ensures none { result ≡ None → HasEntry entries.now what source → ⊥ }
 {
-    entries.iter().position(|entry| entry.is_of(number, source))
+    entries.iter().position(|entry| entry.is_of(what, source))
 }
 
 impl Repeat {
-    // Whether the refusals are of a number from a source.
-    fn is_of(&self, number: u16, source: Source) -> bool
-        ensures { IsTrue result ↔ IsOf number source self.now }
+    // Whether it is the entry of this with a source.
+    fn is_of(&self, what: Repeated, source: Source) -> bool
+        ensures { IsTrue result ↔ IsOf what source self.now }
     {
-        self.number == number && self.source == source
+        self.what == what && self.source == source
     }
 }

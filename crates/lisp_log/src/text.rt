@@ -3,10 +3,10 @@
 ghost use Rattle.std.specs.Prelude.{◌≡◌, ◌++◌, OnErr};
 ghost use Rattle.std.specs.Option.{option_copied};
 ghost use Rattle.lisp_lines.specs.Front.{Adds, GivesText};
-ghost use Rattle.lisp_log.specs.Text.{device_of, device_of_line, device_of_refusal, cause_words, caused_words, heard_words, expired_words, asked_words, replies_words, refused_words, failed_words, told_words, told_text, from_text, repeat_text, silent_text, run_words, replay_text, started_text};
+ghost use Rattle.lisp_log.specs.Text.{device_of, device_of_line, device_of_refusal, cause_words, caused_words, heard_words, expired_words, asked_words, replies_words, refused_words, failed_words, told_words, told_text, repeated_words, source_text, repeat_text, silent_text, run_words, replay_text, started_text};
 ghost use Rattle.lisp_mapping.specs.declared.outcome.Outcome.TheVariants.{Replied, Negative};
 
-use crate::repeats::{Repeat, Source};
+use crate::repeats::{Repeat, Repeated, Source};
 use crate::replays::Replay;
 use lisp_admission::{NoticeFault, Refused};
 use lisp_etr::{RotateFault, SendFault, StartFault};
@@ -276,7 +276,7 @@ fn put_cause<A: Memory>(text: &mut String<A>, cause: Option<&str>) -> Result<(),
     }
 }
 
-/// How many refusals weren't told, with its line feed.
+/// How many lines of what repeats with a source weren't told, with its line feed.
 pub(crate) fn repeat_text<A: Memory + Copy>(
     alloc: A,
     name: &str,
@@ -285,17 +285,31 @@ pub(crate) fn repeat_text<A: Memory + Copy>(
     ensures text { GivesText result (repeat_text name.now repeat.now) }
     ensures memory { OnErr result A.may_refuse }
 {
-    let Repeat { number, times, .. } = *repeat;
+    let words = repeated_words(alloc, name, &repeat.what)?;
     let source = source_text(alloc, &repeat.source)?;
-    String::try_format(
-        alloc,
-        format_args!("refused {name} {number} from {source} times {times}\n"),
-    )
+    let times = repeat.times;
+    String::try_format(alloc, format_args!("{words} {source} times {times}\n"))
 }
 
-// Where refused datagrams came from.
+// What repeats: the first word, the node's name, of refusals their number, and what stands in front of the source.
+fn repeated_words<A: Memory>(alloc: A, name: &str, what: &Repeated) -> Result<String<A>, AllocError>
+    ensures text { GivesText result (repeated_words name.now what.now) }
+    ensures memory { OnErr result A.may_refuse }
+{
+    match what {
+        Repeated::Refused(number) => {
+            String::try_format(alloc, format_args!("refused {name} {number} from"))
+        }
+        Repeated::Replied => String::try_format(alloc, format_args!("replied {name} to")),
+        Repeated::Negative => String::try_format(alloc, format_args!("negative {name} to")),
+        Repeated::Forwarded => String::try_format(alloc, format_args!("forwarded {name} to")),
+        Repeated::Unanswered => String::try_format(alloc, format_args!("unanswered {name} to")),
+    }
+}
+
+// An address that is told apart, or that it is any other.
 fn source_text<A: Memory>(alloc: A, source: &Source) -> Result<String<A>, AllocError>
-    ensures text { GivesText result (from_text source.now) }
+    ensures text { GivesText result (source_text source.now) }
     ensures memory { OnErr result A.may_refuse }
 {
     match source {

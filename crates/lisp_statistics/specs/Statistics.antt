@@ -7,11 +7,13 @@ use Rattle.lisp_statistics.specs.declared.hearing.Hearing.{Hearing}
 use Rattle.lisp_statistics.specs.declared.kind.LineKind.{LineKind}
 use Rattle.lisp_statistics.specs.declared.statistics.Statistics.{Statistics}
 
--- nothing was printed, nobody was heard, and nothing was saved
+-- nothing was printed, nobody was heard, nothing was saved, and no Map-Request came
 pub record Begins {A : Type 0} (s : Statistics A) : Type 0 where
   pub tallies : IsEmpty s.tallies
   pub heard : IsEmpty s.heard
   pub save : s.longest_save ≡ 0
+  pub requests : s.requests ≡ 0
+  pub reply : s.slowest_reply ≡ 0
 
 -- a key has a value now, and no other key another one; where memory is refused for a key that is new, all is as it was
 abbrev pub Sets : {K X : Type 0} → (K → K → Ordering) → Type 0 → BTreeMap K X → BTreeMap K X → K → X → Type 0
@@ -37,3 +39,11 @@ HearsLine cmp may_refuse old new None = new.heard ≡ old.heard
 -- a save took so many ms
 abbrev pub saved : {A : Type 0} → Statistics A → ℕ → Statistics A
 saved s ms = record s { longest_save = max s.longest_save ms }
+
+-- a Map-Request came, up to 2^64 - 1 of them
+abbrev pub requested : {A : Type 0} → Statistics A → Statistics A
+requested s = record s { requests = min (s.requests + 1) (2 ^ 64 - 1) }
+
+-- so many us after a Map-Request was taken a datagram for it was given to the socket
+abbrev pub replied : {A : Type 0} → Statistics A → ℕ → Statistics A
+replied s us = record s { slowest_reply = max s.slowest_reply us }

@@ -18,6 +18,10 @@ pub enum Figure {
     Replays,
     /// The ms that the longest save took since the start.
     LongestSave,
+    /// The Map-Requests that came since the start.
+    Requests,
+    /// The us that the slowest answer to a Map-Request took since the start.
+    SlowestReply,
 }
 
 /// A figure, and how much it is.
@@ -41,6 +45,8 @@ impl Figure {
             Figure::StandingNotices => "standing_notices",
             Figure::Replays => "replays",
             Figure::LongestSave => "longest_save_ms",
+            Figure::Requests => "requests",
+            Figure::SlowestReply => "slowest_reply_us",
         }
     }
 
@@ -67,6 +73,12 @@ impl Figure {
             Figure::LongestSave => {
                 "# HELP lisp_longest_save_seconds The longest save of a nonce since the start.\n# TYPE lisp_longest_save_seconds gauge\nlisp_longest_save_seconds"
             }
+            Figure::Requests => {
+                "# HELP lisp_map_requests_total Map-Requests that came since the start.\n# TYPE lisp_map_requests_total counter\nlisp_map_requests_total"
+            }
+            Figure::SlowestReply => {
+                "# HELP lisp_slowest_reply_seconds The slowest answer to a Map-Request since the start.\n# TYPE lisp_slowest_reply_seconds gauge\nlisp_slowest_reply_seconds"
+            }
         }
     }
 
@@ -76,6 +88,7 @@ impl Figure {
     {
         match self {
             Figure::LongestSave => "e-3",
+            Figure::SlowestReply => "e-6",
             _ => "",
         }
     }

@@ -1,5 +1,5 @@
-//! What is counted of a node that runs, since its start: the lines of each kind that it prints, the routers that it heard, and how long
-//! its longest save took; and the text of this.
+//! What is counted of a node that runs, since its start: the lines of each kind that it prints, the routers that it heard, how long its
+//! longest save took, how many Map-Requests came, and how long the slowest answer to one took; and the text of this.
 //!
 //! # Decisions
 //!
@@ -7,7 +7,9 @@
 //! - Counts are of the lines that a node prints, before its log leaves out repeats, so that a flood is counted too.
 //! - A kind of line or a router that is new takes memory, and isn't kept where that is refused. Room could be taken at the
 //!   start for kinds, but not for routers, of which there are as many as have a key.
-//! - Prometheus gets the longest save in seconds as `12e-3`: its format takes that, and the ms stay whole numbers.
+//! - Prometheus gets the longest save in seconds as `12e-3`: its format takes that, and the ms stay whole numbers. So it is with the
+//!   slowest answer, in us: an answer in less than 1 ms is the rule.
+//! - Map-Requests are counted as they come, and not by their lines: one may ask for several EID-Prefixes, or be dropped without a line.
 #![tactic(auto)]
 
 // What is kept.

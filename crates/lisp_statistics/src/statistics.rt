@@ -4,7 +4,7 @@ ghost use Rattle.std.specs.Prelude.{◌≡◌};
 ghost use Rattle.lisp_records.specs.Router.{router_cmp};
 ghost use Rattle.lisp_statistics.specs.Hearing.{heard_in};
 ghost use Rattle.lisp_statistics.specs.Kind.{kind_of};
-ghost use Rattle.lisp_statistics.specs.Statistics.{Begins, Counts, CountsLine, HearsLine, Sets, saved};
+ghost use Rattle.lisp_statistics.specs.Statistics.{Begins, Counts, CountsLine, HearsLine, Sets, replied, requested, saved};
 
 use crate::hearing::Hearing;
 use crate::kind::LineKind;
@@ -14,8 +14,9 @@ use lisp_turns::Printed;
 use std::alloc::{Allocator, Global};
 use std::collections::BTreeMap;
 
-/// How many lines of each kind a node printed since its start, which Map-Register a Map-Server accepted last of each router, and how
-/// long the longest save took. A kind or a router that is new takes memory; where that is refused, it isn't kept.
+/// How many lines of each kind a node printed since its start, which Map-Register a Map-Server accepted last of each router, how
+/// long the longest save took, how many Map-Requests came, and how long the slowest answer to one took. A kind or a router that is new
+/// takes memory; where that is refused, it isn't kept.
 #[derive(Drop)]
 pub struct Statistics<A: Allocator = Global> {
     /// How many lines of each kind.
@@ -24,6 +25,10 @@ pub struct Statistics<A: Allocator = Global> {
     pub(crate) heard: BTreeMap<RouterId, Hearing, A>,
     /// How long the longest save took, in ms.
     pub(crate) longest_save: u64,
+    /// How many Map-Requests came.
+    pub(crate) requests: u64,
+    /// How long the slowest answer to one took, in us.
+    pub(crate) slowest_reply: u64,
 }
 
 impl<A: Memory + Copy> Statistics<A> {
@@ -35,6 +40,8 @@ impl<A: Memory + Copy> Statistics<A> {
             tallies: BTreeMap::new(alloc),
             heard: BTreeMap::new(alloc),
             longest_save: 0,
+            requests: 0,
+            slowest_reply: 0,
         }
     }
 
@@ -45,6 +52,8 @@ impl<A: Memory + Copy> Statistics<A> {
         ensures hears { HearsLine router_cmp A.may_refuse self.old self.new
             (heard_in line.now now) }
         ensures saves { self.new.longest_save ≡ self.old.longest_save }
+        ensures requests { self.new.requests ≡ self.old.requests }
+        ensures replies { self.new.slowest_reply ≡ self.old.slowest_reply }
     {
         if let Some(kind) = LineKind::of(line) {
             count(&mut self.tallies, kind);
@@ -66,6 +75,34 @@ impl<A: Memory + Copy> Statistics<A> {
         ensures { self.new ≡ saved self.old ms }
     {
         self.longest_save = self.longest_save.max(ms);
+    }
+
+    /// How many Map-Requests came, up to 2^64 - 1.
+    pub fn requests(&self) -> u64
+        ensures { result ≡ self.now.requests }
+    {
+        self.requests
+    }
+
+    /// A Map-Request came.
+    pub fn note_request(&mut self)
+        ensures { self.new ≡ requested self.old }
+    {
+        self.requests = self.requests.saturating_add(1);
+    }
+
+    /// The longest time, in us, from when a Map-Request was taken until a datagram for it was given to the socket; 0 before the first.
+    pub fn slowest_reply(&self) -> u64
+        ensures { result ≡ self.now.slowest_reply }
+    {
+        self.slowest_reply
+    }
+
+    /// A datagram was given to the socket, so many us after the Map-Request was taken that it is for.
+    pub fn note_reply(&mut self, us: u64)
+        ensures { self.new ≡ replied self.old us }
+    {
+        self.slowest_reply = self.slowest_reply.max(us);
     }
 }
 
