@@ -1,0 +1,5 @@
+pub mod BudgetedTakes
+pub mod BudgetedCalls
+pub mod BudgetedRequests
+pub mod BudgetedTurns
+pub mod BudgetedExamples
