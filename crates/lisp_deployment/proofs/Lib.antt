@@ -3,3 +3,4 @@ pub mod BudgetedCalls
 pub mod BudgetedRequests
 pub mod BudgetedTurns
 pub mod BudgetedExamples
+pub mod Passing

@@ -1,1 +1,2 @@
 pub mod Budgeted
+pub mod Passing
