@@ -13,8 +13,11 @@ use lisp_sites::Config;
 use lisp_turns::{Received, Request};
 use std::alloc::{AllocError, Global};
 
-/// The most datagrams that are taken from a socket at once.
-const MOST_AT_ONCE: usize = 1_024;
+/// The most datagrams that are taken from a socket as a turn begins.
+const MOST_AT_FIRST: usize = 1_024;
+
+/// The most that are taken each time the turn asks for another one: in a flood a turn of 64 datagrams takes at most as many again.
+const MOST_AT_ONCE: usize = 16;
 
 /// The datagrams of a node that wait, in the order in which its turns take them.
 #[derive(Drop)]
@@ -75,7 +78,7 @@ impl Inbox {
         ensures room { length buffer.new ≡ length buffer.old }
     {
         self.begin();
-        let is_failed = self.fill(socket, buffer);
+        let is_failed = self.fill(socket, buffer, MOST_AT_FIRST);
         let is_asked = self.is_asked();
         match self.next(buffer) {
             Received::Nothing if is_failed => Received::Failed,
@@ -94,7 +97,7 @@ impl Inbox {
         ensures within { FitsBuffer result buffer.new }
         ensures room { length buffer.new ≡ length buffer.old }
     {
-        self.fill(socket, buffer);
+        self.fill(socket, buffer, MOST_AT_ONCE);
         self.next(buffer)
     }
 
@@ -127,14 +130,14 @@ impl Inbox {
         }
     }
 
-    // What waits in the socket waits here then, as far as there is room. Whether the socket failed.
-    fn fill(&mut self, socket: &mut NodeSocket, buffer: &mut [u8]) -> bool
+    // What waits in the socket, so many datagrams at most, waits here then, as far as there is room. Whether the socket failed.
+    fn fill(&mut self, socket: &mut NodeSocket, buffer: &mut [u8], most: usize) -> bool
         ensures shares { self.new.heard.taken ≡ self.old.heard.taken }
         ensures places { self.new.heard.places ≡ self.old.heard.places }
         ensures kind { self.new.heard.kind ≡ self.old.heard.kind }
         ensures room { length buffer.new ≡ length buffer.old }
     {
-        for _ in 0..MOST_AT_ONCE {
+        for _ in 0..most {
             match socket.take(buffer, None) {
                 Ok(Some(incoming)) => self.offer(&incoming, buffer),
                 Ok(None) => return false,
