@@ -301,6 +301,11 @@ def write_encapsulated(it, free=none):
     return struct.pack("!BHB", 8 << 4 | free(3), free(16), free(8)) + write_ip(it, udp + more, free) + after
 
 
+def map_reply(nonce, *records, kind=0x20):
+    """A Map-Reply of records that are there as bytes, as its nonce is; the kind is its first byte."""
+    return bytes([kind, 0, 0, len(records)]) + nonce + b"".join(records)
+
+
 # ---- what is drawn
 
 
