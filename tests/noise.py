@@ -59,19 +59,36 @@ def noise(draw, messages):
     return data if chance < 0.3 else changed(draw, kind, data)
 
 
+class Heard:
+    """How many datagrams of its kinds a node was sent, and how many it hasn't taken."""
+
+    def __init__(self, folder):
+        self.folder, self.sent, self.lost = folder, 0, 0
+
+    def catch_up(self, most):
+        """Waits until all but so many are taken; those that aren't within a second are lost."""
+        end = time.monotonic() + 1
+        while (left := self.sent - self.lost - taken(self.folder)) > most:
+            if time.monotonic() > end:
+                self.lost += left
+            time.sleep(0.0005)
+
+
 def make_noise(its, seed, address, folder, itr, count, port):
-    """Sends so many datagrams to a node, as many at once as may wait there, and reports how many are of its kinds, and how many are dropped."""
-    draw = random.Random(seed)
+    """Sends so many datagrams to a node, as many at once as may wait there, and reports how many are of its kinds, how many of those are lost,
+    and how many its socket drops."""
+    draw, heard = random.Random(seed), Heard(folder)
     messages = [it for it in (drawn(draw, itr, port) for _ in range(MESSAGES)) if it[0]]
-    front, asking = bytes(map(int, itr.split(".")))[:2], 0
+    front = bytes(map(int, itr.split(".")))[:2]
     with Everywhere() as everywhere:
         for number in range(count):
             data = noise(draw, messages)
-            asking += data[:1] != b"" and data[0] >> 4 in (1, 8)
+            heard.sent += data[:1] != b"" and data[0] >> 4 in (1, 8)
             everywhere.send(front + bytes([100 + number % 100, 9]), data, address)
             if number % AT_ONCE == 0:
-                until(lambda: taken(folder) >= asking - AT_ONCE)
-    its.send((asking, dropped(address)))
+                heard.catch_up(AT_ONCE)
+        heard.catch_up(0)
+    its.send((heard.sent, heard.lost, dropped(address)))
 
 
 def is_right(data, to, here):
@@ -140,11 +157,10 @@ def nodes_that_hear_noise(here):
                 it.look()
         for (name, (ours, it)), process in zip(noises.items(), (server, router)):
             it.join()
-            asking, lost = ours.recv()
+            asked, lost, gone = ours.recv()
             check(f"{name} lives", process.poll(), None)
-            check_below(f"datagrams that the socket of {name} dropped", lost, COUNT // 20)
-            until(lambda: taken(f"{here.folder}/{name}") >= asking, 2)
-            check_below(f"those of {asking} that {name} doesn't take", asking - taken(f"{here.folder}/{name}"), asking // 20)
+            check_below(f"datagrams that the socket of {name} dropped", gone, COUNT // 20)
+            check_below(f"those of {asked} that {name} doesn't take", lost, asked // 20)
         # (What is left of the budget after two seconds is all of it.)
         time.sleep(2.1)
         received(asker.socket, 0.01)
