@@ -5,6 +5,7 @@ they don't keep Map-Registers waiting, nor these them; two Map-Servers whose row
 alone. Prints each check that fails, and ends with 1 where one does. `floods.py PROGRAM times` prints what is measured, too."""
 import collections
 import contextlib
+import itertools
 import multiprocessing
 import os
 import select
@@ -14,9 +15,10 @@ import tempfile
 import time
 from pathlib import Path
 
-from asking import (TO_EACH, Everywhere, Itr, Sent, a_server, arrivals, asking, check_budget, counts_of, packed, register, registered,
-                    registration, resolves, stamped)
-from nodes import GROUPS, LIMIT, PORT, XTR, check, map_register, nonce_in, now, peer, ran, received, run_tests, until
+from asking import (TO_EACH, Everywhere, Itr, Sent, a_server, arrivals, asking, check_budget, counts_of, itrs_of, lines, packed, register,
+                    registered, registration, resolves, stamped)
+from nodes import (DATABASE, FILES, GROUPS, LIMIT, PORT, XTR, answers, check, killed, map_register, next_line, nonce_in, now, peer, ran, received,
+                   run_tests, stopped, until)
 from sockets import check_below
 
 # How many Map-Registers a second, or Map-Requests, come beside a flood; how many datagrams a flood has, and for how many seconds it comes.
@@ -255,6 +257,48 @@ def requests_beside_a_flood(here):
             note(f"{len(found)} of {count} answered beside {sender.result()} {name}, {in_ms(found)}")
 
 
+# ---- what waits
+
+
+def both_kinds_in_turn(here):
+    """A turn answers as many Map-Requests as it hears other datagrams, at most: so neither waits for all of the other kind."""
+    resolves(here, "s1")
+    for group, here.store in ((1, FILES), (4, (*DATABASE, "--group", "4"))):
+        process, count = a_server(here), 12
+        with peer(here.r1) as r1:
+            register(here, r1, count * group, registered("10.1.4.0/24"))
+            itrs = list(itertools.islice(itrs_of(here), count))
+            check("its row", next_line(process), f"accepted s1 r1 key 1 nonce {count * group} from {here.r1}")
+            with stopped(process):
+                for number in range(count):
+                    r1.sendto(registration(1 + count * group + number, registered("10.1.4.0/24")), (here.s1, PORT))
+                for itr in itrs:
+                    itr.asks(here.s1, "10.1.4.1")
+            words = [line.split()[0] for line in lines(process, 2 * count)]
+            check(f"in groups of {group}", words, (["accepted"] * group + ["replied"] * group) * (count // group))
+        killed(process)
+
+
+def how_many_wait(here):
+    """128 Map-Requests of one address, and 256 in all; other datagrams have as many places of their own."""
+    resolves(here, "s1")
+    process = a_server(here, stdout=subprocess.DEVNULL)
+    with peer(here.r1) as r1, Itr(f"{here.front}9") as one, Itr(f"{here.front}10") as other:
+        with stopped(process):
+            for itr, count in ((one, 150), (other, 20)):
+                for _ in range(count):
+                    itr.asks(here.s1, "11.0.0.1")
+            for nonce in range(1, 41):
+                r1.sendto(registration(nonce, registered("10.1.4.0/24")), (here.s1, PORT))
+        check("the others", answers(r1, 40), list(range(1, 41)))
+        check("Map-Requests", until(lambda: requests_of(here) >= 148) and requests_of(here), 148)
+        check("each of the other one is answered", len(received(other.socket, 0.1)), 20)
+
+
+def requests_of(here):
+    return counts_of(ran("ask", f"{here.folder}/s1", "counts")[1])["requests"]
+
+
 # ---- circles
 
 
@@ -327,4 +371,4 @@ def a_slow_circle(here):
 tests = [registrations_beside_one_itr, registrations_beside_many, requests_beside_a_flood]
 if measured:
     run_tests([], [*tests, a_circle], names=[])
-run_tests([a_circle, a_slow_circle], tests)
+run_tests([a_circle, a_slow_circle, both_kinds_in_turn, how_many_wait], tests)

@@ -11,8 +11,8 @@ import subprocess
 import time
 from pathlib import Path
 
-from asking import (Everywhere, Itr, Sent, a_server, counts_of, encapsulated, hole, itrs_of, lines, map_request, packed, record, register,
-                    registered, registration, reply_of, resolves)
+from asking import (Everywhere, Itr, Sent, a_server, arrivals, check_budget, counts_of, encapsulated, hole, itrs_of, lines, map_request, packed, record, register,
+                    registered, registration, reply_of, resolves, stamped)
 from messages import Encapsulated, capture_of
 from nodes import LIMIT, PORT, XTR, check, is_bound, is_up, next_line, peer, ran, received, run_tests, until
 from sockets import check_below, slower
@@ -147,6 +147,25 @@ def the_first_minute(here):
         time.sleep(max(0, begun + QUIET + 1 - time.monotonic()))
         check("and then no site", next(itrs).asked(here.s1, "11.0.0.1"), (OUTSIDE_REPLY, here.s1))
         check("a longer row", next(itrs).asked(here.s1, "10.1.4.1"), (SHORT_REPLY, here.s1))
+
+
+def over_budget(here):
+    """Of what one ITR asks for within a second or two, 4,096 bytes go out; a line says that more is held back. Others are answered."""
+    count, fits = 200, 4_096 // (len(SHORT_REPLY) // 2 + 8)
+    with a_network(here) as (process, itrs, _):
+        itr = next(itrs)
+        stamped(itr.socket)
+        for _ in range(count):
+            itr.asks(here.s1, "10.1.4.1")
+            time.sleep(0.003)
+        check("another one is answered", next(itrs).asked(here.s1, "10.1.4.1"), (SHORT_REPLY, here.s1))
+        got = arrivals(itr.socket, 0.3)
+        check_budget("what goes out", got)
+        check_below("how many don't go out", count - len(got), count - fits)
+        check("what is counted", counted(here, "s1", "requests", "replied", "refused 135"), [count + 1, count + 1, count - len(got)])
+        check("its lines", lines(process, 2), [f"replied s1 10.1.4.1/32 to {itr.address} records 1", f"refused s1 135 from {itr.address}"])
+        time.sleep(2.1)
+        check("and later again", itr.asked(here.s1, "10.1.4.1"), (SHORT_REPLY, here.s1))
 
 
 def the_minute_is_60_seconds(here):
@@ -330,5 +349,5 @@ def as_tshark_reads_it(here):
     check("how each is read", [it[:1] + it[2:] for it in found], [["8,1", "", ""], ["2", "", ""]] * 2 + [["8,1", "", ""]])
 
 
-run_tests([the_first_minute, by_proxy, on_to_a_router, several_records, negative_replies, the_minute_is_60_seconds, a_router_replies,
+run_tests([the_first_minute, over_budget, by_proxy, on_to_a_router, several_records, negative_replies, the_minute_is_60_seconds, a_router_replies,
            a_router_that_is_asked, what_is_refused, without_resolve, as_tshark_reads_it], [over_ipv6])
