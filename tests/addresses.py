@@ -36,7 +36,7 @@ if INSIDE not in os.environ:
 
 from asking import Itr, record, reply_of, resolves
 from nodes import (EXAMPLES, LIMIT, MAP_NOTIFY, PORT, SITE, XTR, check, is_up, killed, map_register, next_line, nonce_in, peer, ran,
-                   received, run_tests)
+                   received, run_tests, until)
 from sockets import heard, slower
 
 LOOPBACK = "0:0:0:0:0:0:0:1"
@@ -222,15 +222,17 @@ def map_requests_over_ipv6(here):
         check("the router replies", one.asked(here.s1, "10.1.2.1"), (reply_of(own), ip_text(here.r2)))
         check("the Map-Server", next_line(server), f"forwarded s1 10.1.2.1/32 to {told(here.r2)}")
         check("the router", [next_line(router) for _ in range(3)][2], f"replied r2 10.1.2.1/32 to {told(FRONT + '99')} records 1")
-        # (Each of these Map-Replies has 28 bytes.)
         begun = time.monotonic()
         for _ in range(100):
             for itr in (one, other):
                 itr.asks(here.s1, "11.0.0.1")
             time.sleep(0.001)
-        got = [len(received(itr.socket, 0.1)) for itr in (one, other)]
-        if time.monotonic() - begun < 1:
-            check("what goes to their /64", (sum(got), min(got) > 0), (4096 // 28, True))
+        asked = until(lambda: "counts s1 requests 201\n" in ran("ask", f"{here.folder}/s1", "counts")[1])
+        took, got = time.monotonic() - begun, [len(received(itr.socket, 0.1)) for itr in (one, other)]
+        check("all are taken", asked, True)
+        # (A Map-Reply has 28 bytes, and what went on to the router, which is in the same /64, has 72. Within a second there is one budget.)
+        if took < 1:
+            check("what goes to their /64", (4096 - 72 <= sum(got) * 28 + 27 <= 4096 + 27, min(got) > 0), (True, True))
 
 
 def ip_text(address):
