@@ -12,7 +12,8 @@ import sys
 import time
 from pathlib import Path
 
-from asking import Everywhere, Itr, Sent, a_server, check_budget, counts_of, encapsulated, map_request, record, register, registered, reply_of, resolves
+from asking import (Everywhere, Itr, Sent, a_server, ask_again, check_budget, counts_of, encapsulated, map_request, record, register, registered,
+                    reply_of, resolves)
 from messages import Fault, changed, draw_message, read_reply
 from nodes import LIMIT, PORT, check, is_up, peer, ran, received, run_tests, until
 from sockets import check_below
@@ -164,7 +165,7 @@ def nodes_that_hear_noise(here):
         # (What is left of the budget after two seconds is all of it.)
         time.sleep(2.1)
         received(asker.socket, 0.01)
-        wide = record("10.1.0.0/16"), record("10.1.2.0/24", act=2, locators=())
+        wide = record("10.1.0.0/16"), ask_again("10.1.2.0/24")
         check("s1 answers", asker.asked(here.s1, "10.1.3.4"), (reply_of(*wide), here.s1))
         own = record("10.1.2.0/24", own=True, flags=5, locators=["192.0.2.2"])
         check("r2 answers", asker.asked(here.s1, "10.1.2.1"), (reply_of(own), here.r2))

@@ -11,8 +11,8 @@ import subprocess
 import time
 from pathlib import Path
 
-from asking import (Everywhere, Itr, Sent, a_server, arrivals, check_budget, counts_of, encapsulated, hole, itrs_of, lines, map_request, packed, record, register,
-                    registered, registration, reply_of, resolves, stamped)
+from asking import (Everywhere, Itr, Sent, a_server, arrivals, check_budget, counts_of, encapsulated, hole, itrs_of, lines, map_request, packed,
+                    record, register, registered, registration, reply_of, resolves, stamped)
 from messages import Encapsulated, capture_of
 from nodes import LIMIT, PORT, XTR, check, is_bound, is_up, next_line, peer, ran, received, run_tests, until
 from sockets import check_below, slower
@@ -337,10 +337,13 @@ def as_tshark_reads_it(here):
     with a_network(here) as (_, itrs, r2):
         itr, packets = next(itrs), []
         for eid in ("10.1.3.4", "11.0.0.1"):
+            itr.socket.settimeout(LIMIT)
             asked = itr.asks(here.s1, eid)
             message = itr.socket.recv(65535)
-            packets += [Encapsulated(packed(itr.address), packed(here.s1), itr.port, asked), Encapsulated(packed(here.s1), packed(itr.address), PORT, message)]
+            packets += [Encapsulated(packed(itr.address), packed(here.s1), itr.port, asked),
+                        Encapsulated(packed(here.s1), packed(itr.address), PORT, message)]
         itr.asks(here.s1, "10.1.2.1")
+        r2.settimeout(LIMIT)
         packets.append(Encapsulated(packed(here.s1), packed(here.r2), PORT, r2.recv(65535)))
     file = Path(f"{here.folder}/look.pcap")
     file.write_bytes(capture_of(packets))
