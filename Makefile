@@ -8,9 +8,10 @@
 # make slips    prints the table of wrong definitions and plants them: an example of theirs has to refuse each; NAME=lisp_client those of one list
 # make docs     writes what is generated of the documents: docs/CONTRACTS.md, and tables of docs/ARCHITECTURE.md and docs/EMBEDDING.md
 # make fuzz     plays schedules that are drawn: COUNT of them from SEED on, over out/lispd; as many of which Map-Requests are made, whose
-#               replies an ITR keeps; and reads as many drawn Map-Requests, Map-Replies and encapsulated messages
+#               replies an ITR keeps; reads as many drawn Map-Requests, Map-Replies and encapsulated messages; and sends
+#               DATAGRAMS that are drawn to nodes that answer Map-Requests
 # make bench    measures the codec, the tag and registrations, also through the library for C programs; and of out/lispd saves on a disk, the
-#               reading of configurations, plays, and a server
+#               reading of configurations, plays, a server, and one that answers Map-Requests
 # make install  installs the program (out/lispd), its manual pages, completions, units and samples: PREFIX=/usr/local, DESTDIR=
 # make install-library installs the library for C programs, with its header and its pkg-config file
 # make uninstall removes what both installed
@@ -58,9 +59,11 @@ docs:
 
 SEED = 1
 COUNT = 10000
+DATAGRAMS = 1000000
 fuzz: lispd
 	@tests/fuzz.py out/lispd $(SEED) $(COUNT)
 	@tests/replies.py out/lispd $(SEED) $(COUNT)
+	@tests/noise.py out/lispd $(SEED) $(DATAGRAMS)
 	@mkdir -p out
 	@cd crates/lisp_fields && rt run < /dev/null > ../../out/fields.log 2>&1 || { cat ../../out/fields.log >&2; exit 1; }
 	@tests/requests.py crates/lisp_fields/out/lisp_fields $(SEED) $(COUNT)
@@ -73,6 +76,7 @@ bench: lispd library
 	@tools/bench_play
 	@tools/bench_server
 	@tools/bench_asked
+	@tools/bench_resolve
 
 PREFIX = /usr/local
 PROGRAM = out/lispd

@@ -8,6 +8,7 @@ import os
 import socket
 import subprocess
 import sys
+import time
 from pathlib import Path
 
 INSIDE = "LISPD_OWN_NETWORK"
@@ -33,8 +34,9 @@ def enter():
 if INSIDE not in os.environ:
     enter()
 
+from asking import Itr, record, reply_of, resolves
 from nodes import (EXAMPLES, LIMIT, MAP_NOTIFY, PORT, SITE, XTR, check, is_up, killed, map_register, next_line, nonce_in, peer, ran,
-                   run_tests)
+                   received, run_tests, until)
 from sockets import heard, slower
 
 LOOPBACK = "0:0:0:0:0:0:0:1"
@@ -207,6 +209,37 @@ def a_loop_over_ipv6(here):
     check("its lines", ran("loop", here.config, file, "--store", here.folder)[:2], (0, wanted.replace("127.0.0.", FRONT)))
 
 
+def map_requests_over_ipv6(here):
+    """A Map-Server sends one on to a router, which replies to the ITR; and the ITRs of a /64 have one budget."""
+    of_ipv6(here)
+    resolves(here, "s1", "r2", prefixes=[f"{FRONT}0/64"])
+    server = here.start(*here.words("server", "s1", "--quiet", "0"))
+    is_up(here.s1)
+    router = here.start(*here.words("router", "r2"), env=slower())
+    check("it is accepted", next_line(server), f"accepted s1 r2 key 1 nonce 1 from {told(here.r2)}")
+    with Itr(ip_text(FRONT + "99")) as one, Itr(ip_text(FRONT + "12")) as other:
+        own = record("10.1.2.0/24", own=True, flags=5, locators=["192.0.2.2"])
+        check("the router replies", one.asked(here.s1, "10.1.2.1"), (reply_of(own), ip_text(here.r2)))
+        check("the Map-Server", next_line(server), f"forwarded s1 10.1.2.1/32 to {told(here.r2)}")
+        check("the router", [next_line(router) for _ in range(3)][2], f"replied r2 10.1.2.1/32 to {told(FRONT + '99')} records 1")
+        begun = time.monotonic()
+        for _ in range(100):
+            for itr in (one, other):
+                itr.asks(here.s1, "11.0.0.1")
+            time.sleep(0.001)
+        asked = until(lambda: "counts s1 requests 201\n" in ran("ask", f"{here.folder}/s1", "counts")[1])
+        took, got = time.monotonic() - begun, [len(received(itr.socket, 0.1)) for itr in (one, other)]
+        check("all are taken", asked, True)
+        # (A Map-Reply has 28 bytes, and what went on to the router, which is in the same /64, has 72. Within a second there is one budget.)
+        if took < 1:
+            check("what goes to their /64", (4096 - 72 <= sum(got) * 28 + 27 <= 4096 + 27, min(got) > 0), (True, True))
+
+
+def ip_text(address):
+    """An IPv6 address as Python spells it."""
+    return socket.inet_ntop(socket.AF_INET6, ip(address))
+
+
 run_tests([], [an_answer_goes_to_its_source, an_answer_over_ipv6_goes_to_its_source, a_map_server_at_the_loopback_address,
                a_router_registers, a_router_registers_over_ipv6, a_map_server_of_the_other_family, each_node_is_itself,
-               what_goes_over_the_wire, a_loop_over_ipv6])
+               what_goes_over_the_wire, a_loop_over_ipv6, map_requests_over_ipv6])

@@ -4,18 +4,15 @@ What `lispd server --database --group N` makes of datagrams that wait: a group o
 address half of them while others wait; its answers keep their order, a group that fails is lost as a whole, and one router that floods
 starves none. Prints each check that fails, and ends with 1 where one
 does. `groups.py PROGRAM flood SECONDS` floods a Map-Server from one address for so long, and prints how many of the others it answers."""
-import contextlib
 import itertools
 import select
 import shutil
-import signal
 import sys
 import time
-from pathlib import Path
 from subprocess import DEVNULL, STDOUT
 
 from nodes import (DATABASE, GROUPS, LIMIT, PORT, answers, check, failing, is_up, killed, map_register, next_line, nonce_in, peer,
-                   received, run_tests, until, with_slow_syncs)
+                   received, run_tests, stopped, with_slow_syncs)
 from nonces import LOG_FILE, kept, pair
 
 # What each try adds to the nonces of those who register; and in how many runs a sync fails at most.
@@ -26,15 +23,6 @@ OTHERS, FLOOD = 149, 2000
 QUICK, SLOW = 1000, 40_000
 # How many of the others have to be answered.
 ANSWERED = 140
-
-
-@contextlib.contextmanager
-def stopped(process):
-    """While a process is stopped, what is sent to it waits."""
-    process.send_signal(signal.SIGSTOP)
-    until(lambda: " T " in Path(f"/proc/{process.pid}/stat").read_text())
-    yield
-    process.send_signal(signal.SIGCONT)
 
 
 def a_group_is_answered(here):

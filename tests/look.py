@@ -8,6 +8,7 @@ import socket
 import subprocess
 import time
 
+from messages import map_reply, sum_of
 from nodes import LIMIT, check, in_words, peer, program, ran, received, run_tests
 
 # An Encapsulated Map-Request for 10.1.2.3 from the ITR-RLOC 127.0.0.9; what is masked below is 0: the inner UDP source port and checksum,
@@ -54,14 +55,6 @@ def inner_port(datagram):
     return int.from_bytes(datagram[begin:end], "big")
 
 
-def sum_of(data):
-    """The one's complement sum of 16 bit words (RFC 1071)."""
-    total = sum(int.from_bytes(data[at:at + 2], "big") for at in range(0, len(data), 2))
-    while total >> 16:
-        total = (total & 0xffff) + (total >> 16)
-    return total
-
-
 def is_summed(datagram):
     """Whether the inner UDP checksum is right, with the pseudo-header (RFC 768, RFC 8200 section 8.1); the inner datagrams have an even
     number of bytes."""
@@ -69,10 +62,6 @@ def is_summed(datagram):
     width = 4 if header_len(datagram) == 20 else 16
     udp = datagram[begin:]
     return sum_of(datagram[begin - 2 * width:begin] + bytes([0, 17]) + len(udp).to_bytes(2, "big") + udp) == 0xffff
-
-
-def map_reply(nonce, *records, kind=0x20):
-    return bytes([kind, 0, 0, len(records)]) + nonce + b"".join(records)
 
 
 def record(prefix, length, *, act=0, locators=1):

@@ -137,6 +137,15 @@ def killed(process):
     return lines
 
 
+@contextlib.contextmanager
+def stopped(process):
+    """While a process is stopped, what is sent to it waits."""
+    process.send_signal(signal.SIGSTOP)
+    until(lambda: " T " in Path(f"/proc/{process.pid}/stat").read_text())
+    yield
+    process.send_signal(signal.SIGCONT)
+
+
 def nonce_text(nonce):
     return b"nonce %020d\n" % nonce
 

@@ -1,5 +1,6 @@
-"""What tools/bench_saves, tools/bench_server and tools/bench_asked share: the disks that they measure on, a Map-Server, routers, and how pairs stand in
-a database. The first word of the command is the program, which is out/lispd where there is none."""
+"""What tools/bench_saves, tools/bench_server, tools/bench_asked and tools/bench_resolve share: the disks that they measure on, a Map-Server that
+runs and is asked, routers, and how pairs stand in a database. The first word of the command is the program, which is out/lispd where there is
+none."""
 import hmac
 import os
 import shutil
@@ -16,6 +17,8 @@ PROGRAM = sys.argv[1] if sys.argv[1:] else f"{TOP}/out/lispd"
 SERVER, PORT = "127.0.0.11", 4342
 # How long an answer may take, in seconds.
 LIMIT = 30
+# The line that closes each answer of a node that is asked.
+CLOSING = b"end\n"
 INSERT = "INSERT INTO nonces (kind, site_id, xtr_id, key_id, nonce) VALUES (?, ?, ?, ?, ?)"
 CONFIG = """[[site]]
 id = "0000000000000001"
@@ -88,10 +91,10 @@ def fill(path, pairs):
     return True
 
 
-def map_register(router, nonce, first, count):
+def map_register(router, nonce, first, count, proxy):
     """A Map-Register of a router with records of so many host prefixes, from one of 10.0.0.0/8 on (RFC 9301 section 5.6)."""
     records = b"".join(bytes.fromhex("000005a000201000000000010a") + (first + place).to_bytes(3, "big") for place in range(count))
-    front = bytes([0x3A, 0, 1, count]) + nonce.to_bytes(8, "big") + bytes.fromhex("01020010")
+    front = bytes([0x3A if proxy else 0x32, 0, 1, count]) + nonce.to_bytes(8, "big") + bytes.fromhex("01020010")
     behind = records + router.to_bytes(16, "big") + (1).to_bytes(8, "big")
     tag = hmac.digest(b"secret", front + bytes(16) + behind, "sha256")[:16]
     return front + tag + behind
@@ -146,12 +149,40 @@ class Router:
         self.socket.bind((f"127.0.1.{number}", PORT))
         self.socket.settimeout(LIMIT)
 
-    def send(self, xtr=None, first=None, count=1):
-        """Sends a Map-Register of so many host prefixes; where nothing is said, of the one with the router's number."""
+    def send(self, xtr=None, first=None, count=1, proxy=True):
+        """Sends a Map-Register of so many host prefixes; where nothing is said, of the one with the router's number, for proxy Map-Replies."""
         self.nonce += 1
         xtr, first = (self.number if it is None else it for it in (xtr, first))
-        self.socket.sendto(map_register(xtr, self.nonce, first, count), (self.server, PORT))
+        self.socket.sendto(map_register(xtr, self.nonce, first, count, proxy), (self.server, PORT))
 
     def answered(self):
         """Waits for a Map-Notify."""
         self.socket.recv(65535)
+
+
+def asked(folder, question):
+    """What the Map-Server answers, over a connection of its own, up to the line that closes it; nothing where it doesn't come whole."""
+    with socket.socket(socket.AF_UNIX) as it:
+        it.settimeout(LIMIT)
+        it.connect(f"{folder}/s1/control")
+        it.sendall(question + b"\n")
+        parts = []
+        while part := it.recv(1 << 20):
+            parts.append(part)
+    text = b"".join(parts)
+    return text.removesuffix(CLOSING) if text.endswith(b"\n" + CLOSING) else b""
+
+
+def registrations(number, rate, seconds):
+    """How many Map-Registers a second are answered that are sent at a rate, or each when the one before it is answered, and how long the slowest
+    waits, in ms. One that isn't answered ends the program."""
+    router, waits, start = Router(number), [], time.monotonic()
+    while (now := time.monotonic()) < start + seconds:
+        if rate is None or len(waits) <= (now - start) * rate:
+            router.send()
+            begun = time.monotonic()
+            router.answered()
+            waits.append(time.monotonic() - begun)
+        else:
+            time.sleep(0.0001)
+    return len(waits) / seconds, max(waits) * 1000
