@@ -1,17 +1,16 @@
 -- Of what repeats few lines are told.
-use Rattle.std.proofs.Common.{◌≡◌, ◌⊎◌, ℕ, zero, suc, ◌+◌, ◌-◌, ◌*◌, ◌^◌, ◌<◌, ◌≤◌, Bool, true, false, not, ◌&&◌, cond, List, [], ◌∷◌, ◌++◌, length, get_or, refl, sym, ap, ◌∙◌, subst, inl, inr, arith}
+use Rattle.std.proofs.Common.{◌≡◌, ℕ, zero, suc, ◌+◌, ◌-◌, ◌^◌, ◌<◌, ◌≤◌, Bool, true, false, not, ◌&&◌, cond, List, [], ◌∷◌, length, get_or, refl, sym, ap, ◌∙◌, subst, inl, inr, arith}
 use Rattle.std.specs.Prelude.{sum_by, count_by, ◌==◌, if◌then◌else◌}
 use Rattle.std.specs.List.{All, AllPairs, Contains}
 use Rattle.std.proofs.lemmas.Bool.{true≢false}
 use Rattle.std.proofs.lemmas.List.{length-append, length_push}
 use Rattle.std.proofs.lemmas.List.Elements.{All-contains}
 use Rattle.std.proofs.lemmas.List.Sums.{sum_by-cons, sum_by-le, sum_by-le-sum_by, count_by-le-length, get_or-le-sum_by}
-use Rattle.lisp_records.specs.declared.address.Addr.{Addr}
 use Rattle.lisp_log.specs.declared.repeats.Repeat.{Repeat}
 use Rattle.lisp_log.specs.declared.repeats.Repeated.{Repeated}
 use Rattle.lisp_log.specs.declared.repeats.Source.{Source}
 use Rattle.lisp_log.specs.declared.repeats.Source.TheVariants.{Address, Others}
-use Rattle.lisp_log.specs.Repeats.{Event, Leaves, IsCounted, Notes, TellsOf, most_addresses, most_entries}
+use Rattle.lisp_log.specs.Repeats.{Event, Leaves, Notes, TellsOf, most_addresses, most_entries}
 use Rattle.lisp_log.specs.Text.{repeat_text}
 use Rattle.lisp_log.specs.Log.{Sum, sum_of, sums}
 use Rattle.lisp_log.specs.Sums.{names_one, repeated_eq, WasTold}
