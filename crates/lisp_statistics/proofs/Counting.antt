@@ -1,7 +1,19 @@
 -- One more row.
 use Rattle.std.proofs.Common.{◌≡◌, ℕ, ◌+◌, ◌-◌, ◌^◌, ◌<◌, ◌≤◌, min, Bool, true, false, cond, List, [], ◌∷◌, ◌++◌, length, get_or, take, drop, Option, Some, None, refl, sym, ap, ◌∙◌, append_assoc, arith}
+use Rattle.std.specs.Prelude.{◌==◌}
+use Rattle.std.specs.Cmp.{Equal-is}
+use Rattle.std.specs.Ordering.{eq_by_cmp}
+use Rattle.std.specs.BTreeMap.{BTreeMap, get}
+use Rattle.std.specs.Option.{unwrap_or}
 use Rattle.std.specs.List.{flat_map}
+use Rattle.std.proofs.Math.Nat.{min-eq_left}
 use Rattle.std.proofs.lemmas.List.{drop_more, flat_map_more, length-take-le, take_more}
+use Rattle.std.proofs.lemmas.List.Sums.{count_by-le-length, count_by_more_yes, count_by_more_no}
+use Rattle.lisp_lookup.proofs.Orders.{same_router}
+use Rattle.lisp_records.specs.declared.router.RouterId.{RouterId}
+use Rattle.lisp_records.specs.Router.{router_cmp}
+use Rattle.lisp_records.specs.Row.{RowValue}
+use Rattle.lisp_statistics.specs.Routers.{rows_of, rows_in, CountsRows, AddsRow}
 
 pub ruleset steps = (append_assoc)
 

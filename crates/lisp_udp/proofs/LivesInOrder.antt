@@ -9,22 +9,23 @@ use Rattle.lisp_turns.specs.Stretch.{EndsTurns}
 use Rattle.lisp_turns.specs.declared.turn.Uncommitted.{Uncommitted}
 use Rattle.lisp_udp.specs.Running.{at_first, TakesItsTurns}
 use Rattle.lisp_udp.specs.declared.life.Life.{Life}
+use Rattle.lisp_udp.specs.declared.resolving.Answering.{Answering}
 use Rattle.lisp_udp.specs.Lives.{SaysRestarted, LosesLife, LosesLives, Lives}
 
 -- a life that begins over the store, and ends
-pub record OneLife (A : Type 0) (config : ConfigValue) (number : ℕ) (store : StoreState) (places quiet turns : ℕ) (old new : OutsideState) (ended : Result (Unit {0}) Uncommitted) : Type 0 where
+pub record OneLife (A : Type 0) (config : ConfigValue) (number : ℕ) (store : StoreState) (places : ℕ) (answering : Answering) (turns : ℕ) (old new : OutsideState) (ended : Result (Unit {0}) Uncommitted) : Type 0 where
   pub begun : NodeState
   pub node : NodeState
   pub begins : Begins config number store begun
-  pub ends : EndsTurns A config number places turns begun node (at_first quiet) old new ended
+  pub ends : EndsTurns A config number places turns begun node (at_first answering) old new ended
 
 -- lives that were lost, and one behind them
-pub record SoFar (A : Type 0) (config : ConfigValue) (number : ℕ) (store : StoreState) (places quiet turns : ℕ) (old new : OutsideState) (ended : Result (Unit {0}) Uncommitted) : Type 0 where
+pub record SoFar (A : Type 0) (config : ConfigValue) (number : ℕ) (store : StoreState) (places : ℕ) (answering : Answering) (turns : ℕ) (old new : OutsideState) (ended : Result (Unit {0}) Uncommitted) : Type 0 where
   pub count : ℕ
   pub left : ℕ
   pub between : OutsideState
-  pub lost : LosesLives A config number store places quiet turns left count old between
-  pub life : OneLife A config number store places quiet left between new ended
+  pub lost : LosesLives A config number store places answering turns left count old between
+  pub life : OneLife A config number store places answering left between new ended
 
 -- how many turns are left, and one more; none where the last life took all
 abbrev pub left_of : Result (Unit {0}) Uncommitted → ℕ
@@ -32,18 +33,18 @@ left_of (Ok _) = zero
 left_of (Err lost) = suc lost.turns_left
 
 -- the life that was lost says so
-lost_life : {A : Type 0} {config : ConfigValue} {number : ℕ} {store : StoreState} {places quiet left : ℕ} {lost : Uncommitted} {between over new : OutsideState}
-    → OneLife A config number store places quiet left between over (Err lost) → SaysRestarted number over new → LosesLife A config number store places quiet left lost.turns_left between new
-lost_life {A} {config} {number} {store} {places} {quiet} {left} {lost} {between} {over} life says =
+lost_life : {A : Type 0} {config : ConfigValue} {number : ℕ} {store : StoreState} {places : ℕ} {answering : Answering} {left : ℕ} {lost : Uncommitted} {between over new : OutsideState}
+    → OneLife A config number store places answering left between over (Err lost) → SaysRestarted number over new → LosesLife A config number store places answering left lost.turns_left between new
+lost_life {A} {config} {number} {store} {places} {answering} {left} {lost} {between} {over} life says =
     record { begun = life.begun; begins = life.begins; lost = over; loses = life.ends; says = says }
 
-module _ {A : Type 0} {config : ConfigValue} {number : ℕ} {store : StoreState} {places quiet turns : ℕ} {old : OutsideState} where
-  pub first : {new : OutsideState} {ended : Result (Unit {0}) Uncommitted} → OneLife A config number store places quiet turns old new ended → SoFar A config number store places quiet turns old new ended
+module _ {A : Type 0} {config : ConfigValue} {number : ℕ} {store : StoreState} {places : ℕ} {answering : Answering} {turns : ℕ} {old : OutsideState} where
+  pub first : {new : OutsideState} {ended : Result (Unit {0}) Uncommitted} → OneLife A config number store places answering turns old new ended → SoFar A config number store places answering turns old new ended
   first life = record { count = zero; left = turns; between = old; lost = (refl, refl); life = life }
 
-  pub one_more : {lost : Uncommitted} {over rested new : OutsideState} {ended : Result (Unit {0}) Uncommitted} → SoFar A config number store places quiet turns old over (Err lost)
-      → SaysRestarted number over rested → rested.is_cut ≡ false → OneLife A config number store places quiet lost.turns_left rested new ended
-      → SoFar A config number store places quiet turns old new ended
+  pub one_more : {lost : Uncommitted} {over rested new : OutsideState} {ended : Result (Unit {0}) Uncommitted} → SoFar A config number store places answering turns old over (Err lost)
+      → SaysRestarted number over rested → rested.is_cut ≡ false → OneLife A config number store places answering lost.turns_left rested new ended
+      → SoFar A config number store places answering turns old new ended
   one_more {lost} {over} {rested} so_far says uncut life = record {
     count = suc so_far.count;
     left = lost.turns_left;
@@ -52,7 +53,7 @@ module _ {A : Type 0} {config : ConfigValue} {number : ℕ} {store : StoreState}
     life = life;
   }
 
-  pub all_taken : {new : OutsideState} {done : Unit {0}} → SoFar A config number store places quiet turns old new (Ok done) → Lives A config number store places quiet turns old new
+  pub all_taken : {new : OutsideState} {done : Unit {0}} → SoFar A config number store places answering turns old new (Ok done) → Lives A config number store places answering turns old new
   all_taken so_far = record {
     count = so_far.count;
     left = so_far.left;
@@ -61,8 +62,8 @@ module _ {A : Type 0} {config : ConfigValue} {number : ℕ} {store : StoreState}
     last = inl (record { begun = so_far.life.begun; begins = so_far.life.begins; node = so_far.life.node; takes = so_far.life.ends });
   }
 
-  pub cut_off : {lost : Uncommitted} {over new : OutsideState} → SoFar A config number store places quiet turns old over (Err lost) → SaysRestarted number over new
-      → new.is_cut ≡ true → Lives A config number store places quiet turns old new
+  pub cut_off : {lost : Uncommitted} {over new : OutsideState} → SoFar A config number store places answering turns old over (Err lost) → SaysRestarted number over new
+      → new.is_cut ≡ true → Lives A config number store places answering turns old new
   cut_off {lost} so_far says cut = record {
     count = so_far.count;
     left = so_far.left;
@@ -72,40 +73,40 @@ module _ {A : Type 0} {config : ConfigValue} {number : ℕ} {store : StoreState}
   }
 
 -- fewer turns are left behind a life than it had
-pub fewer : {A : Type 0} {config : ConfigValue} {number : ℕ} {store : StoreState} {places quiet turns : ℕ} {old new : OutsideState} (ended : Result (Unit {0}) Uncommitted)
-    → OneLife A config number store places quiet turns old new ended → left_of ended < suc turns
+pub fewer : {A : Type 0} {config : ConfigValue} {number : ℕ} {store : StoreState} {places : ℕ} {answering : Answering} {turns : ℕ} {old new : OutsideState} (ended : Result (Unit {0}) Uncommitted)
+    → OneLife A config number store places answering turns old new ended → left_of ended < suc turns
 fewer (Ok _) life = omega (arith)
 fewer (Err lost) life = let counted = life.ends.counted in omega (arith, counted)
 
-pub lives_fewer : (A : Type 0) (config : ConfigValue) (number : ℕ) (store : StoreState) (places quiet : ℕ) {O : Type 0} (seen : O → OutsideState) (rested : O) (life : Life O)
+pub lives_fewer : (A : Type 0) (config : ConfigValue) (number : ℕ) (store : StoreState) (places : ℕ) (answering : Answering) {O : Type 0} (seen : O → OutsideState) (rested : O) (life : Life O)
     {ended : Result (Unit {0}) Uncommitted} {lost : Uncommitted} → ended ≡ Err lost
-    → TakesItsTurns {F = Unit {0}} A seen config number store places quiet lost.turns_left (Ok rested) (Ok life) → left_of life.ended < left_of ended
-lives_fewer A config number store places quiet seen rested life is took =
+    → TakesItsTurns {F = Unit {0}} A seen config number store places answering lost.turns_left (Ok rested) (Ok life) → left_of life.ended < left_of ended
+lives_fewer A config number store places answering seen rested life is took =
     rw is (fewer life.ended (record { begun = took.0; node = took.1; begins = took.2; ends = took.3 }))
 
 -- In what follows `seen` is what is known of what is outside, and it was given at the start, unless it failed.
-module _ (A : Type 0) (config : ConfigValue) (number : ℕ) (store : StoreState) (places quiet turns : ℕ) {O F : Type 0} (seen : O → OutsideState) where
-  pub starts_lives : (life : Life O) (outside : Result O F) → TakesItsTurns A seen config number store places quiet turns outside (Ok life)
-      → IfOk outside (λ before. SoFar A config number store places quiet turns (seen before) (seen life.outside) life.ended)
+module _ (A : Type 0) (config : ConfigValue) (number : ℕ) (store : StoreState) (places : ℕ) (answering : Answering) (turns : ℕ) {O F : Type 0} (seen : O → OutsideState) where
+  pub starts_lives : (life : Life O) (outside : Result O F) → TakesItsTurns A seen config number store places answering turns outside (Ok life)
+      → IfOk outside (λ before. SoFar A config number store places answering turns (seen before) (seen life.outside) life.ended)
   starts_lives life (Ok before) took = first (record { begun = took.0; node = took.1; begins = took.2; ends = took.3 })
   starts_lives life (Err fault) took = tt
 
   pub lives_on : (rested : O) (life : Life O) {ended : Result (Unit {0}) Uncommitted} {lost : Uncommitted} {over : OutsideState} (outside : Result O F)
-      → IfOk outside (λ before. SoFar A config number store places quiet turns (seen before) over ended) → ended ≡ Err lost → SaysRestarted number over (seen rested)
-      → (seen rested).is_cut ≡ false → TakesItsTurns {F = F} A seen config number store places quiet lost.turns_left (Ok rested) (Ok life)
-      → IfOk outside (λ before. SoFar A config number store places quiet turns (seen before) (seen life.outside) life.ended)
+      → IfOk outside (λ before. SoFar A config number store places answering turns (seen before) over ended) → ended ≡ Err lost → SaysRestarted number over (seen rested)
+      → (seen rested).is_cut ≡ false → TakesItsTurns {F = F} A seen config number store places answering lost.turns_left (Ok rested) (Ok life)
+      → IfOk outside (λ before. SoFar A config number store places answering turns (seen before) (seen life.outside) life.ended)
   lives_on rested life (Ok before) so_far is says uncut took =
       one_more (rw is at so_far) says uncut (record { begun = took.0; node = took.1; begins = took.2; ends = took.3 })
   lives_on rested life (Err fault) so_far is says uncut took = tt
 
   pub ends_cut : {ended : Result (Unit {0}) Uncommitted} {lost : Uncommitted} {over : OutsideState} {rested : O} (outside : Result O F)
-      → IfOk outside (λ before. SoFar A config number store places quiet turns (seen before) over ended) → ended ≡ Err lost → SaysRestarted number over (seen rested)
-      → (seen rested).is_cut ≡ true → IfOk outside (λ before. Lives A config number store places quiet turns (seen before) (seen rested))
+      → IfOk outside (λ before. SoFar A config number store places answering turns (seen before) over ended) → ended ≡ Err lost → SaysRestarted number over (seen rested)
+      → (seen rested).is_cut ≡ true → IfOk outside (λ before. Lives A config number store places answering turns (seen before) (seen rested))
   ends_cut (Ok before) so_far is says cut = cut_off (rw is at so_far) says cut
   ends_cut (Err fault) so_far is says cut = tt
 
   pub ends_all : {ended : Result (Unit {0}) Uncommitted} {done : Unit {0}} (after : O) (outside : Result O F)
-      → IfOk outside (λ before. SoFar A config number store places quiet turns (seen before) (seen after) ended) → ended ≡ Ok done
-      → IfOk outside (λ before. Lives A config number store places quiet turns (seen before) (seen after))
+      → IfOk outside (λ before. SoFar A config number store places answering turns (seen before) (seen after) ended) → ended ≡ Ok done
+      → IfOk outside (λ before. Lives A config number store places answering turns (seen before) (seen after))
   ends_all after (Ok before) so_far is = all_taken (rw is at so_far)
   ends_all after (Err fault) so_far is = tt

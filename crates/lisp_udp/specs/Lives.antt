@@ -11,6 +11,7 @@ use Rattle.lisp_turns.specs.Stretch.{StartsTurns, beginning}
 use Rattle.lisp_turns.specs.Turn.{LosesTurn}
 use Rattle.lisp_turns.specs.declared.outside.Printed.TheVariants as printed
 use Rattle.lisp_udp.specs.Running.{at_first}
+use Rattle.lisp_udp.specs.declared.resolving.Answering.{Answering}
 
 -- a node says that it restarted, and a second passes
 pub record SaysRestarted (number : ℕ) (old new : OutsideState) : Type 0 where
@@ -18,35 +19,35 @@ pub record SaysRestarted (number : ℕ) (old new : OutsideState) : Type 0 where
   pub line : LogsLine old said (printed.Event (lines.Restarted number))
   pub rests : Logs said new (Waits second)
 
--- In what follows each life begins over this store, is starting for so many quiet ms, and has a budget of which nothing is used.
+-- In what follows each life begins over this store, answers Map-Requests as the node's user says, and has a budget of which nothing is used.
 
 -- a life whose last turn is lost, with so many turns left behind it: it says at its end that it restarted
-pub record LosesLife (A : Type 0) (config : ConfigValue) (number : ℕ) (store : StoreState) (places quiet turns left : ℕ) (old new : OutsideState) : Type 0 where
+pub record LosesLife (A : Type 0) (config : ConfigValue) (number : ℕ) (store : StoreState) (places : ℕ) (answering : Answering) (turns left : ℕ) (old new : OutsideState) : Type 0 where
   pub begun : NodeState
   pub begins : Begins config number store begun
   pub lost : OutsideState
-  pub loses : LosesTurn A config number places turns left (beginning begun (at_first quiet) old) lost
+  pub loses : LosesTurn A config number places turns left (beginning begun (at_first answering) old) lost
   pub says : SaysRestarted number lost new
 
 -- a life that takes all its turns, or fewer where a line couldn't be printed
-pub record EndsLife (A : Type 0) (config : ConfigValue) (number : ℕ) (store : StoreState) (places quiet turns : ℕ) (old new : OutsideState) : Type 0 where
+pub record EndsLife (A : Type 0) (config : ConfigValue) (number : ℕ) (store : StoreState) (places : ℕ) (answering : Answering) (turns : ℕ) (old new : OutsideState) : Type 0 where
   pub begun : NodeState
   pub begins : Begins config number store begun
   pub node : NodeState
-  pub takes : StartsTurns A config number places turns begun node (at_first quiet) old new
+  pub takes : StartsTurns A config number places turns begun node (at_first answering) old new
 
 -- so many lives whose last turn is lost, one behind the other: each takes the turns that the one before left
-abbrev pub LosesLives : Type 0 → ConfigValue → ℕ → StoreState → (places quiet turns left : ℕ) → ℕ → OutsideState → OutsideState → Type 0
-LosesLives A config number store places quiet turns left zero old new = (left ≡ turns) × (new ≡ old)
-LosesLives A config number store places quiet turns left (suc n) old new = (more : ℕ) × (between : OutsideState) × LosesLives A config number store places quiet turns more n old between
-    × LosesLife A config number store places quiet more left between new × (new.is_cut ≡ false)
+abbrev pub LosesLives : Type 0 → ConfigValue → ℕ → StoreState → (places : ℕ) (answering : Answering) (turns left : ℕ) → ℕ → OutsideState → OutsideState → Type 0
+LosesLives A config number store places answering turns left zero old new = (left ≡ turns) × (new ≡ old)
+LosesLives A config number store places answering turns left (suc n) old new = (more : ℕ) × (between : OutsideState) × LosesLives A config number store places answering turns more n old between
+    × LosesLife A config number store places answering more left between new × (new.is_cut ≡ false)
 
 -- All lives: those whose last turn is lost, and one behind them. That takes the turns that are left; or its last turn is lost, too,
 -- and the line that says so couldn't be printed.
-pub record Lives (A : Type 0) (config : ConfigValue) (number : ℕ) (store : StoreState) (places quiet turns : ℕ) (old new : OutsideState) : Type 0 where
+pub record Lives (A : Type 0) (config : ConfigValue) (number : ℕ) (store : StoreState) (places : ℕ) (answering : Answering) (turns : ℕ) (old new : OutsideState) : Type 0 where
   pub count : ℕ
   pub left : ℕ
   pub between : OutsideState
-  pub lost : LosesLives A config number store places quiet turns left count old between
-  pub last : EndsLife A config number store places quiet left between new
-      ⊎ ((unused : ℕ) × LosesLife A config number store places quiet left unused between new × (new.is_cut ≡ true))
+  pub lost : LosesLives A config number store places answering turns left count old between
+  pub last : EndsLife A config number store places answering left between new
+      ⊎ ((unused : ℕ) × LosesLife A config number store places answering left unused between new × (new.is_cut ≡ true))

@@ -65,6 +65,7 @@ mod network;
 mod subject;
 
 pub use network::run_loop;
+pub use resolving::Answering;
 pub use router::{keep_router_running, run_router};
 pub use server::{keep_server_running, run_server};
 pub use storage::Storage;

@@ -7,7 +7,7 @@ ghost use Rattle.lisp_turns.specs.Node.{IsPlaced};
 ghost use Rattle.lisp_sites.specs.Numbers.{IsNode};
 ghost use Rattle.lisp_udp.specs.Running.{RunsOver, TakesItsTurns};
 
-use crate::resolving::resolving;
+use crate::resolving::{Answering, resolving};
 use crate::router::start_router;
 use crate::server::start_server;
 use lisp_memory::Memory;
@@ -28,8 +28,8 @@ pub(crate) struct Life<O> {
     pub(crate) ended: Result<(), Uncommitted>,
 }
 
-/// Runs the node with a number over its store, in so many turns of so many datagrams: a Map-Server that holds nothing and is starting for
-/// `quiet` ms, or a router that starts at 0 ms. Faults: those of the start, then that of what is outside, then 97.
+/// Runs the node with a number over its store, in so many turns of so many datagrams: a Map-Server that holds nothing, or a router
+/// that starts at 0 ms. Faults: those of the start, then that of what is outside, then 97.
 pub(crate) fn run_over<
     S: WorldStore + Drop,
     O: Endpoint + Requests + Clock + Commit + Lines + Control + Drop,
@@ -39,22 +39,26 @@ pub(crate) fn run_over<
     number: usize,
     store: S,
     places: usize,
-    quiet: u64,
+    answering: Answering,
     turns: u64,
     outside: Result<O, RunFault>,
 ) -> Result<Life<O>, RunFault>
     requires { IsNode config.now number }
     ensures part { RunsOver O.seen config.now number (S.seen store) outside result }
     ensures turns { TakesItsTurns Global O.seen config.now number
-        (S.seen store) places quiet turns outside result }
+        (S.seen store) places answering turns outside result }
     ensures device { IfErr outside (λ fault. IsErr result) }
 {
     if config.is_server(number) {
         let server = start_server(alloc, config, number, store);
-        run_at(alloc, config, number, server, places, quiet, turns, outside)
+        run_at(
+            alloc, config, number, server, places, answering, turns, outside,
+        )
     } else {
         let router = start_router(alloc, config, number, store);
-        run_at(alloc, config, number, router, places, quiet, turns, outside)
+        run_at(
+            alloc, config, number, router, places, answering, turns, outside,
+        )
     }
 }
 
@@ -68,7 +72,7 @@ pub(crate) fn run_at<
     number: usize,
     node: Result<N, RunFault>,
     places: usize,
-    quiet: u64,
+    answering: Answering,
     turns: u64,
     outside: Result<O, RunFault>,
 ) -> Result<Life<O>, RunFault>
@@ -78,7 +82,7 @@ pub(crate) fn run_at<
         → RunsOver O.seen config.now number store outside result }
     ensures turns { (store : StoreState)
         → IfOk node (λ n. Begins config.now number store (N.state n))
-        → TakesItsTurns Global O.seen config.now number store places quiet turns outside result }
+        → TakesItsTurns Global O.seen config.now number store places answering turns outside result }
     ensures start { IfErr node (λ fault. result ≡ Err fault) }
     ensures device { OnOk node (IfErr outside (λ fault. result ≡ Err fault)) }
     ensures memory { OnOk node (OnOk outside (OnErr result ⟦<Global as Memory>⟧.may_refuse)) }
@@ -86,7 +90,7 @@ pub(crate) fn run_at<
     let mut node = node?;
     let mut outside = outside?;
     let place = Place { config, number };
-    let resolving = resolving(alloc, quiet)?;
+    let resolving = resolving(alloc, answering)?;
     let ended = take_turns(
         alloc,
         &mut node,

@@ -6,6 +6,7 @@ ghost use Rattle.lisp_udp.specs.Lives.{Lives, SaysRestarted};
 ghost use Rattle.lisp_sites.specs.Numbers.{IsMapServer};
 
 use crate::life::run_at;
+use crate::resolving::Answering;
 use crate::server::start_server;
 use lisp_database_store::{SharedDatabase, SystemTable};
 use lisp_model::Line;
@@ -17,8 +18,7 @@ use std::alloc::Global;
 /// How long a node rests before it begins anew, in ms.
 const REST_MS: u64 = 1_000;
 
-/// Runs the Map-Server with a number over a store in the database, in so many turns of so many datagrams; each life is starting for
-/// `quiet` ms. Where a turn couldn't be
+/// Runs the Map-Server with a number over a store in the database, in so many turns of so many datagrams. Where a turn couldn't be
 /// committed, it says that it restarted, rests, and begins anew over a store in that database, with the turns that are left: as a
 /// crash would have it. What is outside is given back. Faults: those of the start, then that of what is outside, then 97; at a later start 97.
 pub(crate) fn live<
@@ -30,18 +30,20 @@ pub(crate) fn live<
     number: usize,
     database: &SharedDatabase<'_, T>,
     places: usize,
-    quiet: u64,
+    answering: Answering,
     turns: u64,
     outside: Result<O, RunFault>,
 ) -> Result<O, RunFault>
     requires { IsMapServer config.now number }
     ensures { IfOk outside (λ before. IfOk result
-        (λ after. Lives Global config.now number shared_store places quiet turns (O.seen before)
+        (λ after. Lives Global config.now number shared_store places answering turns (O.seen before)
         (O.seen after))) }
 {
     let store = database.store();
     let server = start_server(alloc, config, number, store);
-    let mut life = run_at(alloc, config, number, server, places, quiet, turns, outside)?;
+    let mut life = run_at(
+        alloc, config, number, server, places, answering, turns, outside,
+    )?;
     while let Err(Uncommitted { turns_left }) = life.ended {
         let mut outside = life.outside;
         rest(number, &mut outside);
@@ -56,7 +58,7 @@ pub(crate) fn live<
             number,
             server,
             places,
-            quiet,
+            answering,
             turns_left,
             Ok(outside),
         )?;

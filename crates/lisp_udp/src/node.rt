@@ -13,6 +13,7 @@ use crate::life::run_over;
 use crate::line_writer::LineWriter;
 use crate::lives::live;
 use crate::printer::Printer;
+use crate::resolving::Answering;
 use crate::save_times::{SaveTimes, TimedStore};
 use crate::storage::{NodeStore, Storage};
 use lisp_database_store::{DatabaseStore, SharedDatabase, SystemTable};
@@ -36,8 +37,8 @@ pub(crate) struct NodeStart<'a> {
     pub(crate) storage: Storage,
     /// The folder in which it is asked; `None` where that is its own.
     pub(crate) control: Option<&'a str>,
-    /// For how many ms of each life a Map-Server is starting.
-    pub(crate) quiet: u64,
+    /// How it answers Map-Requests.
+    pub(crate) answering: Answering,
 }
 
 /// Runs a node of a configuration for so many turns, as `run_server` and `run_router` do, with the file or the folder that
@@ -57,7 +58,15 @@ pub(crate) fn run<T: SystemTable, W: Write>(
     let control = folder.control(rt, node.control, asked_node(rt, config, number, name));
     let printer = LineWriter::new(rt.alloc(), config, name, writer);
     let printer = run_in_store(
-        rt, config, number, store, &failure, control, node.quiet, turns, printer,
+        rt,
+        config,
+        number,
+        store,
+        &failure,
+        control,
+        node.answering,
+        turns,
+        printer,
     )?;
     Ok(printer.end()?)
 }
@@ -86,7 +95,7 @@ pub(crate) fn keep_running<T: SystemTable>(
         store,
         &failure,
         control,
-        node.quiet,
+        node.answering,
         u64::MAX,
         journal,
     )?;
@@ -117,7 +126,7 @@ fn run_in_store<T: SystemTable, P: Printer + Drop>(
     store: NodeStore<'_, T>,
     failure: &Cell<Option<ErrorKind>>,
     control: Option<ControlSocket<'_>>,
-    quiet: u64,
+    answering: Answering,
     turns: u64,
     printer: P,
 ) -> Result<P, RunFault>
@@ -127,18 +136,18 @@ fn run_in_store<T: SystemTable, P: Printer + Drop>(
     let is_server = config.is_server(number);
     match store {
         NodeStore::Files(store) => run_alone::<T, _, P>(
-            rt, config, number, store, &saves, control, quiet, turns, printer,
+            rt, config, number, store, &saves, control, answering, turns, printer,
         ),
         NodeStore::Database { database, group } if is_server && group > 1 => {
             let database = SharedDatabase::over(database, failure);
             run_in_groups(
-                rt, config, number, &database, group, &saves, control, quiet, turns, printer,
+                rt, config, number, &database, group, &saves, control, answering, turns, printer,
             )
         }
         NodeStore::Database { database, .. } => {
             let store = DatabaseStore::over(database, failure);
             run_alone::<T, _, P>(
-                rt, config, number, store, &saves, control, quiet, turns, printer,
+                rt, config, number, store, &saves, control, answering, turns, printer,
             )
         }
     }
@@ -152,7 +161,7 @@ fn run_alone<'a, T: SystemTable, S: WorldStore + Drop, P: Printer + Drop>(
     store: S,
     saves: &'a SaveTimes<'a, HostRuntime>,
     control: Option<ControlSocket<'a>>,
-    quiet: u64,
+    answering: Answering,
     turns: u64,
     printer: P,
 ) -> Result<P, RunFault>
@@ -162,7 +171,16 @@ fn run_alone<'a, T: SystemTable, S: WorldStore + Drop, P: Printer + Drop>(
     let address = entry_at(config, number).address;
     let devices = Devices::<_, T, _>::open(rt, address, inbox, None, control, saves, printer);
     let store = TimedStore::over(store, saves);
-    let life = run_over(rt.alloc(), config, number, store, 1, quiet, turns, devices)?;
+    let life = run_over(
+        rt.alloc(),
+        config,
+        number,
+        store,
+        1,
+        answering,
+        turns,
+        devices,
+    )?;
     Ok(life.outside.into_printer())
 }
 
@@ -175,7 +193,7 @@ fn run_in_groups<'a, T: SystemTable, P: Printer + Drop>(
     places: u8,
     saves: &'a SaveTimes<'a, HostRuntime>,
     control: Option<ControlSocket<'a>>,
-    quiet: u64,
+    answering: Answering,
     turns: u64,
     printer: P,
 ) -> Result<P, RunFault>
@@ -191,7 +209,7 @@ fn run_in_groups<'a, T: SystemTable, P: Printer + Drop>(
         number,
         database,
         places,
-        quiet,
+        answering,
         turns,
         devices,
     )?;

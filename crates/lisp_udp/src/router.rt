@@ -6,6 +6,7 @@ ghost use Rattle.lisp_turns.specs.Node.{Router};
 ghost use Rattle.lisp_sites.specs.Numbers.{node_count};
 ghost use Rattle.lisp_world.specs.Making.{HasStarted};
 
+use crate::resolving::Answering;
 use crate::storage::Storage;
 use crate::subject::{Stretch, Subject, run_subject};
 use lisp_database_store::SystemTable;
@@ -41,6 +42,7 @@ pub fn run_router<T: SystemTable, W: Write>(
         name,
         stretch: Stretch::Turns(turns),
         control: None,
+        answering: Answering::USUAL,
     };
     run_subject::<T, W>(rt, config, dir, storage, subject, writer)?;
     Ok(())
@@ -64,6 +66,7 @@ pub fn keep_router_running<T: SystemTable>(
         name,
         stretch: Stretch::Endless { is_known },
         control: None,
+        answering: Answering::USUAL,
     };
     run_subject::<T, _>(rt, config, dir, storage, subject, &mut io::sink())?;
     Ok(())

@@ -4,12 +4,12 @@ ghost use Rattle.std.specs.Prelude.{◌<◌, IfOk, length};
 ghost use Rattle.lisp_turns.specs.Beginning.{Begins};
 ghost use Rattle.lisp_turns.specs.Node.{Server};
 
+use crate::resolving::Answering;
 use crate::storage::Storage;
 use crate::subject::{Stretch, Subject, run_subject};
 use lisp_database_store::SystemTable;
 use lisp_nodes::ServerNode;
 use lisp_nonces::WorldStore;
-use lisp_replies::QUIET;
 use lisp_script::RunFault;
 use lisp_sites::Config;
 use std::alloc::Global;
@@ -43,7 +43,7 @@ pub fn run_server<T: SystemTable, W: Write>(
         name,
         stretch: Stretch::Turns(turns),
         control: None,
-        quiet: QUIET,
+        answering: Answering::USUAL,
     };
     run_subject::<T, W>(rt, config, dir, storage, subject, writer)?;
     Ok(())
@@ -67,7 +67,7 @@ pub fn keep_server_running<T: SystemTable>(
         name,
         stretch: Stretch::Endless { is_known },
         control: None,
-        quiet: QUIET,
+        answering: Answering::USUAL,
     };
     run_subject::<T, _>(rt, config, dir, storage, subject, &mut io::sink())?;
     Ok(())

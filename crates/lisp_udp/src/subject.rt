@@ -3,10 +3,10 @@
 use crate::entry::NodeKind;
 use crate::network::run_network;
 use crate::node::{NodeStart, keep_running, run};
+use crate::resolving::Answering;
 use crate::storage::Storage;
 use lisp_database_store::SystemTable;
 use lisp_files::{Ending, read_config};
-use lisp_replies::QUIET;
 use std::io::Write;
 
 /// What runs on sockets.
@@ -20,8 +20,8 @@ pub enum Subject<'a> {
         stretch: Stretch,
         /// The folder in which it is asked; `None` where that is its own.
         control: Option<&'a str>,
-        /// For how many ms of each life it is starting: it replies to Map-Requests with no prefix that may be wrong then.
-        quiet: u64,
+        /// How it answers Map-Requests.
+        answering: Answering,
     },
     /// The site router with a name.
     Router {
@@ -31,6 +31,8 @@ pub enum Subject<'a> {
         stretch: Stretch,
         /// The folder in which it is asked; `None` where that is its own.
         control: Option<&'a str>,
+        /// How it answers Map-Requests.
+        answering: Answering,
     },
     /// The whole network, which a script drives.
     Network {
@@ -64,18 +66,19 @@ pub fn run_subject<T: SystemTable, W: Write>(
     writer: &mut W,
 ) -> Result<(), Ending> {
     let config = read_config(rt, config)?;
-    let (kind, name, stretch, control, quiet) = match subject {
+    let (kind, name, stretch, control, answering) = match subject {
         Subject::Server {
             name,
             stretch,
             control,
-            quiet,
-        } => (NodeKind::Server, name, stretch, control, quiet),
+            answering,
+        } => (NodeKind::Server, name, stretch, control, answering),
         Subject::Router {
             name,
             stretch,
             control,
-        } => (NodeKind::Router, name, stretch, control, QUIET),
+            answering,
+        } => (NodeKind::Router, name, stretch, control, answering),
         Subject::Network { script } => {
             return run_network::<T, W>(rt, &config, script, dir, storage, writer);
         }
@@ -86,7 +89,7 @@ pub fn run_subject<T: SystemTable, W: Write>(
         dir,
         storage,
         control,
-        quiet,
+        answering,
     };
     match stretch {
         Stretch::Turns(turns) => run::<T, W>(rt, &config, node, u64::from(turns), writer),

@@ -1,4 +1,4 @@
-use Rattle.std.proofs.Common.{ℕ, Some, ap, subst}
+use Rattle.std.proofs.Common.{◌≡◌, ℕ, Option, Some, ap, subst}
 use Rattle.std.specs.Option.{option_map}
 use Rattle.lisp_lines.specs.Walk.{LooksAt}
 use Rattle.lisp_lines.specs.declared.walk.Walk.{Walk}
