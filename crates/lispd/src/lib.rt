@@ -21,8 +21,8 @@ pub use lisp_refusals::{ExplainFault, explain, explain_all};
 pub use lisp_script::{InputFault, PlayFault, RunFault};
 pub use lisp_sqlite::{Sqlite, Task, run_task};
 pub use lisp_udp::{
-    Storage, Stretch, Subject, keep_router_running, keep_server_running, run_loop, run_router,
-    run_server, run_subject,
+    Answering, Storage, Stretch, Subject, keep_router_running, keep_server_running, run_loop,
+    run_router, run_server, run_subject,
 };
 pub use lispd_cli::{
     AnswerOption, Failure, ProgramFault, SetupFault, check_config, command, report, setup,

@@ -6,7 +6,7 @@ use lisp_picture::{Form, draw};
 use lisp_player::{Untaken, play_noting};
 use lisp_script::PlayFault;
 use lisp_sqlite::Sqlite;
-use lisp_udp::{Storage, Stretch, Subject, run_subject};
+use lisp_udp::{Answering, Storage, Stretch, Subject, run_subject};
 use lispd_cli::{
     CONFIG, DATABASE, Errand, FILE, Failure, NodeWords, ProgramFault, STORE, TEXT, ask_node,
     is_given, look_up, node_words, run_alone, word,
@@ -84,8 +84,13 @@ fn node_run<'a>(kind: NodeKind, words: &ArgMatches<'a>) -> Result<Run<'a>, Progr
         has_database,
         group,
         quiet,
+        budget,
         control,
     } = node_words(words)?;
+    let answering = Answering {
+        quiet,
+        each: budget,
+    };
     let stretch = match turns {
         Some(turns) => Stretch::Turns(turns),
         None => Stretch::Endless { is_known },
@@ -94,7 +99,7 @@ fn node_run<'a>(kind: NodeKind, words: &ArgMatches<'a>) -> Result<Run<'a>, Progr
         config,
         dir,
         storage: storage(has_database, group),
-        subject: node(kind, name, stretch, control, quiet),
+        subject: node(kind, name, stretch, control, answering),
     })
 }
 
@@ -103,19 +108,20 @@ fn node<'a>(
     name: &'a str,
     stretch: Stretch,
     control: Option<&'a str>,
-    quiet: u64,
+    answering: Answering,
 ) -> Subject<'a> {
     match kind {
         NodeKind::Server => Subject::Server {
             name,
             stretch,
             control,
-            quiet,
+            answering,
         },
         NodeKind::Router => Subject::Router {
             name,
             stretch,
             control,
+            answering,
         },
     }
 }

@@ -14,7 +14,7 @@ use Rattle.lispd_cli.specs.declared.failure.Failure.{Failure}
 use Rattle.lispd_cli.specs.declared.fault.SetupFault.{SetupFault}
 use Rattle.lispd_cli.specs.declared.fault.SetupFault.TheVariants as setup_faults
 use Rattle.lispd_cli.specs.declared.fault.ProgramFault.{ProgramFault}
-use Rattle.lispd_cli.specs.declared.fault.ProgramFault.TheVariants.{Words, Setup, Answer, File, Play, Turns, Known, Group, GroupOfFiles, Quiet, Run, Explain, Unanswered, Refused, Question, Look, Warnings}
+use Rattle.lispd_cli.specs.declared.fault.ProgramFault.TheVariants.{Words, Setup, Answer, File, Play, Turns, Known, Group, GroupOfFiles, Quiet, Budget, Run, Explain, Unanswered, Refused, Question, Look, Warnings}
 
 abbrev pub setup_fault_number : SetupFault → ℕ
 setup_fault_number (setup_faults.BadOption _) = 98
@@ -35,6 +35,7 @@ program_fault_number Known = 98
 program_fault_number Group = 98
 program_fault_number GroupOfFiles = 98
 program_fault_number Quiet = 98
+program_fault_number Budget = 98
 program_fault_number (Run fault) = fault.number
 program_fault_number (Explain fault) = explain_fault_number fault
 program_fault_number Unanswered = 99
@@ -54,6 +55,7 @@ program_fault_status Known = 2
 program_fault_status Group = 2
 program_fault_status GroupOfFiles = 2
 program_fault_status Quiet = 2
+program_fault_status Budget = 2
 program_fault_status (Run fault) = run_status fault.number
 program_fault_status (Explain fault) = explain_fault_status fault
 program_fault_status Unanswered = 1

@@ -47,6 +47,15 @@ abbrev pub quiet_of : Option (List ℕ) → Option ℕ
 quiet_of None = Some 60000
 quiet_of (Some text) = quiet_below (number_of text)
 
+-- how many bytes a second go out for Map-Requests to each destination: a decimal number from 1024 to 262144; 4096 where it wasn't given
+abbrev pub budget_below : Option ℕ → Option ℕ
+budget_below None = None
+budget_below (Some bytes) = if nat_lt bytes 1024 then None else (if nat_lt 262144 bytes then None else Some bytes)
+
+abbrev pub budget_of : Option (List ℕ) → Option ℕ
+budget_of None = Some 4096
+budget_of (Some text) = budget_below (number_of text)
+
 -- each word is that which was given, in its form
 pub record ReadsNode (words : ArgMatches) (read : NodeWords) : Type 0 where
   pub config : read.config.now ≡ word_in words (codes "CONFIG")
@@ -57,4 +66,5 @@ pub record ReadsNode (words : ArgMatches) (read : NodeWords) : Type 0 where
   pub database : read.has_database ≡ is_given_in words (codes "database")
   pub group : group_of (option_in words (codes "group")) ≡ Some read.group
   pub quiet : quiet_of (option_in words (codes "quiet")) ≡ Some read.quiet
+  pub budget : budget_of (option_in words (codes "budget")) ≡ Some read.budget
   pub control : option_map (λ dir. dir.now) read.control ≡ option_in words (codes "control")

@@ -62,6 +62,9 @@ pub const GROUP: &str = "group";
 /// The option for how long after its start a Map-Server sends no negative Map-Reply.
 pub const QUIET: &str = "quiet";
 
+/// The option for how many bytes a second a node sends for Map-Requests to each destination.
+pub const BUDGET: &str = "budget";
+
 /// The option for the number of turns.
 pub const TURNS: &str = "turns";
 
@@ -159,6 +162,7 @@ default) to 64; only with --database",
                 help: "For how long after its start it sends no negative Map-Reply, since its routers may not have registered again yet, \
 from 0 to 3600; left out, 60",
             },
+            BUDGET_ARGUMENT,
             TURNS_ARGUMENT,
             KNOWN_ARGUMENT,
             CONTROL_ARGUMENT,
@@ -174,6 +178,7 @@ from 0 to 3600; left out, 60",
             NAME_ARGUMENT,
             STORE_ARGUMENT,
             DATABASE_ARGUMENT,
+            BUDGET_ARGUMENT,
             TURNS_ARGUMENT,
             KNOWN_ARGUMENT,
             CONTROL_ARGUMENT,
@@ -325,6 +330,14 @@ const DATABASE_ARGUMENT: Argument = Argument::Switch {
     name: DATABASE,
     help: "Keep the nonces of each node in a SQLite database there, nonces.db, which takes over those in files; left out, they \
 are in files",
+};
+
+const BUDGET_ARGUMENT: Argument = Argument::Value {
+    name: BUDGET,
+    letters: "BYTES",
+    is_required: false,
+    help: "How many bytes a second it sends for Map-Requests to each destination at most, from 1024 to 262144; left out, 4096. A \
+Map-Reply of more is never sent",
 };
 
 const TURNS_ARGUMENT: Argument = Argument::Value {

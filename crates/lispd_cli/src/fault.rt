@@ -90,6 +90,9 @@ pub enum ProgramFault {
     /// `--quiet` has another form than it takes.
     #[error("--quiet takes a whole number from 0 to 3600, in seconds")]
     Quiet,
+    /// `--budget` has another form than it takes.
+    #[error("--budget takes a whole number from 1024 to 262144, in bytes")]
+    Budget,
     /// A node or network on sockets and files ended before its end.
     #[error("the program stopped")]
     Run(RunFault),
@@ -114,7 +117,7 @@ pub enum ProgramFault {
 }
 
 impl ProgramFault {
-    /// The number that operators see: `Words`, `Turns`, `Known`, `Group`, `GroupOfFiles`, `Quiet` and `Question` 98, `File` 93,
+    /// The number that operators see: `Words`, `Turns`, `Known`, `Group`, `GroupOfFiles`, `Quiet`, `Budget` and `Question` 98, `File` 93,
     /// `Unanswered` 99, `Warnings` 25, or that of the fault or the refusal inside.
     pub const fn number(&self) -> u16
         ensures { result ≡ program_fault_number self.now }
@@ -126,6 +129,7 @@ impl ProgramFault {
             | ProgramFault::Group
             | ProgramFault::GroupOfFiles
             | ProgramFault::Quiet
+            | ProgramFault::Budget
             | ProgramFault::Question(_) => 98,
             ProgramFault::Setup(fault) => fault.number(),
             ProgramFault::Answer(fault) => fault.number(),
@@ -140,7 +144,7 @@ impl ProgramFault {
         }
     }
 
-    /// The exit status: `Words`, `Turns`, `Known`, `Group`, `GroupOfFiles`, `Quiet`, `Question` and `Warnings` 2, `Refused` 3,
+    /// The exit status: `Words`, `Turns`, `Known`, `Group`, `GroupOfFiles`, `Quiet`, `Budget`, `Question` and `Warnings` 2, `Refused` 3,
     /// `File` and `Unanswered` 1, or that of the fault inside.
     pub fn status(&self) -> u8
         ensures { result ≡ program_fault_status self.now }
@@ -152,6 +156,7 @@ impl ProgramFault {
             | ProgramFault::Group
             | ProgramFault::GroupOfFiles
             | ProgramFault::Quiet
+            | ProgramFault::Budget
             | ProgramFault::Question(_)
             | ProgramFault::Warnings => 2,
             ProgramFault::Setup(fault) => fault.status(),

@@ -37,8 +37,8 @@ mod words;
 pub use asking::{Errand, ask_node};
 pub use check::check_config;
 pub use command_line::{
-    CONFIG, CONTROL, DATABASE, FILE, FOLDER, GROUP, KNOWN, NAME, NUMBER, QUESTION, QUIET, STORE,
-    STRICT, TEXT, TURNS, WORDS, command,
+    BUDGET, CONFIG, CONTROL, DATABASE, FILE, FOLDER, GROUP, KNOWN, NAME, NUMBER, QUESTION, QUIET,
+    STORE, STRICT, TEXT, TURNS, WORDS, command,
 };
 pub use failure::Failure;
 pub use fault::{ProgramFault, SetupFault};

@@ -1,11 +1,11 @@
 //! The words of the command line, as `clap` matched them.
 
 ghost use Rattle.std.specs.Prelude.{◌≡◌, ◌≢◌, ◌≤◌, true, codes, Some, None, IfOk, IfSome};
-ghost use Rattle.lispd_cli.specs.Words.{word_in, is_given_in, option_in, turns_of, group_below, group_of, quiet_below, quiet_of, ReadsNode};
+ghost use Rattle.lispd_cli.specs.Words.{word_in, is_given_in, option_in, turns_of, group_below, group_of, quiet_below, quiet_of, budget_below, budget_of, ReadsNode};
 ghost use Rattle.lisp_texts.specs.Number.{number_of};
 
 use crate::command_line::{
-    CHECK, CONFIG, CONTROL, DATABASE, GROUP, KNOWN, NAME, QUIET, STORE, TURNS, WORDS,
+    BUDGET, CHECK, CONFIG, CONTROL, DATABASE, GROUP, KNOWN, NAME, QUIET, STORE, TURNS, WORDS,
 };
 use crate::fault::ProgramFault;
 use clap::ArgMatches;
@@ -19,6 +19,14 @@ const QUIET_LEFT_OUT: u64 = 60_000;
 
 /// The longest that it may be, in seconds.
 const LONGEST_QUIET: u64 = 3_600;
+
+/// How many bytes a second go to each destination where nobody says so.
+const BUDGET_LEFT_OUT: u32 = 4_096;
+
+/// The fewest and the most that they may be: all destinations together get no more.
+const LEAST_BUDGET: u64 = 1_024;
+
+const MOST_BUDGET: u64 = 262_144;
 
 /// A word that the subcommand requires.
 pub fn word<'a>(words: &ArgMatches<'a>, name: &str) -> &'a str
@@ -68,6 +76,8 @@ pub struct NodeWords<'a> {
     pub group: u8,
     /// For how long after its start a Map-Server sends no negative Map-Reply, in ms; a router has no such time.
     pub quiet: u64,
+    /// How many bytes a second it sends for Map-Requests to each destination, at most.
+    pub budget: u32,
     /// The folder in which it is asked; `None` where that is its own.
     pub control: Option<&'a str>,
 }
@@ -75,7 +85,7 @@ pub struct NodeWords<'a> {
 /// The words of `server` and `router`. Faults, all 98: `ProgramFault::Turns` where the turns have another form than they take,
 /// `ProgramFault::Known` where `--known` comes with them, `ProgramFault::Group` where the group has another form than it takes,
 /// `ProgramFault::GroupOfFiles` where `--group` comes without `--database`, `ProgramFault::Quiet` where `--quiet` has another form
-/// than it takes.
+/// than it takes, `ProgramFault::Budget` where `--budget` has.
 pub fn node_words<'a>(words: &ArgMatches<'a>) -> Result<NodeWords<'a>, ProgramFault>
     ensures words { IfOk result (ReadsNode words.now) }
     ensures known { IfOk result (λ w. w.is_known ≡ true → w.turns ≡ None) }
@@ -83,6 +93,7 @@ pub fn node_words<'a>(words: &ArgMatches<'a>) -> Result<NodeWords<'a>, ProgramFa
         → w.has_database ≡ true) }
     ensures group { IfOk result (λ w. (1 ≤ w.group) × (w.group ≤ 64)) }
     ensures quiet { IfOk result (λ w. w.quiet ≤ 3600000) }
+    ensures budget { IfOk result (λ w. (1024 ≤ w.budget) × (w.budget ≤ 262144)) }
 {
     let turns = turns(words)?;
     let is_known = is_given(words, KNOWN);
@@ -99,6 +110,7 @@ pub fn node_words<'a>(words: &ArgMatches<'a>) -> Result<NodeWords<'a>, ProgramFa
         has_database,
         group: group(words, has_database)?,
         quiet: quiet(words)?,
+        budget: budget(words)?,
         control: words.get_str(CONTROL),
     })
 }
@@ -162,6 +174,28 @@ fn quiet_in(text: &str) -> Option<u64>
 {
     match number_from_text(text) {
         Some(seconds) if seconds <= LONGEST_QUIET => Some(seconds * 1_000),
+        _ => None,
+    }
+}
+
+// How many bytes a second a node sends for Map-Requests to each destination, at most. Fault: `Budget`.
+fn budget(words: &ArgMatches<'_>) -> Result<u32, ProgramFault>
+    ensures number { IfOk result
+        (λ budget. budget_of (option_in words.now (codes "budget")) ≡ Some budget) }
+    ensures bounds { IfOk result (λ budget. (1024 ≤ budget) × (budget ≤ 262144)) }
+{
+    match words.get_str(BUDGET) {
+        Some(text) => budget_in(text).ok_or(ProgramFault::Budget),
+        None => Ok(BUDGET_LEFT_OUT),
+    }
+}
+
+fn budget_in(text: &str) -> Option<u32>
+    ensures number { result ≡ budget_below (number_of text.now) }
+    ensures bounds { IfSome result (λ budget. (1024 ≤ budget) × (budget ≤ 262144)) }
+{
+    match number_from_text(text) {
+        Some(bytes) if LEAST_BUDGET <= bytes && bytes <= MOST_BUDGET => Some(bytes as u32),
         _ => None,
     }
 }
