@@ -54,7 +54,7 @@ pub(crate) const RESOLVE_REFUSALS: Section = Section {
             number: 135,
             carried: "",
             name: "OverBudget",
-            meaning: "a datagram for the Map-Request is held back: with it more bytes than allowed would go out in a second, to its destination (4,096) or to all (262,144)",
+            meaning: "a datagram for the Map-Request is held back: with it more bytes than allowed would go out in a second, to its destination (4,096, or what `--budget` says) or to all (262,144)",
             status: "",
             remedy: "find out who asks that often, and for which ITR-RLOC: an ITR asks again by itself",
         },
