@@ -1,1 +1,4 @@
 pub mod Passing
+pub mod OthersStand
+pub mod Deploying
+pub mod Opening

@@ -1,1 +1,4 @@
 pub mod Passing
+pub mod Late
+pub mod Deployment
+pub mod Opening

@@ -1,6 +1,11 @@
 //! What a deployment comes to, as laws: each function's contract is a law, and its body is empty.
 
+ghost use Rattle.lisp_deployment.specs.Deployment.{TurnsAreOneTrace};
+ghost use Rattle.lisp_deployment.specs.Late.{LateTurnsAreParts};
+ghost use Rattle.lisp_deployment.specs.Opening.{DeploymentsAreNetworks};
 ghost use Rattle.lisp_deployment.specs.Passing.{IdlingPasses, PassingStands, TicksArePasses};
+
+use std::alloc::Allocator;
 
 /// A network that matches a trace, and in which time passes, matches the trace followed by a tick, whichever dead rows its
 /// Map-Servers drop.
@@ -16,4 +21,22 @@ pub fn ticks_are_passes()
 /// Where no node drops any row, time passes too, up to the greatest moment.
 pub fn idling_passes()
     ensures { IdlingPasses }
+{}
+
+/// Turns of a node are a legal trace's part of it, also in a network whose clock is behind the one of the node.
+pub fn late_turns_are_parts<A: Allocator>()
+    ensures { LateTurnsAreParts A }
+{}
+
+/// Turns of several nodes, in any order in which their clocks' readings don't fall, are one legal trace: a network that has all
+/// nodes, and matches a trace, matches the trace followed by the steps of each turn, one turn after another. The events'
+/// lines that a node printed are those of its steps, and the network has each datagram that was sent.
+pub fn turns_are_one_trace<A: Allocator>()
+    ensures { TurnsAreOneTrace A }
+{}
+
+/// All that the nodes of a configuration do from their start on, each over an honest store of its own, is one network's: it has
+/// a legal trace from its opening on, whose steps are those of the turns, whichever node took which.
+pub fn deployments_are_networks<A: Allocator>()
+    ensures { DeploymentsAreNetworks A }
 {}
