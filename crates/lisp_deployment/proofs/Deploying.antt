@@ -22,7 +22,7 @@ use Rattle.lisp_deployment.proofs.OthersStand.{others_kept, others_stand, has_it
 
 -- what is among a list is so once both have more at their ends
 module _ {X : Type 0} where
-  among_itself : (zs : List X) → IsAmong zs zs
+  pub among_itself : (zs : List X) → IsAmong zs zs
   among_itself [] = tt
   among_itself (z ∷ zs) = inl (refl, among_itself zs)
 
@@ -99,11 +99,11 @@ record TurnGoesOn (number : ℕ) (calls : List Call) (node : NodeState) (now : �
   pub others : (k : ℕ) (other : NodeState) → k ≢ number → HasNode w k other → HasNode left k other
 
 -- the clock and the bag are those of the network that went on
-kept_clock : (w left : WorldState) (number : ℕ) (node : NodeState) → (with_node (record w { clock = left.clock; bag = left.bag }) number node).clock ≡ left.clock
+pub kept_clock : (w left : WorldState) (number : ℕ) (node : NodeState) → (with_node (record w { clock = left.clock; bag = left.bag }) number node).clock ≡ left.clock
 kept_clock w left number (Server n) = refl
 kept_clock w left number (Router n) = refl
 
-kept_bag : (w left : WorldState) (number : ℕ) (node : NodeState) → (with_node (record w { clock = left.clock; bag = left.bag }) number node).bag ≡ left.bag
+pub kept_bag : (w left : WorldState) (number : ℕ) (node : NodeState) → (with_node (record w { clock = left.clock; bag = left.bag }) number node).bag ≡ left.bag
 kept_bag w left number (Server n) = refl
 kept_bag w left number (Router n) = refl
 

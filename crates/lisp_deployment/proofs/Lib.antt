@@ -2,3 +2,5 @@ pub mod Passing
 pub mod OthersStand
 pub mod Deploying
 pub mod Opening
+pub mod Living
+pub mod Examples

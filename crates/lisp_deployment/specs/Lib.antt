@@ -2,3 +2,4 @@ pub mod Passing
 pub mod Late
 pub mod Deployment
 pub mod Opening
+pub mod Lives

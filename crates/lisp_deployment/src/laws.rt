@@ -2,6 +2,7 @@
 
 ghost use Rattle.lisp_deployment.specs.Deployment.{TurnsAreOneTrace};
 ghost use Rattle.lisp_deployment.specs.Late.{LateTurnsAreParts};
+ghost use Rattle.lisp_deployment.specs.Lives.{ServerLivesStand};
 ghost use Rattle.lisp_deployment.specs.Opening.{DeploymentsAreNetworks};
 ghost use Rattle.lisp_deployment.specs.Passing.{IdlingPasses, PassingStands, TicksArePasses};
 
@@ -39,4 +40,10 @@ pub fn turns_are_one_trace<A: Allocator>()
 /// a legal trace from its opening on, whose steps are those of the turns, whichever node took which.
 pub fn deployments_are_networks<A: Allocator>()
     ensures { DeploymentsAreNetworks A }
+{}
+
+/// A Map-Server that crashes, perhaps in a turn, and begins its next life over what its store kept, is a restart in the network's
+/// trace. Of what it did before the crash the network may have more than was printed and sent.
+pub fn server_lives_stand<A: Allocator>()
+    ensures { ServerLivesStand A }
 {}

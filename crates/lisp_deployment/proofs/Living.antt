@@ -1,0 +1,276 @@
+-- A Map-Server's life ends, perhaps in a turn, and its next one begins: the deployment goes on to be a network.
+use Rattle.std.proofs.Common.{◌≡◌, ◌⊎◌, inl, inr, Bool, true, false, true≢false, ℕ, ◌+◌, ◌-◌, ◌<◌, ◌≤◌, List, [], ◌∷◌, ◌++◌, length, length-set, map, reverse, Some, None, refl, sym, ap, subst, ◌∙◌, append-nil, arith}
+use Rattle.std.specs.Prelude.{◌≢◌, ◌==◌, if◌then◌else◌, slice_get, slice_set}
+use Rattle.std.specs.List.{AllByRecursion}
+use Rattle.std.proofs.lemmas.Bool.Decides.{Decides-eqb}
+use Rattle.std.proofs.lemmas.List.{reverse-append, map-append}
+use Rattle.std.proofs.lemmas.Option.{slice_get_within}
+use Rattle.lisp_records.specs.declared.address.Addr.{Addr}
+use Rattle.lisp_records.specs.Moment.{max_moment}
+use Rattle.lisp_policy.specs.Configuration.{ConfigValue}
+use Rattle.lisp_nonces.specs.Store.{StoreState, Proceeds}
+use Rattle.lisp_model.specs.declared.event.Event.TheVariants as events
+use Rattle.lisp_model.specs.declared.line.Line.TheVariants as lines
+use Rattle.lisp_model.specs.Trace.{ShownStore, Step, Opening, address_at}
+use Rattle.lisp_refinement.specs.World.{ServerNodeState, DatagramValue, WorldState}
+use Rattle.lisp_refinement.specs.Calls.{StoreRestarts}
+use Rattle.lisp_refinement.specs.Events.{address_of, NetworkRestartsServer}
+use Rattle.lisp_refinement.specs.Nodes.{fresh_server}
+use Rattle.lisp_refinement.specs.Stands.{Stands, StandsAfter}
+use Rattle.lisp_refinement.proofs.Acting.{address_is}
+use Rattle.lisp_refinement.proofs.Restarting.{restart_server_stands}
+use Rattle.lisp_turns.specs.Acts.{TurnAct, DoesAll, act_calls, acts_calls, send_calls, printed_of}
+use Rattle.lisp_turns.specs.Node.{NodeState, Server, Router, HasNode, Passes}
+use Rattle.lisp_turns.specs.Outside.{Call, Prints}
+use Rattle.lisp_turns.specs.Part.{IsOwn, lines_of, sent_of, datagram_from}
+use Rattle.lisp_turns.specs.Turn.{TurnState}
+use Rattle.lisp_turns.proofs.Acting.{get_set_there, AreOwn, arrived, acts_reach}
+use Rattle.lisp_turns.proofs.BeginningStores.{get_set_other}
+use Rattle.lisp_turns.proofs.Calls.{sent_append}
+use Rattle.lisp_turns.proofs.Reaching.{Reaches, goes_further}
+use Rattle.lisp_turns.proofs.Ticking.{tick_reaches}
+use Rattle.lisp_deployment.specs.Deployment.{DeploymentState, node_count, IsAmong, DeploymentStands}
+use Rattle.lisp_deployment.specs.Lives.{store_of, BeginsAt, BeginsLife, ServerLivesStand}
+use Rattle.lisp_deployment.proofs.Passing.{passing_stands, idling_passes}
+use Rattle.lisp_deployment.proofs.OthersStand.{others_kept, others_stand, has_it, has_others}
+use Rattle.lisp_deployment.proofs.Deploying.{among_itself, kept_clock, kept_bag}
+
+-- what is among a list is among a longer one
+module _ {X : Type 0} where
+  among_after : (y : X) (us zs : List X) → IsAmong us zs → IsAmong us (y ∷ zs)
+  among_after y [] zs among = tt
+  among_after y (u ∷ us) zs among = inr among
+
+  among_wider : (xs ys zs : List X) → IsAmong xs ys → IsAmong xs (ys ++ zs)
+  among_wider [] ys zs among = tt
+  among_wider (x ∷ xs) [] zs among = absurd among
+  among_wider (x ∷ xs) (y ∷ ys) zs (inl (same, among)) = inl (same, among_wider xs ys zs among)
+  among_wider (x ∷ xs) (y ∷ ys) zs (inr among) = inr (among_wider (x ∷ xs) ys zs among)
+
+  among_both : (xs ys us vs : List X) → IsAmong xs ys → IsAmong us vs → IsAmong (xs ++ us) (ys ++ vs)
+  among_both [] [] us vs among more = more
+  among_both [] (y ∷ ys) us vs among more = among_after y us (ys ++ vs) (among_both [] ys us vs tt more)
+  among_both (x ∷ xs) [] us vs among more = absurd among
+  among_both (x ∷ xs) (y ∷ ys) us vs (inl (same, among)) more = inl (same, among_both xs ys us vs among more)
+  among_both (x ∷ xs) (y ∷ ys) us vs (inr among) more = inr (among_both (x ∷ xs) ys us vs among more)
+
+-- acts, as if each were told
+abbrev as_told : TurnAct → TurnAct
+as_told a = record a { told = true }
+
+abbrev all_told : List TurnAct → List TurnAct
+all_told acts = map as_told acts
+
+told_did : (A : Type 0) (config : ConfigValue) (number : ℕ) (old new : NodeState) (now : ℕ) (acts : List TurnAct) → DoesAll A config number old new now acts → DoesAll A config number old new now (all_told acts)
+told_did A config number old new now [] is = is
+told_did A config number old new now (a ∷ earlier) (between, did, does) = (between, told_did A config number old between now earlier did, does)
+
+told_own : (number : ℕ) (acts : List TurnAct) → AllByRecursion (λ a. IsOwn number a.event) acts → AreOwn number (all_told acts)
+told_own number [] own = tt
+told_own number (a ∷ earlier) own = ((own.0, inl refl), told_own number earlier own.1)
+
+-- what is sent in acts, the oldest first
+module _ (from : Addr) where
+  abbrev sends : List Call → List DatagramValue
+  sends calls = map (datagram_from from) (reverse (sent_of calls))
+
+  sends_both : (later earlier : List Call) → sends (later ++ earlier) ≡ sends earlier ++ sends later
+  sends_both later earlier = ap (λ (l : List (Addr × List ℕ)). map (datagram_from from) (reverse l)) (sent_append later earlier)
+      ∙ ap (map (datagram_from from)) (reverse-append (sent_of later) (sent_of earlier)) ∙ map-append (datagram_from from) (reverse (sent_of earlier)) (reverse (sent_of later))
+
+  act_among : (a : TurnAct) → IsAmong (sends (act_calls a)) (sends (act_calls (as_told a)))
+  act_among a = by a.told
+    where
+      by : (b : Bool) → IsAmong (sends (if b then send_calls a.act.message a.taken ++ Prints (printed_of a.event a.act.line) ∷ [] else [])) (sends (send_calls a.act.message a.taken ++ Prints (printed_of a.event a.act.line) ∷ []))
+      by true = among_itself (sends (send_calls a.act.message a.taken ++ Prints (printed_of a.event a.act.line) ∷ []))
+      by false = tt
+
+  told_among : (told : List TurnAct) → IsAmong (sends (acts_calls told)) (sends (acts_calls (all_told told)))
+  told_among [] = tt
+  told_among (a ∷ earlier) = subst (λ (p : List DatagramValue × List DatagramValue). IsAmong p.0 p.1)
+      {x = (sends (acts_calls earlier) ++ sends (act_calls a), sends (acts_calls (all_told earlier)) ++ sends (act_calls (as_told a)))}
+      {y = (sends (act_calls a ++ acts_calls earlier), sends (act_calls (as_told a) ++ acts_calls (all_told earlier)))}
+      (λ i. (sym (sends_both (act_calls a) (acts_calls earlier)) i, sym (sends_both (act_calls (as_told a)) (acts_calls (all_told earlier))) i))
+      (among_both (sends (acts_calls earlier)) (sends (acts_calls (all_told earlier))) (sends (act_calls a)) (sends (act_calls (as_told a))) (told_among earlier) (act_among a))
+
+  all_among : (untold told : List TurnAct) → IsAmong (sends (acts_calls told)) (sends (acts_calls (all_told (untold ++ told))))
+  all_among [] told = told_among told
+  all_among (a ∷ untold) told = subst (λ (l : List DatagramValue). IsAmong (sends (acts_calls told)) l) (sym (sends_both (act_calls (as_told a)) (acts_calls (all_told (untold ++ told)))))
+      (among_wider (sends (acts_calls told)) (sends (acts_calls (all_told (untold ++ told)))) (sends (act_calls (as_told a))) (all_among untold told))
+
+-- time passes in a network, in which nothing happens
+module _ (w : WorldState) (now : ℕ) (o : Opening) (T : List Step) (stand : Stands w o T) (early : w.clock ≤ now) (bound : now ≤ max_moment) where
+  abbrev ms : ℕ
+  ms = now - w.clock
+
+  abbrev idled : WorldState
+  idled = record w { clock = w.clock + ms }
+
+  moment_is : w.clock + ms ≡ now
+  moment_is = omega (arith, early)
+
+  abbrev after_idling : StandsAfter w idled (events.Tick ms) (lines.Ticked ms (w.clock + ms))
+  after_idling = passing_stands w idled ms (lines.Ticked ms (w.clock + ms)) (idling_passes w ms (omega (arith, moment_is, bound)))
+
+  abbrev idle_step : Step
+  idle_step = (let after = after_idling o T stand in record { event = events.Tick ms; line = lines.Ticked ms (w.clock + ms); actor = after.0; shown = after.1 })
+
+  idle_stands : Stands idled o (idle_step ∷ T)
+  idle_stands = (after_idling o T stand).2
+
+  still_has : (number : ℕ) (node : NodeState) → HasNode w number node → HasNode idled number node
+  still_has number (Server n) has = has
+  still_has number (Router n) has = has
+
+  idle_reaches : (number : ℕ) (node : NodeState) → HasNode w number node → Reaches number [] [] [] node now w o T
+  idle_reaches number node has = record {
+    steps = idle_step ∷ [];
+    left = idled;
+    stands = idle_stands;
+    own = (tt, tt);
+    are_printed = inl (tt, refl);
+    bag = sym (append-nil w.bag);
+    heard = refl;
+    node_is = still_has number node has;
+    clock = moment_is;
+  }
+
+-- a node with a Map-Server's number is one
+server_of : (w : WorldState) (number : ℕ) (node : NodeState) → number < length w.servers → HasNode w number node → (n : ServerNodeState) × (node ≡ Server n)
+server_of w number (Server n) low has = (n, refl)
+server_of w number (Router n) low (place, number_is, there) = absurd (omega (arith, low, number_is))
+
+server_begins : (config : ConfigValue) (number : ℕ) (store : StoreState) (now : ℕ) (node : NodeState) → number < length config.servers → BeginsAt config number store now node → (n : ServerNodeState) × (node ≡ Server n)
+server_begins config number store now (Server n) low begins = (n, refl)
+server_begins config number store now (Router n) low (place, number_is, down, over, starts) = absurd (omega (arith, low, number_is))
+
+module _ (A : Type 0) (config : ConfigValue) (number : ℕ) (told : List TurnAct) (old new : DeploymentState) (life : BeginsLife A config number told old new) (low : number < length config.servers)
+    (counts : Proceeds (store_of life.last) life.store) (w : WorldState) (o : Opening) (T : List Step) (stand : DeploymentStands config old w o T) where
+  -- what it did until it ended
+  abbrev Ended : NodeState → Type 0
+  Ended node = Reaches number [] [] [] node life.ended w o T
+
+  ended_bound : life.ended ≤ max_moment
+  ended_bound = omega (arith, life.later.1, life.bound)
+
+  begins_early : w.clock ≤ life.ended
+  begins_early = omega (arith, stand.clock, life.later.0)
+
+  passed : Ended life.cut.passed
+  passed = by life.cut.passes
+    where
+      by : Passes (old.nodes number).node life.cut.passed life.ended ⊎ (life.cut.passed ≡ (old.nodes number).node) → Ended life.cut.passed
+      by (inl passes) = tick_reaches A number (old.nodes number).node life.cut.passed life.ended w o T stand.stands (stand.nodes number life.known) begins_early ended_bound passes
+      by (inr same) = subst Ended (sym same) (idle_reaches w life.ended o T stand.stands begins_early ended_bound number (old.nodes number).node (stand.nodes number life.known))
+
+  abbrev acts : List TurnAct
+  acts = all_told (life.untold ++ told)
+
+  did : Reaches number (lines_of (acts_calls acts) ++ []) (sent_of (acts_calls acts) ++ []) (arrived acts ++ []) life.last life.ended w o T
+  did = goes_further number [] (lines_of (acts_calls acts)) [] (sent_of (acts_calls acts)) [] (arrived acts) life.cut.passed life.last life.ended life.ended w o T stand.stands passed
+      (acts_reach A config number life.cut.passed life.last life.ended acts (told_did A config number life.cut.passed life.last life.ended (life.untold ++ told) life.cut.did) (told_own number (life.untold ++ told) life.cut.own)
+      passed.left o (passed.steps ++ T) passed.stands stand.config_is passed.node_is passed.clock)
+
+  -- the others did nothing
+  abbrev at_end : WorldState
+  at_end = others_kept w did.left o T did.steps stand.stands did.stands number did.own life.last
+
+  end_stands : Stands at_end o (did.steps ++ T)
+  end_stands = others_stand w did.left o T did.steps stand.stands did.stands number did.own life.last did.node_is
+
+  end_has : HasNode at_end number life.last
+  end_has = has_it w did.left o T did.steps stand.stands did.stands number did.own life.last did.node_is
+
+  end_others : (k : ℕ) (other : NodeState) → k ≢ number → HasNode w k other → HasNode at_end k other
+  end_others = has_others w did.left o T did.steps stand.stands did.stands number did.own life.last did.node_is
+
+  end_early : at_end.clock ≤ new.moment
+  end_early = omega (arith, kept_clock w did.left number life.last, did.clock, life.later.1)
+
+  -- and then nobody did anything until the next life
+  abbrev at_start : WorldState
+  at_start = idled at_end new.moment o (did.steps ++ T) end_stands end_early life.bound
+
+  abbrev until_start : List Step
+  until_start = idle_step at_end new.moment o (did.steps ++ T) end_stands end_early life.bound ∷ did.steps ++ T
+
+  start_stands : Stands at_start o until_start
+  start_stands = idle_stands at_end new.moment o (did.steps ++ T) end_stands end_early life.bound
+
+  start_moment : at_start.clock ≡ new.moment
+  start_moment = moment_is at_end new.moment o (did.steps ++ T) end_stands end_early life.bound
+
+  -- which is a restart
+  module _ (last begun : ServerNodeState) (last_is : life.last ≡ Server last) (begun_is : (new.nodes number).node ≡ Server begun) where
+    was : slice_get at_start.servers number ≡ Some last
+    was = subst (λ (n : NodeState). HasNode at_end number n) last_is end_has
+
+    begins : BeginsAt config number life.store new.moment (Server begun)
+    begins = subst (λ (n : NodeState). BeginsAt config number life.store new.moment n) begun_is life.begins
+
+    sites : last.core.sites ≡ config.sites
+    sites = (start_stands.servers number last was).sites ∙ ap (λ (c : ConfigValue). c.sites) stand.config_is
+
+    crashes : StoreRestarts (store_of life.last) life.store 0
+    crashes = record {
+      narrows = λ honest. life.survives.narrows;
+      picks = λ obeys. absurd (true≢false (sym obeys ∙ life.survives.unscheduled.0));
+      proceeds = counts;
+    }
+
+    abbrev left : WorldState
+    left = record at_start { bag = at_start.bag ++ []; servers = slice_set at_start.servers number begun }
+
+    restarts : NetworkRestartsServer at_start left number 0 (lines.Restarted number)
+    restarts = record {
+      acts = record { before = last; after = begun; was = was; left = refl };
+      core = ap (λ (n : ServerNodeState). n.core) begins.1 ∙ ap fresh_server (sym sites);
+      crashes = subst (λ (p : StoreState × StoreState). StoreRestarts p.0 p.1 0) {x = (store_of life.last, life.store)} {y = (last.store, begun.store)}
+          (λ i. (store_of (last_is i), sym (ap (λ (n : ServerNodeState). n.store) begins.1) i)) crashes;
+      started = ap (λ (n : ServerNodeState). n.started) begins.1 ∙ sym start_moment;
+      said = refl;
+    }
+
+    abbrev restarted : (actor : ℕ) × (s : ShownStore) × Stands left o (record { event = events.Restart number 0 None; line = lines.Restarted number; actor = actor; shown = s } ∷ until_start)
+    restarted = restart_server_stands at_start left number 0 (lines.Restarted number) restarts o until_start start_stands
+
+    low_here : number < length at_start.servers
+    low_here = slice_get_within at_start.servers number last was
+
+    other_has : (k : ℕ) (other : NodeState) → k ≢ number → HasNode at_end k other → HasNode left k other
+    other_has k (Server m) differs there = get_set_other at_end.servers number k begun m differs there
+    other_has k (Router m) differs (place, number_is, there) = (place, number_is ∙ ap (λ l. l + place) (sym (length-set at_end.servers number begun)), there)
+
+    nodes_are : (k : ℕ) → k < node_count config → HasNode left k (new.nodes k).node
+    nodes_are k known = by (k == number) refl
+      where
+        by : (b : Bool) → (k == number) ≡ b → HasNode left k (new.nodes k).node
+        by true is = let here : number ≡ k = sym ((Decides-eqb k number).0 is) in
+            subst (λ m. HasNode left m (new.nodes m).node) here (subst (λ (n : NodeState). HasNode left number n) (sym begun_is) (get_set_there at_start.servers number begun low_here))
+        by false is = let differs : (k ≢ number) = λ e. absurd (true≢false (sym ((Decides-eqb k number).1 e) ∙ is)) in
+            subst (λ (x : TurnState). HasNode left k x.node) (sym (life.others k differs)) (other_has k (old.nodes k).node differs (end_others k (old.nodes k).node differs (stand.nodes k known)))
+
+    bag_is : left.bag ≡ w.bag ++ sends (address_at config number) (acts_calls acts)
+    bag_is = append-nil at_start.bag ∙ kept_bag w did.left number life.last ∙ did.bag
+        ∙ ap (λ (l : List (Addr × List ℕ)). w.bag ++ map (datagram_from (address_of w number)) (reverse l)) (append-nil (sent_of (acts_calls acts)))
+        ∙ ap (λ (a : Addr). w.bag ++ sends a (acts_calls acts)) (address_is w o T stand.stands number ∙ ap (λ (c : ConfigValue). address_at c number) stand.config_is)
+
+    sent_is : IsAmong new.sent left.bag
+    sent_is = subst (λ (p : List DatagramValue × List DatagramValue). IsAmong p.0 p.1)
+        {x = (old.sent ++ sends (address_at config number) (acts_calls told), w.bag ++ sends (address_at config number) (acts_calls acts))} {y = (new.sent, left.bag)}
+        (λ i. (sym life.sent i, sym bag_is i))
+        (among_both old.sent w.bag (sends (address_at config number) (acts_calls told)) (sends (address_at config number) (acts_calls acts)) stand.sent (all_among (address_at config number) life.untold told))
+
+    life_stands : (steps : List Step) × (left : WorldState) × DeploymentStands config new left o (steps ++ T)
+    life_stands = (
+      record { event = events.Restart number 0 None; line = lines.Restarted number; actor = restarted.0; shown = restarted.1 } ∷ idle_step at_end new.moment o (did.steps ++ T) end_stands end_early life.bound ∷ did.steps,
+      left,
+      record { stands = restarted.2; config_is = stand.config_is; nodes = nodes_are; clock = start_moment; sent = sent_is },
+    )
+
+pub server_lives_stand : (A : Type 0) → ServerLivesStand A
+server_lives_stand A config number told old new life low counts w o T stand =
+    let end = at_end A config number told old new life low counts w o T stand in
+    let last = server_of end number life.last (omega (arith, low, (end_stands A config number told old new life low counts w o T stand).steps.servers, ap (λ (c : ConfigValue). length c.servers) stand.config_is)) (end_has A config number told old new life low counts w o T stand) in
+    let begun = server_begins config number life.store new.moment (new.nodes number).node low life.begins in
+    life_stands A config number told old new life low counts w o T stand last.0 begun.0 last.1 begun.1

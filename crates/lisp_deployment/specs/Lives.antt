@@ -1,0 +1,76 @@
+-- The lives of a node in a deployment: it starts, takes turns, and stops, perhaps in the middle of one.
+use Rattle.std.specs.Prelude.{◌≡◌, ◌≢◌, ◌⊎◌, ℕ, ◌+◌, ◌<◌, ◌≤◌, IsTrue, true, false, List, ◌++◌, length, None, Ok}
+use Rattle.std.specs.List.{AllByRecursion}
+use Rattle.lisp_records.specs.Moment.{max_moment}
+use Rattle.lisp_policy.specs.Configuration.{ConfigValue}
+use Rattle.lisp_nonces.specs.Kept.{NarrowsEach}
+use Rattle.lisp_nonces.specs.Store.{StoreState, Proceeds}
+use Rattle.lisp_model.specs.Trace.{Step, Opening}
+use Rattle.lisp_refinement.specs.Calls.{NodeStarts}
+use Rattle.lisp_refinement.specs.World.{RouterNodeState, WorldState}
+use Rattle.lisp_world.specs.Making.{server_over, IsRouterOver}
+use Rattle.lisp_turns.specs.Acts.{TurnAct, DoesAll, acts_calls}
+use Rattle.lisp_turns.specs.Due.{IsDuty, IsRefused}
+use Rattle.lisp_turns.specs.Node.{NodeState, Server, Router, Passes}
+use Rattle.lisp_turns.specs.Part.{IsOwn}
+use Rattle.lisp_turns.specs.Stretch.{beginning}
+use Rattle.lisp_deployment.specs.Deployment.{DeploymentState, node_count, sent_by, DeploymentStands}
+
+-- A store as the next life opens it: it is honest, and of what may have been kept for a pair something is kept, and nothing else. No
+-- schedule says what.
+pub record Survives (last next : StoreState) : Type 0 where
+  pub honest : IsTrue last.is_honest × IsTrue next.is_honest
+  pub unscheduled : (last.is_obedient ≡ false) × (next.is_obedient ≡ false)
+  pub narrows : NarrowsEach last.kept next.kept
+
+abbrev pub store_of : NodeState → StoreState
+store_of (Server n) = n.store
+store_of (Router n) = n.store
+
+-- a router started at a moment
+pub record StartsAt (old new : RouterNodeState) (now : ℕ) : Type 0 where
+  pub me : new.me ≡ old.me
+  pub servers : new.servers ≡ old.servers
+  pub used : new.used ≡ old.used
+  pub starts : NodeStarts old new None now (Ok tt)
+
+-- the node with a number at the start of a life that begins at a moment, over a store: a Map-Server that holds nothing, or a router
+abbrev pub BeginsAt : ConfigValue → ℕ → StoreState → ℕ → NodeState → Type 0
+BeginsAt config number store now (Server n) = (number < length config.servers) × (n ≡ record (server_over config store) { started = now })
+BeginsAt config number store now (Router n) = (place : ℕ) × (number ≡ length config.servers + place)
+    × (down : RouterNodeState) × IsRouterOver config place store down × StartsAt down n now
+
+-- What is left of a turn that a crash cut off at a moment, the newest act first. The older acts were told, unless they were due and
+-- refused, and their messages sent; of those behind them the store keeps what they saved, and nobody was told.
+pub record IsCut (A : Type 0) (config : ConfigValue) (number : ℕ) (old last : NodeState) (now : ℕ) (untold told : List TurnAct)
+    : Type 0 where
+  pub passed : NodeState
+  pub passes : Passes old passed now ⊎ (passed ≡ old)
+  pub did : DoesAll A config number passed last now (untold ++ told)
+  pub own : AllByRecursion (λ a. IsOwn number a.event) (untold ++ told)
+  pub are_told : AllByRecursion (λ a. (a.told ≡ true) ⊎ (IsDuty number a.event × IsRefused a.act.line)) told
+
+-- A node's life ends, at the end of a turn or in one, and its next life begins over what its store kept; the others do nothing.
+pub record BeginsLife (A : Type 0) (config : ConfigValue) (number : ℕ) (told : List TurnAct) (old new : DeploymentState)
+    : Type 0 where
+  pub known : number < node_count config
+  pub last : NodeState
+  pub ended : ℕ
+  pub untold : List TurnAct
+  pub cut : IsCut A config number (old.nodes number).node last ended untold told
+  pub store : StoreState
+  pub survives : Survives (store_of last) store
+  pub later : (old.moment ≤ ended) × (ended ≤ new.moment)
+  pub bound : new.moment ≤ max_moment
+  pub begins : BeginsAt config number store new.moment (new.nodes number).node
+  pub fresh : new.nodes number ≡ beginning (new.nodes number).node (new.nodes number).resolving (new.nodes number).outside
+  pub others : (k : ℕ) → k ≢ number → new.nodes k ≡ old.nodes k
+  pub sent : new.sent ≡ old.sent ++ sent_by config number (acts_calls told)
+
+-- A Map-Server's next life is a restart: a deployment that is a network goes on to be one, where no count of failures of the node's store
+-- fell.
+abbrev pub ServerLivesStand : Type 0 → Type 0
+ServerLivesStand A = (config : ConfigValue) (number : ℕ) (told : List TurnAct) (old new : DeploymentState)
+    → (life : BeginsLife A config number told old new) → number < length config.servers → Proceeds (store_of life.last) life.store
+    → (w : WorldState) (o : Opening) (T : List Step) → DeploymentStands config old w o T
+    → (steps : List Step) × (left : WorldState) × DeploymentStands config new left o (steps ++ T)
