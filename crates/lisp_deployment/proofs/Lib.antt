@@ -3,4 +3,5 @@ pub mod OthersStand
 pub mod Deploying
 pub mod Opening
 pub mod Living
+pub mod Deeds
 pub mod Examples

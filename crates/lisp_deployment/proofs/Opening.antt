@@ -8,7 +8,7 @@ use Rattle.std.specs.Option.{option_map}
 use Rattle.lisp_policy.specs.Configuration.{ConfigValue}
 use Rattle.lisp_nonces.specs.Store.{StoreState}
 use Rattle.lisp_model.specs.Network.{IsNetwork}
-use Rattle.lisp_model.specs.Trace.{addresses, shown_store}
+use Rattle.lisp_model.specs.Trace.{Opening, addresses, shown_store}
 use Rattle.lisp_refinement.specs.World.{ServerNodeState, RouterNodeState, DatagramValue, WorldState}
 use Rattle.lisp_refinement.specs.Stands.{Stands}
 use Rattle.lisp_refinement.proofs.Gets.{none_is_some, same_some, get_within, get_mapped}
@@ -188,7 +188,10 @@ module _ (c : ConfigValue) (stores : ℕ → StoreState) (d : DeploymentState) (
     bag = refl;
   }
 
+-- so it has an opening
+pub first_opens : (c : ConfigValue) (stores : ℕ → StoreState) (d : DeploymentState) → IsNetwork c → DeploymentBegins c stores d → (w : WorldState) × (o : Opening) × DeploymentOpens c stores d w o
+first_opens c stores d network begins = (first c stores d network begins, opening c (first c stores d network begins), deployment_opens c stores d network begins)
+
 pub deployments_are_networks : (A : Type 0) → DeploymentsAreNetworks A
 deployments_are_networks A c stores begun d turns network begins took =
-    let opens = deployment_opens c stores begun network begins in
-    (first c stores begun network begins, opening c (first c stores begun network begins), opens, turns_are_one_trace A c turns begun d took _ _ [] opens.stands)
+    let opens = first_opens c stores begun network begins in (opens.0, opens.1, opens.2, turns_are_one_trace A c turns begun d took opens.0 opens.1 [] opens.2.stands)

@@ -3,3 +3,4 @@ pub mod Late
 pub mod Deployment
 pub mod Opening
 pub mod Lives
+pub mod Deeds

@@ -1,5 +1,6 @@
 //! What a deployment comes to, as laws: each function's contract is a law, and its body is empty.
 
+ghost use Rattle.lisp_deployment.specs.Deeds.{DeploymentsHaveTraces};
 ghost use Rattle.lisp_deployment.specs.Deployment.{TurnsAreOneTrace};
 ghost use Rattle.lisp_deployment.specs.Late.{LateTurnsAreParts};
 ghost use Rattle.lisp_deployment.specs.Lives.{ServerLivesStand};
@@ -46,4 +47,10 @@ pub fn deployments_are_networks<A: Allocator>()
 /// trace. Of what it did before the crash the network may have more than was printed and sent.
 pub fn server_lives_stand<A: Allocator>()
     ensures { ServerLivesStand A }
+{}
+
+/// A deployment has a legal trace, of which the headline holds, whichever of its nodes takes a turn when, and whichever Map-Server
+/// crashes and begins again: what it accepted in all its lives is in that one trace.
+pub fn deployments_have_traces<A: Allocator>()
+    ensures { DeploymentsHaveTraces A }
 {}

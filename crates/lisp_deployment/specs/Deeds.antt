@@ -1,0 +1,49 @@
+-- What becomes of a deployment, one deed after another: its nodes take turns, and Map-Servers of it crash and begin again.
+use Rattle.std.specs.Prelude.{◌≡◌, ℕ, ◌<◌, List, [], ◌∷◌, length}
+use Rattle.lisp_policy.specs.Configuration.{ConfigValue}
+use Rattle.lisp_nonces.specs.Store.{StoreState, Proceeds}
+use Rattle.lisp_model.specs.Network.{IsNetwork}
+use Rattle.lisp_model.specs.Trace.{Step, Opening}
+use Rattle.lisp_refinement.specs.World.{WorldState}
+use Rattle.lisp_refinement.specs.Headline.{Headline}
+use Rattle.lisp_turns.specs.Acts.{TurnAct}
+use Rattle.lisp_turns.specs.Outside.{Call}
+use Rattle.lisp_deployment.specs.Deployment.{DeploymentState, TakesTurn, DeploymentStands}
+use Rattle.lisp_deployment.specs.Lives.{store_of, BeginsLife}
+use Rattle.lisp_deployment.specs.Opening.{DeploymentBegins, DeploymentOpens}
+
+-- the node with a number took a turn, in which it asked this of what is outside; or it crashed once it had told this of its last turn,
+-- and began again
+pub data Deed : Type 0 where
+  Turn : ℕ → List Call → Deed
+  Life : ℕ → List TurnAct → Deed
+
+-- a Map-Server begins again, and no count of failures of its store fell
+pub record ServerBeginsLife (A : Type 0) (config : ConfigValue) (number : ℕ) (told : List TurnAct) (old new : DeploymentState)
+    : Type 0 where
+  pub life : BeginsLife A config number told old new
+  pub kind : number < length config.servers
+  pub counts : Proceeds (store_of life.last) life.store
+
+abbrev pub DoesDeed : Type 0 → ConfigValue → Deed → DeploymentState → DeploymentState → Type 0
+DoesDeed A config (Turn number calls) old new = TakesTurn A config number calls old new
+DoesDeed A config (Life number told) old new = ServerBeginsLife A config number told old new
+
+-- deeds one after another, the newest first
+abbrev pub DoDeeds : Type 0 → ConfigValue → List Deed → DeploymentState → DeploymentState → Type 0
+DoDeeds A config [] old new = new ≡ old
+DoDeeds A config (deed ∷ earlier) old new = (between : DeploymentState) × DoDeeds A config earlier old between
+    × DoesDeed A config deed between new
+
+-- A deployment has a trace: it is a network, which matches the trace, and of which the headline holds.
+pub record HasTrace (config : ConfigValue) (d : DeploymentState) (o : Opening) : Type 0 where
+  pub trace : List Step
+  pub network : WorldState
+  pub stands : DeploymentStands config d network o trace
+  pub headline : Headline network o trace
+
+-- So has each that began, each node over an honest store of its own, whatever its nodes did since, and whichever crashed.
+abbrev pub DeploymentsHaveTraces : Type 0 → Type 0
+DeploymentsHaveTraces A = (config : ConfigValue) (stores : ℕ → StoreState) (begun d : DeploymentState) (deeds : List Deed)
+    → IsNetwork config → DeploymentBegins config stores begun → DoDeeds A config deeds begun d
+    → (w : WorldState) × (o : Opening) × DeploymentOpens config stores begun w o × HasTrace config d o
