@@ -1,4 +1,4 @@
--- A deployment has a trace, whatever its nodes do, and whichever Map-Server crashes.
+-- A deployment has a trace, whatever its nodes do, and whichever crashes.
 use Rattle.std.proofs.Common.{List, [], ◌∷◌, ◌++◌, refl, sym, subst, append-nil}
 use Rattle.std.proofs.lemmas.List.{append_assoc}
 use Rattle.lisp_policy.specs.Configuration.{ConfigValue}
@@ -8,7 +8,7 @@ use Rattle.lisp_refinement.proofs.Headlines.{networks_promise}
 use Rattle.lisp_deployment.specs.Deeds.{Deed, Turn, Life, DoesDeed, DoDeeds, DeploymentsHaveTraces}
 use Rattle.lisp_deployment.specs.Deployment.{DeploymentState, DeploymentStands}
 use Rattle.lisp_deployment.proofs.Deploying.{turns_are_one_trace}
-use Rattle.lisp_deployment.proofs.Living.{server_lives_stand}
+use Rattle.lisp_deployment.proofs.Living.{lives_stand}
 use Rattle.lisp_deployment.proofs.Opening.{first_opens}
 
 -- a deployment goes on to be a network
@@ -18,7 +18,7 @@ Goes config new o T = (steps : List Step) × (left : WorldState) × DeploymentSt
 one_deed : (A : Type 0) (config : ConfigValue) (deed : Deed) (old new : DeploymentState) → DoesDeed A config deed old new → (w : WorldState) (o : Opening) (T : List Step) → DeploymentStands config old w o T → Goes config new o T
 one_deed A config (Turn number calls) old new takes w o T stand =
     let goes = turns_are_one_trace A config ((number, calls) ∷ []) old new (old, refl, takes) w o T stand in (goes.steps, goes.left, goes.stands)
-one_deed A config (Life number told) old new begins w o T stand = server_lives_stand A config number told old new begins.life begins.kind begins.counts w o T stand
+one_deed A config (Life number told) old new begins w o T stand = lives_stand A config number told old new begins.life begins.configured begins.counts w o T stand
 
 deeds_stand : (A : Type 0) (config : ConfigValue) (deeds : List Deed) (old new : DeploymentState) → DoDeeds A config deeds old new → (w : WorldState) (o : Opening) (T : List Step) → DeploymentStands config old w o T → Goes config new o T
 deeds_stand A config [] old new is w o T stand = ([], w, subst (λ (d : DeploymentState). DeploymentStands config d w o T) (sym is) stand)

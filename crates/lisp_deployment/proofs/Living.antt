@@ -1,24 +1,28 @@
--- A Map-Server's life ends, perhaps in a turn, and its next one begins: the deployment goes on to be a network.
-use Rattle.std.proofs.Common.{◌≡◌, ◌⊎◌, inl, inr, Bool, true, false, true≢false, ℕ, ◌+◌, ◌-◌, ◌<◌, ◌≤◌, List, [], ◌∷◌, ◌++◌, length, length-set, map, reverse, Some, None, refl, sym, ap, subst, ◌∙◌, append-nil, arith}
+-- A node's life ends, perhaps in a turn, and its next one begins: the deployment goes on to be a network.
+use Rattle.std.proofs.Common.{Ok, ◌≡◌, ◌⊎◌, inl, inr, Bool, true, false, true≢false, ℕ, ◌+◌, ◌-◌, ◌<◌, ◌≤◌, List, [], ◌∷◌, ◌++◌, length, length-set, map, reverse, Some, None, refl, sym, ap, subst, ◌∙◌, append-nil, arith}
 use Rattle.std.specs.Prelude.{◌≢◌, ◌==◌, if◌then◌else◌, slice_get, slice_set}
 use Rattle.std.specs.List.{AllByRecursion}
 use Rattle.std.proofs.lemmas.Bool.Decides.{Decides-eqb}
 use Rattle.std.proofs.lemmas.List.{reverse-append, map-append}
-use Rattle.std.proofs.lemmas.Option.{slice_get_within}
+use Rattle.std.proofs.lemmas.Option.{slice_get_within, get_or_from_slice_get}
 use Rattle.lisp_records.specs.declared.address.Addr.{Addr}
 use Rattle.lisp_records.specs.Moment.{max_moment}
-use Rattle.lisp_policy.specs.Configuration.{ConfigValue}
+use Rattle.lisp_policy.specs.Configuration.{ConfigValue, RouterEntryValue}
 use Rattle.lisp_nonces.specs.Store.{StoreState, Proceeds}
 use Rattle.lisp_model.specs.declared.event.Event.TheVariants as events
 use Rattle.lisp_model.specs.declared.line.Line.TheVariants as lines
-use Rattle.lisp_model.specs.Trace.{ShownStore, Step, Opening, address_at}
-use Rattle.lisp_refinement.specs.World.{ServerNodeState, DatagramValue, WorldState}
-use Rattle.lisp_refinement.specs.Calls.{StoreRestarts}
-use Rattle.lisp_refinement.specs.Events.{address_of, NetworkRestartsServer}
+use Rattle.lisp_model.specs.Trace.{router_at, etr_config_of, ShownStore, Step, Opening, address_at}
+use Rattle.lisp_refinement.specs.World.{ServerNodeState, RouterNodeState, DatagramValue, WorldState}
+use Rattle.lisp_refinement.specs.Calls.{StoreRestarts, CoreAnswersStartOver, config_of, database_of, NodeRestarts}
+use Rattle.lisp_refinement.specs.Events.{address_of, NetworkRestartsServer, NetworkRestartsRouter}
 use Rattle.lisp_refinement.specs.Nodes.{fresh_server}
-use Rattle.lisp_refinement.specs.Stands.{Stands, StandsAfter}
+use Rattle.lisp_refinement.specs.Stands.{StandsForRouter, Stands, StandsAfter}
 use Rattle.lisp_refinement.proofs.Acting.{address_is}
-use Rattle.lisp_refinement.proofs.Restarting.{restart_server_stands}
+use Rattle.lisp_refinement.proofs.Restarting.{restart_server_stands, restart_router_stands}
+use Rattle.lisp_etr.specs.Config.{EtrConfigValue}
+use Rattle.lisp_records.specs.Record.{MapRecordValue}
+use Rattle.lisp_nodes.specs.Cores.{first_used}
+use Rattle.lisp_world.specs.Making.{router_over}
 use Rattle.lisp_turns.specs.Acts.{TurnAct, DoesAll, act_calls, acts_calls, send_calls, printed_of}
 use Rattle.lisp_turns.specs.Node.{NodeState, Server, Router, HasNode, Passes}
 use Rattle.lisp_turns.specs.Outside.{Call, Prints}
@@ -30,7 +34,7 @@ use Rattle.lisp_turns.proofs.Calls.{sent_append}
 use Rattle.lisp_turns.proofs.Reaching.{Reaches, goes_further}
 use Rattle.lisp_turns.proofs.Ticking.{tick_reaches}
 use Rattle.lisp_deployment.specs.Deployment.{DeploymentState, node_count, IsAmong, DeploymentStands}
-use Rattle.lisp_deployment.specs.Lives.{store_of, BeginsAt, BeginsLife, ServerLivesStand}
+use Rattle.lisp_deployment.specs.Lives.{store_of, BeginsAt, BeginsLife, StartsAt, IsAsConfigured, EndsAsConfigured, LivesStand}
 use Rattle.lisp_deployment.proofs.Passing.{passing_stands, idling_passes}
 use Rattle.lisp_deployment.proofs.OthersStand.{others_kept, others_stand, has_it, has_others}
 use Rattle.lisp_deployment.proofs.Deploying.{among_itself, kept_clock, kept_bag}
@@ -135,17 +139,7 @@ module _ (w : WorldState) (now : ℕ) (o : Opening) (T : List Step) (stand : Sta
     clock = moment_is;
   }
 
--- a node with a Map-Server's number is one
-server_of : (w : WorldState) (number : ℕ) (node : NodeState) → number < length w.servers → HasNode w number node → (n : ServerNodeState) × (node ≡ Server n)
-server_of w number (Server n) low has = (n, refl)
-server_of w number (Router n) low (place, number_is, there) = absurd (omega (arith, low, number_is))
-
-server_begins : (config : ConfigValue) (number : ℕ) (store : StoreState) (now : ℕ) (node : NodeState) → number < length config.servers → BeginsAt config number store now node → (n : ServerNodeState) × (node ≡ Server n)
-server_begins config number store now (Server n) low begins = (n, refl)
-server_begins config number store now (Router n) low (place, number_is, down, over, starts) = absurd (omega (arith, low, number_is))
-
-module _ (A : Type 0) (config : ConfigValue) (number : ℕ) (told : List TurnAct) (old new : DeploymentState) (life : BeginsLife A config number told old new) (low : number < length config.servers)
-    (counts : Proceeds (store_of life.last) life.store) (w : WorldState) (o : Opening) (T : List Step) (stand : DeploymentStands config old w o T) where
+module _ (A : Type 0) (config : ConfigValue) (number : ℕ) (told : List TurnAct) (old new : DeploymentState) (life : BeginsLife A config number told old new) (counts : Proceeds (store_of life.last) life.store) (w : WorldState) (o : Opening) (T : List Step) (stand : DeploymentStands config old w o T) where
   -- what it did until it ended
   abbrev Ended : NodeState → Type 0
   Ended node = Reaches number [] [] [] node life.ended w o T
@@ -200,7 +194,46 @@ module _ (A : Type 0) (config : ConfigValue) (number : ℕ) (told : List TurnAct
   start_moment : at_start.clock ≡ new.moment
   start_moment = moment_is at_end new.moment o (did.steps ++ T) end_stands end_early life.bound
 
-  -- which is a restart
+  -- where it begins with a restart, the deployment is a network
+  crashes : StoreRestarts (store_of life.last) life.store 0
+  crashes = record {
+    narrows = λ honest. life.survives.narrows;
+    picks = λ obeys. absurd (true≢false (sym obeys ∙ life.survives.unscheduled.0));
+    proceeds = counts;
+  }
+
+  at_start_bag : at_start.bag ++ [] ≡ w.bag ++ sends (address_at config number) (acts_calls acts)
+  at_start_bag = append-nil at_start.bag ∙ kept_bag w did.left number life.last ∙ did.bag
+      ∙ ap (λ (l : List (Addr × List ℕ)). w.bag ++ map (datagram_from (address_of w number)) (reverse l)) (append-nil (sent_of (acts_calls acts)))
+      ∙ ap (λ (a : Addr). w.bag ++ sends a (acts_calls acts)) (address_is w o T stand.stands number ∙ ap (λ (c : ConfigValue). address_at c number) stand.config_is)
+
+  abbrev Goes : Type 0
+  Goes = (steps : List Step) × (left : WorldState) × DeploymentStands config new left o (steps ++ T)
+
+  module _ (left : WorldState) (s : Step) (stands : Stands left o (s ∷ until_start)) (bag : left.bag ≡ at_start.bag ++ []) (clock : left.clock ≡ at_start.clock) (has : HasNode left number (new.nodes number).node)
+      (others : (k : ℕ) (other : NodeState) → k ≢ number → HasNode at_end k other → HasNode left k other) where
+    nodes_are : (k : ℕ) → k < node_count config → HasNode left k (new.nodes k).node
+    nodes_are k known = by (k == number) refl
+      where
+        by : (b : Bool) → (k == number) ≡ b → HasNode left k (new.nodes k).node
+        by true is = let here : number ≡ k = sym ((Decides-eqb k number).0 is) in subst (λ m. HasNode left m (new.nodes m).node) here has
+        by false is = let differs : (k ≢ number) = λ e. absurd (true≢false (sym ((Decides-eqb k number).1 e) ∙ is)) in
+            subst (λ (x : TurnState). HasNode left k x.node) (sym (life.others k differs)) (others k (old.nodes k).node differs (end_others k (old.nodes k).node differs (stand.nodes k known)))
+
+    sent_is : IsAmong new.sent left.bag
+    sent_is = subst (λ (p : List DatagramValue × List DatagramValue). IsAmong p.0 p.1)
+        {x = (old.sent ++ sends (address_at config number) (acts_calls told), w.bag ++ sends (address_at config number) (acts_calls acts))} {y = (new.sent, left.bag)}
+        (λ i. (sym life.sent i, sym (bag ∙ at_start_bag) i))
+        (among_both old.sent w.bag (sends (address_at config number) (acts_calls told)) (sends (address_at config number) (acts_calls acts)) stand.sent (all_among (address_at config number) life.untold told))
+
+    goes_on : Goes
+    goes_on = (
+      s ∷ idle_step at_end new.moment o (did.steps ++ T) end_stands end_early life.bound ∷ did.steps,
+      left,
+      record { stands = stands; config_is = stand.config_is; nodes = nodes_are; clock = clock ∙ start_moment; sent = sent_is },
+    )
+
+  -- of a Map-Server
   module _ (last begun : ServerNodeState) (last_is : life.last ≡ Server last) (begun_is : (new.nodes number).node ≡ Server begun) where
     was : slice_get at_start.servers number ≡ Some last
     was = subst (λ (n : NodeState). HasNode at_end number n) last_is end_has
@@ -211,18 +244,11 @@ module _ (A : Type 0) (config : ConfigValue) (number : ℕ) (told : List TurnAct
     sites : last.core.sites ≡ config.sites
     sites = (start_stands.servers number last was).sites ∙ ap (λ (c : ConfigValue). c.sites) stand.config_is
 
-    crashes : StoreRestarts (store_of life.last) life.store 0
-    crashes = record {
-      narrows = λ honest. life.survives.narrows;
-      picks = λ obeys. absurd (true≢false (sym obeys ∙ life.survives.unscheduled.0));
-      proceeds = counts;
-    }
+    abbrev with_server : WorldState
+    with_server = record at_start { bag = at_start.bag ++ []; servers = slice_set at_start.servers number begun }
 
-    abbrev left : WorldState
-    left = record at_start { bag = at_start.bag ++ []; servers = slice_set at_start.servers number begun }
-
-    restarts : NetworkRestartsServer at_start left number 0 (lines.Restarted number)
-    restarts = record {
+    server_restarts : NetworkRestartsServer at_start with_server number 0 (lines.Restarted number)
+    server_restarts = record {
       acts = record { before = last; after = begun; was = was; left = refl };
       core = ap (λ (n : ServerNodeState). n.core) begins.1 ∙ ap fresh_server (sym sites);
       crashes = subst (λ (p : StoreState × StoreState). StoreRestarts p.0 p.1 0) {x = (store_of life.last, life.store)} {y = (last.store, begun.store)}
@@ -231,46 +257,83 @@ module _ (A : Type 0) (config : ConfigValue) (number : ℕ) (told : List TurnAct
       said = refl;
     }
 
-    abbrev restarted : (actor : ℕ) × (s : ShownStore) × Stands left o (record { event = events.Restart number 0 None; line = lines.Restarted number; actor = actor; shown = s } ∷ until_start)
-    restarted = restart_server_stands at_start left number 0 (lines.Restarted number) restarts o until_start start_stands
+    abbrev server_restarted : (actor : ℕ) × (s : ShownStore) × Stands with_server o (record { event = events.Restart number 0 None; line = lines.Restarted number; actor = actor; shown = s } ∷ until_start)
+    server_restarted = restart_server_stands at_start with_server number 0 (lines.Restarted number) server_restarts o until_start start_stands
 
-    low_here : number < length at_start.servers
-    low_here = slice_get_within at_start.servers number last was
+    beside_server : (k : ℕ) (other : NodeState) → k ≢ number → HasNode at_end k other → HasNode with_server k other
+    beside_server k (Server m) differs there = get_set_other at_end.servers number k begun m differs there
+    beside_server k (Router m) differs (place, number_is, there) = (place, number_is ∙ ap (λ l. l + place) (sym (length-set at_end.servers number begun)), there)
 
-    other_has : (k : ℕ) (other : NodeState) → k ≢ number → HasNode at_end k other → HasNode left k other
-    other_has k (Server m) differs there = get_set_other at_end.servers number k begun m differs there
-    other_has k (Router m) differs (place, number_is, there) = (place, number_is ∙ ap (λ l. l + place) (sym (length-set at_end.servers number begun)), there)
+    server_goes_on : Goes
+    server_goes_on = goes_on with_server (record { event = events.Restart number 0 None; line = lines.Restarted number; actor = server_restarted.0; shown = server_restarted.1 }) server_restarted.2 refl refl
+        (subst (λ (n : NodeState). HasNode with_server number n) (sym begun_is) (get_set_there at_start.servers number begun (slice_get_within at_start.servers number last was))) beside_server
 
-    nodes_are : (k : ℕ) → k < node_count config → HasNode left k (new.nodes k).node
-    nodes_are k known = by (k == number) refl
+  -- of a router that keeps its key and its database
+  module _ (last begun : RouterNodeState) (last_is : life.last ≡ Router last) (begun_is : (new.nodes number).node ≡ Router begun) (configured : IsAsConfigured config number last)
+      (place : ℕ) (number_is : number ≡ length at_end.servers + place) (was : slice_get at_end.routers place ≡ Some last)
+      (entry_place : ℕ) (entry_number : number ≡ length config.servers + entry_place) (down : RouterNodeState) (entry : RouterEntryValue) (there : slice_get config.routers entry_place ≡ Some entry)
+      (down_is : down ≡ router_over config entry life.store) (starts : StartsAt down begun new.moment) where
+    entry_is : entry ≡ router_at config number
+    entry_is = (let at : number - length config.servers ≡ entry_place = omega (arith, entry_number) in
+        sym (get_or_from_slice_get config.routers (number - length config.servers) entry _ (ap (slice_get config.routers) at ∙ there)))
+
+    in_model : router_at o.config (length o.config.servers + place) ≡ router_at config number
+    in_model = (let at : length o.config.servers + place ≡ number = omega (arith, number_is, end_stands.steps.servers) in λ i. router_at (stand.config_is i) (at i))
+
+    last_stands : StandsForRouter o until_start (length o.config.servers + place) last
+    last_stands = start_stands.routers place last was
+
+    restarts : NodeRestarts last begun 0 None at_start.clock (Ok tt)
+    restarts = record {
+      me = starts.me ∙ ap (λ (n : RouterNodeState). n.me) down_is ∙ ap (λ (r : RouterEntryValue). r.me) entry_is ∙ sym (last_stands.me ∙ ap (λ (r : RouterEntryValue). r.me) in_model);
+      servers = starts.servers ∙ ap (λ (n : RouterNodeState). n.servers) down_is ∙ ap (λ (r : RouterEntryValue). r.servers) entry_is ∙ sym (last_stands.servers ∙ ap (λ (r : RouterEntryValue). r.servers) in_model);
+      used = starts.used ∙ ap (λ (n : RouterNodeState). n.used) down_is ∙ ap (λ (r : RouterEntryValue). first_used r.key_id) entry_is ∙ sym configured.used;
+      crashed = life.store;
+      crashes = subst (λ (s : StoreState). StoreRestarts s life.store 0) (λ i. store_of (last_is i)) crashes;
+      starts = subst (λ (p : EtrConfigValue × List MapRecordValue × ℕ × StoreState). CoreAnswersStartOver p.0 p.1 p.2 p.3 begun.store begun.core (Ok tt))
+          {x = (config_of down.core, database_of down.core, new.moment, down.store)} {y = (config_of last.core, database_of last.core, at_start.clock, life.store)}
+          (λ i. (settings i, same_database i, sym start_moment i, ap (λ (n : RouterNodeState). n.store) down_is i)) starts.starts;
+    }
       where
-        by : (b : Bool) → (k == number) ≡ b → HasNode left k (new.nodes k).node
-        by true is = let here : number ≡ k = sym ((Decides-eqb k number).0 is) in
-            subst (λ m. HasNode left m (new.nodes m).node) here (subst (λ (n : NodeState). HasNode left number n) (sym begun_is) (get_set_there at_start.servers number begun low_here))
-        by false is = let differs : (k ≢ number) = λ e. absurd (true≢false (sym ((Decides-eqb k number).1 e) ∙ is)) in
-            subst (λ (x : TurnState). HasNode left k x.node) (sym (life.others k differs)) (other_has k (old.nodes k).node differs (end_others k (old.nodes k).node differs (stand.nodes k known)))
+        settings : config_of down.core ≡ config_of last.core
+        settings = ap (λ (n : RouterNodeState). config_of n.core) down_is ∙ ap (λ (r : RouterEntryValue). etr_config_of config r) entry_is ∙ sym configured.settings
 
-    bag_is : left.bag ≡ w.bag ++ sends (address_at config number) (acts_calls acts)
-    bag_is = append-nil at_start.bag ∙ kept_bag w did.left number life.last ∙ did.bag
-        ∙ ap (λ (l : List (Addr × List ℕ)). w.bag ++ map (datagram_from (address_of w number)) (reverse l)) (append-nil (sent_of (acts_calls acts)))
-        ∙ ap (λ (a : Addr). w.bag ++ sends a (acts_calls acts)) (address_is w o T stand.stands number ∙ ap (λ (c : ConfigValue). address_at c number) stand.config_is)
+        same_database : database_of down.core ≡ database_of last.core
+        same_database = ap (λ (n : RouterNodeState). database_of n.core) down_is ∙ ap (λ (r : RouterEntryValue). r.database) entry_is ∙ sym configured.database
 
-    sent_is : IsAmong new.sent left.bag
-    sent_is = subst (λ (p : List DatagramValue × List DatagramValue). IsAmong p.0 p.1)
-        {x = (old.sent ++ sends (address_at config number) (acts_calls told), w.bag ++ sends (address_at config number) (acts_calls acts))} {y = (new.sent, left.bag)}
-        (λ i. (sym life.sent i, sym bag_is i))
-        (among_both old.sent w.bag (sends (address_at config number) (acts_calls told)) (sends (address_at config number) (acts_calls acts)) stand.sent (all_among (address_at config number) life.untold told))
+    abbrev with_router : WorldState
+    with_router = record at_start { bag = at_start.bag ++ []; routers = slice_set at_start.routers place begun }
 
-    life_stands : (steps : List Step) × (left : WorldState) × DeploymentStands config new left o (steps ++ T)
-    life_stands = (
-      record { event = events.Restart number 0 None; line = lines.Restarted number; actor = restarted.0; shown = restarted.1 } ∷ idle_step at_end new.moment o (did.steps ++ T) end_stands end_early life.bound ∷ did.steps,
-      left,
-      record { stands = restarted.2; config_is = stand.config_is; nodes = nodes_are; clock = start_moment; sent = sent_is },
-    )
+    router_restarts : NetworkRestartsRouter at_start with_router number 0 None (lines.Restarted number)
+    router_restarts = record {
+      acts = record { place = place; number = number_is; before = last; after = begun; was = was; left = refl };
+      answer = Ok tt;
+      restarts = restarts;
+      said = refl;
+    }
 
-pub server_lives_stand : (A : Type 0) → ServerLivesStand A
-server_lives_stand A config number told old new life low counts w o T stand =
-    let end = at_end A config number told old new life low counts w o T stand in
-    let last = server_of end number life.last (omega (arith, low, (end_stands A config number told old new life low counts w o T stand).steps.servers, ap (λ (c : ConfigValue). length c.servers) stand.config_is)) (end_has A config number told old new life low counts w o T stand) in
-    let begun = server_begins config number life.store new.moment (new.nodes number).node low life.begins in
-    life_stands A config number told old new life low counts w o T stand last.0 begun.0 last.1 begun.1
+    abbrev router_restarted : (actor : ℕ) × (s : ShownStore) × Stands with_router o (record { event = events.Restart number 0 None; line = lines.Restarted number; actor = actor; shown = s } ∷ until_start)
+    router_restarted = restart_router_stands at_start with_router number 0 None (lines.Restarted number) tt router_restarts o until_start start_stands
+
+    beside_router : (k : ℕ) (other : NodeState) → k ≢ number → HasNode at_end k other → HasNode with_router k other
+    beside_router k (Server m) differs has = has
+    beside_router k (Router m) differs (at, k_is, has) = (at, k_is, get_set_other at_end.routers place at begun m (λ same. differs (omega (arith, same, k_is, number_is))) has)
+
+    router_goes_on : Goes
+    router_goes_on = goes_on with_router (record { event = events.Restart number 0 None; line = lines.Restarted number; actor = router_restarted.0; shown = router_restarted.1 }) router_restarted.2 refl refl
+        (subst (λ (n : NodeState). HasNode with_router number n) (sym begun_is) (place, number_is, get_set_there at_start.routers place begun (slice_get_within at_start.routers place last was))) beside_router
+
+  -- of either kind
+  same_count : length at_end.servers ≡ length config.servers
+  same_count = end_stands.steps.servers ∙ ap (λ (c : ConfigValue). length c.servers) stand.config_is
+
+  by_kind : (last begun : NodeState) → life.last ≡ last → (new.nodes number).node ≡ begun → EndsAsConfigured config number last → HasNode at_end number last → BeginsAt config number life.store new.moment begun → Goes
+  by_kind (Server last) (Server begun) last_is begun_is configured has begins = server_goes_on last begun last_is begun_is
+  by_kind (Server last) (Router begun) last_is begun_is configured has (place, number_is, down, over, starts) = absurd (omega (arith, number_is, slice_get_within at_end.servers number last has, same_count))
+  by_kind (Router last) (Server begun) last_is begun_is configured (place, number_is, was) begins = absurd (omega (arith, number_is, begins.0, same_count))
+  by_kind (Router last) (Router begun) last_is begun_is configured (place, number_is, was) (entry_place, entry_number, down, (entry, there, down_is), starts) =
+      router_goes_on last begun last_is begun_is configured place number_is was entry_place entry_number down entry there down_is starts
+
+pub lives_stand : (A : Type 0) → LivesStand A
+lives_stand A config number told old new life configured counts w o T stand =
+    by_kind A config number told old new life counts w o T stand life.last (new.nodes number).node refl refl configured (end_has A config number told old new life counts w o T stand) life.begins

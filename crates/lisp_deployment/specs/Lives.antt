@@ -5,9 +5,10 @@ use Rattle.lisp_records.specs.Moment.{max_moment}
 use Rattle.lisp_policy.specs.Configuration.{ConfigValue}
 use Rattle.lisp_nonces.specs.Kept.{NarrowsEach}
 use Rattle.lisp_nonces.specs.Store.{StoreState, Proceeds}
-use Rattle.lisp_model.specs.Trace.{Step, Opening}
-use Rattle.lisp_refinement.specs.Calls.{NodeStarts}
+use Rattle.lisp_model.specs.Trace.{router_at, etr_config_of, Step, Opening}
+use Rattle.lisp_refinement.specs.Calls.{NodeStarts, config_of, database_of}
 use Rattle.lisp_refinement.specs.World.{RouterNodeState, WorldState}
+use Rattle.lisp_nodes.specs.Cores.{first_used}
 use Rattle.lisp_world.specs.Making.{server_over, IsRouterOver}
 use Rattle.lisp_turns.specs.Acts.{TurnAct, DoesAll, acts_calls}
 use Rattle.lisp_turns.specs.Due.{IsDuty, IsRefused}
@@ -67,10 +68,20 @@ pub record BeginsLife (A : Type 0) (config : ConfigValue) (number : ℕ) (told :
   pub others : (k : ℕ) → k ≢ number → new.nodes k ≡ old.nodes k
   pub sent : new.sent ≡ old.sent ++ sent_by config number (acts_calls told)
 
--- A Map-Server's next life is a restart: a deployment that is a network goes on to be one, where no count of failures of the node's store
--- fell.
-abbrev pub ServerLivesStand : Type 0 → Type 0
-ServerLivesStand A = (config : ConfigValue) (number : ℕ) (told : List TurnAct) (old new : DeploymentState)
-    → (life : BeginsLife A config number told old new) → number < length config.servers → Proceeds (store_of life.last) life.store
+-- A router is as it is configured: it went over to no other key, and was given no other database.
+pub record IsAsConfigured (config : ConfigValue) (number : ℕ) (n : RouterNodeState) : Type 0 where
+  pub settings : config_of n.core ≡ etr_config_of config (router_at config number)
+  pub database : database_of n.core ≡ (router_at config number).database
+  pub used : n.used ≡ first_used (router_at config number).key_id
+
+abbrev pub EndsAsConfigured : ConfigValue → ℕ → NodeState → Type 0
+EndsAsConfigured config number (Server n) = Unit {0}
+EndsAsConfigured config number (Router n) = IsAsConfigured config number n
+
+-- A node's next life is a restart: a deployment that is a network goes on to be one, where a router ended as it is configured, and no count
+-- of failures of the node's store fell.
+abbrev pub LivesStand : Type 0 → Type 0
+LivesStand A = (config : ConfigValue) (number : ℕ) (told : List TurnAct) (old new : DeploymentState)
+    → (life : BeginsLife A config number told old new) → EndsAsConfigured config number life.last → Proceeds (store_of life.last) life.store
     → (w : WorldState) (o : Opening) (T : List Step) → DeploymentStands config old w o T
     → (steps : List Step) × (left : WorldState) × DeploymentStands config new left o (steps ++ T)

@@ -3,7 +3,7 @@
 ghost use Rattle.lisp_deployment.specs.Deeds.{DeploymentsHaveTraces};
 ghost use Rattle.lisp_deployment.specs.Deployment.{TurnsAreOneTrace};
 ghost use Rattle.lisp_deployment.specs.Late.{LateTurnsAreParts};
-ghost use Rattle.lisp_deployment.specs.Lives.{ServerLivesStand};
+ghost use Rattle.lisp_deployment.specs.Lives.{LivesStand};
 ghost use Rattle.lisp_deployment.specs.Opening.{DeploymentsAreNetworks};
 ghost use Rattle.lisp_deployment.specs.Passing.{IdlingPasses, PassingStands, TicksArePasses};
 
@@ -43,14 +43,15 @@ pub fn deployments_are_networks<A: Allocator>()
     ensures { DeploymentsAreNetworks A }
 {}
 
-/// A Map-Server that crashes, perhaps in a turn, and begins its next life over what its store kept, is a restart in the network's
-/// trace. Of what it did before the crash the network may have more than was printed and sent.
-pub fn server_lives_stand<A: Allocator>()
-    ensures { ServerLivesStand A }
+/// A node that crashes, perhaps in a turn, and begins its next life over what its store kept, is a restart in the network's trace,
+/// unless it is a router that went over to another key or was given another database. Of what it did before the crash the
+/// network may have more than was printed and sent.
+pub fn lives_stand<A: Allocator>()
+    ensures { LivesStand A }
 {}
 
-/// A deployment has a legal trace, of which the headline holds, whichever of its nodes takes a turn when, and whichever Map-Server
-/// crashes and begins again: what it accepted in all its lives is in that one trace.
+/// A deployment has a legal trace, of which the headline holds, whichever of its nodes takes a turn when, and whichever crashes and
+/// begins again: what a Map-Server accepted in all its lives is in that one trace.
 pub fn deployments_have_traces<A: Allocator>()
     ensures { DeploymentsHaveTraces A }
 {}
