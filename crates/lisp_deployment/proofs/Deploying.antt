@@ -22,7 +22,7 @@ use Rattle.lisp_deployment.proofs.OthersStand.{others_kept, others_stand, has_it
 
 -- what is among a list is so once both have more at their ends
 module _ {X : Type 0} where
-  pub among_itself : (zs : List X) → IsAmong zs zs
+  among_itself : (zs : List X) → IsAmong zs zs
   among_itself [] = tt
   among_itself (z ∷ zs) = inl (refl, among_itself zs)
 
@@ -31,7 +31,7 @@ module _ {X : Type 0} where
   among_end (y ∷ ys) [] = tt
   among_end (y ∷ ys) (z ∷ zs) = inr (among_end ys (z ∷ zs))
 
-  among_more : (xs ys zs : List X) → IsAmong xs ys → IsAmong (xs ++ zs) (ys ++ zs)
+  pub among_more : (xs ys zs : List X) → IsAmong xs ys → IsAmong (xs ++ zs) (ys ++ zs)
   among_more [] ys zs among = among_end ys zs
   among_more (x ∷ xs) [] zs among = absurd among
   among_more (x ∷ xs) (y ∷ ys) zs (inl (same, among)) = inl (same, among_more xs ys zs among)
@@ -90,7 +90,7 @@ module _ (A : Type 0) (config : ConfigValue) (number places : ℕ) (s t : TurnSt
   }
 
 -- the network that a turn leaves, whatever else a network does by then
-record TurnGoesOn (number : ℕ) (calls : List Call) (node : NodeState) (now : ℕ) (w : WorldState) (o : Opening) (T : List Step) : Type 0 where
+pub record TurnGoesOn (number : ℕ) (calls : List Call) (node : NodeState) (now : ℕ) (w : WorldState) (o : Opening) (T : List Step) : Type 0 where
   pub steps : List Step
   pub left : WorldState
   pub part : IsPart number calls w left o T steps
@@ -124,7 +124,7 @@ module _ (A : Type 0) (config : ConfigValue) (number places : ℕ) (s t : TurnSt
   same_calls : goes.calls ≡ asked
   same_calls = sym (append-nil goes.calls) ∙ same_some (goes.calls ++ []) (asked ++ []) (sym goes.asked) ∙ append-nil asked
 
-  turn_goes_on : TurnGoesOn number asked t.node turn.now w o T
+  pub turn_goes_on : TurnGoesOn number asked t.node turn.now w o T
   turn_goes_on = record {
     steps = goes.steps;
     left = others_kept w goes.left o T goes.steps stand goes.part.stands number goes.part.own t.node;
@@ -146,10 +146,10 @@ module _ (A : Type 0) (config : ConfigValue) (number places : ℕ) (s t : TurnSt
 -- a deployment goes on by a turn
 module _ (A : Type 0) (config : ConfigValue) (number : ℕ) (asked : List Call) (old new : DeploymentState) (takes : TakesTurn A config number asked old new) (w : WorldState) (o : Opening) (T : List Step)
     (stand : DeploymentStands config old w o T) where
-  abbrev turned : TurnGoesOn number (calls_in A config number takes.places (old.nodes number) (new.nodes number) takes.turn) (new.nodes number).node takes.turn.now w o T
+  abbrev pub turned : TurnGoesOn number (calls_in A config number takes.places (old.nodes number) (new.nodes number) takes.turn) (new.nodes number).node takes.turn.now w o T
   turned = turn_goes_on A config number takes.places (old.nodes number) (new.nodes number) takes.turn w o T stand.stands stand.config_is (stand.nodes number takes.known) (subst (λ m. m ≤ takes.turn.now) (sym stand.clock) takes.later)
 
-  its_part : IsPart number asked w turned.left o T turned.steps
+  pub its_part : IsPart number asked w turned.left o T turned.steps
   its_part = subst (λ (cs : List Call). IsPart number cs w turned.left o T turned.steps) (sym takes.asked) turned.part
 
   all_nodes : (k : ℕ) → k < node_count config → HasNode turned.left k (new.nodes k).node
@@ -170,7 +170,7 @@ module _ (A : Type 0) (config : ConfigValue) (number : ℕ) (asked : List Call) 
       bag_is : turned.left.bag ≡ w.bag ++ sent_by config number asked
       bag_is = its_part.sent ∙ ap (λ (a : Addr). w.bag ++ map (datagram_from a) (reverse (sent_of asked))) address
 
-  turn_stands : DeploymentStands config new turned.left o (turned.steps ++ T)
+  pub turn_stands : DeploymentStands config new turned.left o (turned.steps ++ T)
   turn_stands = record {
     stands = turned.part.stands;
     config_is = stand.config_is;

@@ -1,9 +1,9 @@
 -- A node's life ends, perhaps in a turn, and its next one begins: the deployment goes on to be a network.
 use Rattle.std.proofs.Common.{Ok, ◌≡◌, ◌⊎◌, inl, inr, Bool, true, false, true≢false, ℕ, ◌+◌, ◌-◌, ◌<◌, ◌≤◌, List, [], ◌∷◌, ◌++◌, length, length-set, map, reverse, Some, None, refl, sym, ap, subst, ◌∙◌, append-nil, arith}
-use Rattle.std.specs.Prelude.{◌≢◌, ◌==◌, if◌then◌else◌, slice_get, slice_set}
+use Rattle.std.specs.Prelude.{◌≢◌, ◌==◌, slice_get, slice_set}
 use Rattle.std.specs.List.{AllByRecursion}
 use Rattle.std.proofs.lemmas.Bool.Decides.{Decides-eqb}
-use Rattle.std.proofs.lemmas.List.{reverse-append, map-append}
+use Rattle.std.proofs.lemmas.List.{append_assoc}
 use Rattle.std.proofs.lemmas.Option.{slice_get_within, get_or_from_slice_get}
 use Rattle.lisp_records.specs.declared.address.Addr.{Addr}
 use Rattle.lisp_records.specs.Moment.{max_moment}
@@ -23,40 +23,26 @@ use Rattle.lisp_etr.specs.Config.{EtrConfigValue}
 use Rattle.lisp_records.specs.Record.{MapRecordValue}
 use Rattle.lisp_nodes.specs.Cores.{first_used}
 use Rattle.lisp_world.specs.Making.{router_over}
-use Rattle.lisp_turns.specs.Acts.{TurnAct, DoesAll, act_calls, acts_calls, send_calls, printed_of}
+use Rattle.lisp_turns.specs.Acts.{TurnAct, DoesAll, acts_calls}
 use Rattle.lisp_turns.specs.Node.{NodeState, Server, Router, HasNode, Passes}
-use Rattle.lisp_turns.specs.Outside.{Call, Prints}
-use Rattle.lisp_turns.specs.Part.{IsOwn, lines_of, sent_of, datagram_from}
+use Rattle.lisp_turns.specs.Part.{IsOwn, ArePrinted, lines_of, sent_of, datagram_from}
 use Rattle.lisp_turns.specs.Turn.{TurnState}
-use Rattle.lisp_turns.proofs.Acting.{get_set_there, AreOwn, arrived, acts_reach}
+use Rattle.lisp_turns.proofs.Acting.{get_set_there, IsTold, AreOwn, arrived, acts_reach}
 use Rattle.lisp_turns.proofs.BeginningStores.{get_set_other}
-use Rattle.lisp_turns.proofs.Calls.{sent_append}
 use Rattle.lisp_turns.proofs.Reaching.{Reaches, goes_further}
 use Rattle.lisp_turns.proofs.Ticking.{tick_reaches}
-use Rattle.lisp_deployment.specs.Deployment.{DeploymentState, node_count, IsAmong, DeploymentStands}
-use Rattle.lisp_deployment.specs.Lives.{store_of, BeginsAt, BeginsLife, StartsAt, IsAsConfigured, EndsAsConfigured, LivesStand}
+use Rattle.lisp_deployment.specs.Deployment.{DeploymentState, node_count, sent_by, IsAmong, DeploymentStands}
+use Rattle.lisp_deployment.specs.Lives.{store_of, BeginsAt, BeginsLife, StartsAt, IsAsConfigured, EndsAsConfigured, IsLife, LifeGoesOn, LivesStand}
 use Rattle.lisp_deployment.proofs.Passing.{passing_stands, idling_passes}
 use Rattle.lisp_deployment.proofs.OthersStand.{others_kept, others_stand, has_it, has_others}
-use Rattle.lisp_deployment.proofs.Deploying.{among_itself, kept_clock, kept_bag}
+use Rattle.lisp_deployment.proofs.Deploying.{among_more, kept_clock, kept_bag}
 
 -- what is among a list is among a longer one
-module _ {X : Type 0} where
-  among_after : (y : X) (us zs : List X) → IsAmong us zs → IsAmong us (y ∷ zs)
-  among_after y [] zs among = tt
-  among_after y (u ∷ us) zs among = inr among
-
-  among_wider : (xs ys zs : List X) → IsAmong xs ys → IsAmong xs (ys ++ zs)
-  among_wider [] ys zs among = tt
-  among_wider (x ∷ xs) [] zs among = absurd among
-  among_wider (x ∷ xs) (y ∷ ys) zs (inl (same, among)) = inl (same, among_wider xs ys zs among)
-  among_wider (x ∷ xs) (y ∷ ys) zs (inr among) = inr (among_wider (x ∷ xs) ys zs among)
-
-  among_both : (xs ys us vs : List X) → IsAmong xs ys → IsAmong us vs → IsAmong (xs ++ us) (ys ++ vs)
-  among_both [] [] us vs among more = more
-  among_both [] (y ∷ ys) us vs among more = among_after y us (ys ++ vs) (among_both [] ys us vs tt more)
-  among_both (x ∷ xs) [] us vs among more = absurd among
-  among_both (x ∷ xs) (y ∷ ys) us vs (inl (same, among)) more = inl (same, among_both xs ys us vs among more)
-  among_both (x ∷ xs) (y ∷ ys) us vs (inr among) more = inr (among_both (x ∷ xs) ys us vs among more)
+among_wider : {X : Type 0} (xs ys zs : List X) → IsAmong xs ys → IsAmong xs (ys ++ zs)
+among_wider [] ys zs among = tt
+among_wider (x ∷ xs) [] zs among = absurd among
+among_wider (x ∷ xs) (y ∷ ys) zs (inl (same, among)) = inl (same, among_wider xs ys zs among)
+among_wider (x ∷ xs) (y ∷ ys) zs (inr among) = inr (among_wider (x ∷ xs) ys zs among)
 
 -- acts, as if each were told
 abbrev as_told : TurnAct → TurnAct
@@ -73,34 +59,28 @@ told_own : (number : ℕ) (acts : List TurnAct) → AllByRecursion (λ a. IsOwn 
 told_own number [] own = tt
 told_own number (a ∷ earlier) own = ((own.0, inl refl), told_own number earlier own.1)
 
--- what is sent in acts, the oldest first
-module _ (from : Addr) where
-  abbrev sends : List Call → List DatagramValue
-  sends calls = map (datagram_from from) (reverse (sent_of calls))
+-- acts up to one of them, and from there on
+split_did : (A : Type 0) (config : ConfigValue) (number : ℕ) (old new : NodeState) (now : ℕ) (later earlier : List TurnAct) → DoesAll A config number old new now (later ++ earlier)
+    → (between : NodeState) × DoesAll A config number old between now earlier × DoesAll A config number between new now later
+split_did A config number old new now [] earlier did = (new, did, refl)
+split_did A config number old new now (a ∷ later) earlier (between, did, does) =
+    let rest = split_did A config number old between now later earlier did in (rest.0, rest.1, (between, rest.2, does))
 
-  sends_both : (later earlier : List Call) → sends (later ++ earlier) ≡ sends earlier ++ sends later
-  sends_both later earlier = ap (λ (l : List (Addr × List ℕ)). map (datagram_from from) (reverse l)) (sent_append later earlier)
-      ∙ ap (map (datagram_from from)) (reverse-append (sent_of later) (sent_of earlier)) ∙ map-append (datagram_from from) (reverse (sent_of earlier)) (reverse (sent_of later))
+all_later : {X : Type 0} (P : X → Type 0) (later earlier : List X) → AllByRecursion P (later ++ earlier) → AllByRecursion P later
+all_later P [] earlier all = tt
+all_later P (x ∷ later) earlier all = (all.0, all_later P later earlier all.1)
 
-  act_among : (a : TurnAct) → IsAmong (sends (act_calls a)) (sends (act_calls (as_told a)))
-  act_among a = by a.told
-    where
-      by : (b : Bool) → IsAmong (sends (if b then send_calls a.act.message a.taken ++ Prints (printed_of a.event a.act.line) ∷ [] else [])) (sends (send_calls a.act.message a.taken ++ Prints (printed_of a.event a.act.line) ∷ []))
-      by true = among_itself (sends (send_calls a.act.message a.taken ++ Prints (printed_of a.event a.act.line) ∷ []))
-      by false = tt
+all_earlier : {X : Type 0} (P : X → Type 0) (later earlier : List X) → AllByRecursion P (later ++ earlier) → AllByRecursion P earlier
+all_earlier P [] earlier all = all
+all_earlier P (x ∷ later) earlier all = all_earlier P later earlier all.1
 
-  told_among : (told : List TurnAct) → IsAmong (sends (acts_calls told)) (sends (acts_calls (all_told told)))
-  told_among [] = tt
-  told_among (a ∷ earlier) = subst (λ (p : List DatagramValue × List DatagramValue). IsAmong p.0 p.1)
-      {x = (sends (acts_calls earlier) ++ sends (act_calls a), sends (acts_calls (all_told earlier)) ++ sends (act_calls (as_told a)))}
-      {y = (sends (act_calls a ++ acts_calls earlier), sends (act_calls (as_told a) ++ acts_calls (all_told earlier)))}
-      (λ i. (sym (sends_both (act_calls a) (acts_calls earlier)) i, sym (sends_both (act_calls (as_told a)) (acts_calls (all_told earlier))) i))
-      (among_both (sends (acts_calls earlier)) (sends (acts_calls (all_told earlier))) (sends (act_calls a)) (sends (act_calls (as_told a))) (told_among earlier) (act_among a))
+all_of_both : {X : Type 0} (P : X → Type 0) (later earlier : List X) → AllByRecursion P later → AllByRecursion P earlier → AllByRecursion P (later ++ earlier)
+all_of_both P [] earlier one other = other
+all_of_both P (x ∷ later) earlier one other = (one.0, all_of_both P later earlier one.1 other)
 
-  all_among : (untold told : List TurnAct) → IsAmong (sends (acts_calls told)) (sends (acts_calls (all_told (untold ++ told))))
-  all_among [] told = told_among told
-  all_among (a ∷ untold) told = subst (λ (l : List DatagramValue). IsAmong (sends (acts_calls told)) l) (sym (sends_both (act_calls (as_told a)) (acts_calls (all_told (untold ++ told)))))
-      (among_wider (sends (acts_calls told)) (sends (acts_calls (all_told (untold ++ told)))) (sends (act_calls (as_told a))) (all_among untold told))
+own_told : (number : ℕ) (acts : List TurnAct) → AllByRecursion (λ a. IsOwn number a.event) acts → AllByRecursion (IsTold number) acts → AreOwn number acts
+own_told number [] own told = tt
+own_told number (a ∷ earlier) own told = ((own.0, told.0), own_told number earlier own.1 told.1)
 
 -- time passes in a network, in which nothing happens
 module _ (w : WorldState) (now : ℕ) (o : Opening) (T : List Step) (stand : Stands w o T) (early : w.clock ≤ now) (bound : now ≤ max_moment) where
@@ -157,42 +137,69 @@ module _ (A : Type 0) (config : ConfigValue) (number : ℕ) (told : List TurnAct
       by (inl passes) = tick_reaches A number (old.nodes number).node life.cut.passed life.ended w o T stand.stands (stand.nodes number life.known) begins_early ended_bound passes
       by (inr same) = subst Ended (sym same) (idle_reaches w life.ended o T stand.stands begins_early ended_bound number (old.nodes number).node (stand.nodes number life.known))
 
-  abbrev acts : List TurnAct
-  acts = all_told (life.untold ++ told)
+  split : (between : NodeState) × DoesAll A config number life.cut.passed between life.ended told × DoesAll A config number between life.last life.ended life.untold
+  split = split_did A config number life.cut.passed life.last life.ended life.untold told life.cut.did
 
-  did : Reaches number (lines_of (acts_calls acts) ++ []) (sent_of (acts_calls acts) ++ []) (arrived acts ++ []) life.last life.ended w o T
-  did = goes_further number [] (lines_of (acts_calls acts)) [] (sent_of (acts_calls acts)) [] (arrived acts) life.cut.passed life.last life.ended life.ended w o T stand.stands passed
-      (acts_reach A config number life.cut.passed life.last life.ended acts (told_did A config number life.cut.passed life.last life.ended (life.untold ++ told) life.cut.did) (told_own number (life.untold ++ told) life.cut.own)
+  -- what was told
+  until_told : Reaches number (lines_of (acts_calls told) ++ []) (sent_of (acts_calls told) ++ []) (arrived told ++ []) split.0 life.ended w o T
+  until_told = goes_further number [] (lines_of (acts_calls told)) [] (sent_of (acts_calls told)) [] (arrived told) life.cut.passed split.0 life.ended life.ended w o T stand.stands passed
+      (acts_reach A config number life.cut.passed split.0 life.ended told split.1 (own_told number told (all_earlier (λ a. IsOwn number a.event) life.untold told life.cut.own) life.cut.are_told)
       passed.left o (passed.steps ++ T) passed.stands stand.config_is passed.node_is passed.clock)
 
-  -- the others did nothing
-  abbrev at_end : WorldState
-  at_end = others_kept w did.left o T did.steps stand.stands did.stands number did.own life.last
+  abbrev first : List Step
+  first = until_told.steps ++ T
 
-  end_stands : Stands at_end o (did.steps ++ T)
-  end_stands = others_stand w did.left o T did.steps stand.stands did.stands number did.own life.last did.node_is
+  -- the others did nothing
+  abbrev at_told : WorldState
+  at_told = others_kept w until_told.left o T until_told.steps stand.stands until_told.stands number until_told.own split.0
+
+  told_stands : Stands at_told o first
+  told_stands = others_stand w until_told.left o T until_told.steps stand.stands until_told.stands number until_told.own split.0 until_told.node_is
+
+  told_has : HasNode at_told number split.0
+  told_has = has_it w until_told.left o T until_told.steps stand.stands until_told.stands number until_told.own split.0 until_told.node_is
+
+  told_others : (k : ℕ) (other : NodeState) → k ≢ number → HasNode w k other → HasNode at_told k other
+  told_others = has_others w until_told.left o T until_told.steps stand.stands until_told.stands number until_told.own split.0 until_told.node_is
+
+  -- and what wasn't
+  untold_reaches : Reaches number (lines_of (acts_calls (all_told life.untold))) (sent_of (acts_calls (all_told life.untold))) (arrived (all_told life.untold)) life.last life.ended at_told o first
+  untold_reaches = acts_reach A config number split.0 life.last life.ended (all_told life.untold) (told_did A config number split.0 life.last life.ended life.untold split.2)
+      (told_own number life.untold (all_later (λ a. IsOwn number a.event) life.untold told life.cut.own)) at_told o first told_stands stand.config_is told_has (kept_clock w until_told.left number split.0 ∙ until_told.clock)
+
+  abbrev until_end : List Step
+  until_end = untold_reaches.steps ++ first
+
+  abbrev at_end : WorldState
+  at_end = others_kept at_told untold_reaches.left o first untold_reaches.steps told_stands untold_reaches.stands number untold_reaches.own life.last
+
+  end_stands : Stands at_end o until_end
+  end_stands = others_stand at_told untold_reaches.left o first untold_reaches.steps told_stands untold_reaches.stands number untold_reaches.own life.last untold_reaches.node_is
 
   end_has : HasNode at_end number life.last
-  end_has = has_it w did.left o T did.steps stand.stands did.stands number did.own life.last did.node_is
+  end_has = has_it at_told untold_reaches.left o first untold_reaches.steps told_stands untold_reaches.stands number untold_reaches.own life.last untold_reaches.node_is
 
   end_others : (k : ℕ) (other : NodeState) → k ≢ number → HasNode w k other → HasNode at_end k other
-  end_others = has_others w did.left o T did.steps stand.stands did.stands number did.own life.last did.node_is
+  end_others k other differs has = has_others at_told untold_reaches.left o first untold_reaches.steps told_stands untold_reaches.stands number untold_reaches.own life.last untold_reaches.node_is k other differs (told_others k other differs has)
 
   end_early : at_end.clock ≤ new.moment
-  end_early = omega (arith, kept_clock w did.left number life.last, did.clock, life.later.1)
+  end_early = omega (arith, kept_clock at_told untold_reaches.left number life.last, untold_reaches.clock, life.later.1)
 
   -- and then nobody did anything until the next life
   abbrev at_start : WorldState
-  at_start = idled at_end new.moment o (did.steps ++ T) end_stands end_early life.bound
+  at_start = idled at_end new.moment o until_end end_stands end_early life.bound
+
+  abbrev waits : Step
+  waits = idle_step at_end new.moment o until_end end_stands end_early life.bound
 
   abbrev until_start : List Step
-  until_start = idle_step at_end new.moment o (did.steps ++ T) end_stands end_early life.bound ∷ did.steps ++ T
+  until_start = waits ∷ until_end
 
   start_stands : Stands at_start o until_start
-  start_stands = idle_stands at_end new.moment o (did.steps ++ T) end_stands end_early life.bound
+  start_stands = idle_stands at_end new.moment o until_end end_stands end_early life.bound
 
   start_moment : at_start.clock ≡ new.moment
-  start_moment = moment_is at_end new.moment o (did.steps ++ T) end_stands end_early life.bound
+  start_moment = moment_is at_end new.moment o until_end end_stands end_early life.bound
 
   -- where it begins with a restart, the deployment is a network
   crashes : StoreRestarts (store_of life.last) life.store 0
@@ -202,16 +209,21 @@ module _ (A : Type 0) (config : ConfigValue) (number : ℕ) (told : List TurnAct
     proceeds = counts;
   }
 
-  at_start_bag : at_start.bag ++ [] ≡ w.bag ++ sends (address_at config number) (acts_calls acts)
-  at_start_bag = append-nil at_start.bag ∙ kept_bag w did.left number life.last ∙ did.bag
-      ∙ ap (λ (l : List (Addr × List ℕ)). w.bag ++ map (datagram_from (address_of w number)) (reverse l)) (append-nil (sent_of (acts_calls acts)))
-      ∙ ap (λ (a : Addr). w.bag ++ sends a (acts_calls acts)) (address_is w o T stand.stands number ∙ ap (λ (c : ConfigValue). address_at c number) stand.config_is)
+  -- the network has what was told, and more
+  abbrev more : List DatagramValue
+  more = map (datagram_from (address_of at_told number)) (reverse (sent_of (acts_calls (all_told life.untold))))
+
+  at_start_bag : at_start.bag ++ [] ≡ (w.bag ++ sent_by config number (acts_calls told)) ++ more
+  at_start_bag = append-nil at_start.bag ∙ kept_bag at_told untold_reaches.left number life.last ∙ untold_reaches.bag
+      ∙ ap (λ (l : List DatagramValue). l ++ more) (kept_bag w until_told.left number split.0 ∙ until_told.bag
+      ∙ ap (λ (l : List (Addr × List ℕ)). w.bag ++ map (datagram_from (address_of w number)) (reverse l)) (append-nil (sent_of (acts_calls told)))
+      ∙ ap (λ (a : Addr). w.bag ++ map (datagram_from a) (reverse (sent_of (acts_calls told)))) (address_is w o T stand.stands number ∙ ap (λ (c : ConfigValue). address_at c number) stand.config_is))
 
   abbrev Goes : Type 0
-  Goes = (steps : List Step) × (left : WorldState) × DeploymentStands config new left o (steps ++ T)
+  Goes = LifeGoesOn config number told new o T
 
-  module _ (left : WorldState) (s : Step) (stands : Stands left o (s ∷ until_start)) (bag : left.bag ≡ at_start.bag ++ []) (clock : left.clock ≡ at_start.clock) (has : HasNode left number (new.nodes number).node)
-      (others : (k : ℕ) (other : NodeState) → k ≢ number → HasNode at_end k other → HasNode left k other) where
+  module _ (left : WorldState) (s : Step) (event_is : s.event ≡ events.Restart number 0 None) (line_is : s.line ≡ lines.Restarted number) (stands : Stands left o (s ∷ until_start)) (bag : left.bag ≡ at_start.bag ++ [])
+      (clock : left.clock ≡ at_start.clock) (has : HasNode left number (new.nodes number).node) (others : (k : ℕ) (other : NodeState) → k ≢ number → HasNode at_end k other → HasNode left k other) where
     nodes_are : (k : ℕ) → k < node_count config → HasNode left k (new.nodes k).node
     nodes_are k known = by (k == number) refl
       where
@@ -222,16 +234,36 @@ module _ (A : Type 0) (config : ConfigValue) (number : ℕ) (told : List TurnAct
 
     sent_is : IsAmong new.sent left.bag
     sent_is = subst (λ (p : List DatagramValue × List DatagramValue). IsAmong p.0 p.1)
-        {x = (old.sent ++ sends (address_at config number) (acts_calls told), w.bag ++ sends (address_at config number) (acts_calls acts))} {y = (new.sent, left.bag)}
+        {x = (old.sent ++ sent_by config number (acts_calls told), (w.bag ++ sent_by config number (acts_calls told)) ++ more)} {y = (new.sent, left.bag)}
         (λ i. (sym life.sent i, sym (bag ∙ at_start_bag) i))
-        (among_both old.sent w.bag (sends (address_at config number) (acts_calls told)) (sends (address_at config number) (acts_calls acts)) stand.sent (all_among (address_at config number) life.untold told))
+        (among_wider (old.sent ++ sent_by config number (acts_calls told)) (w.bag ++ sent_by config number (acts_calls told)) more
+        (among_more old.sent w.bag (sent_by config number (acts_calls told)) stand.sent))
+
+    life_steps : IsLife number told (s ∷ waits ∷ untold_reaches.steps ++ until_told.steps)
+    life_steps = record {
+      first = until_told.steps;
+      printed = subst (ArePrinted until_told.steps) (append-nil (lines_of (acts_calls told))) until_told.are_printed;
+      untold = waits ∷ untold_reaches.steps;
+      own = (tt, all_of_both (λ x. IsOwn number x.event) untold_reaches.steps until_told.steps untold_reaches.own until_told.own);
+      restart = s;
+      event = event_is;
+      line = line_is;
+      is = refl;
+    }
 
     goes_on : Goes
-    goes_on = (
-      s ∷ idle_step at_end new.moment o (did.steps ++ T) end_stands end_early life.bound ∷ did.steps,
-      left,
-      record { stands = stands; config_is = stand.config_is; nodes = nodes_are; clock = clock ∙ start_moment; sent = sent_is },
-    )
+    goes_on = record {
+      steps = s ∷ waits ∷ untold_reaches.steps ++ until_told.steps;
+      left = left;
+      life = life_steps;
+      stands = record {
+        stands = subst (λ (l : List Step). Stands left o (s ∷ waits ∷ l)) (sym (append_assoc untold_reaches.steps until_told.steps T)) stands;
+        config_is = stand.config_is;
+        nodes = nodes_are;
+        clock = clock ∙ start_moment;
+        sent = sent_is;
+      };
+    }
 
   -- of a Map-Server
   module _ (last begun : ServerNodeState) (last_is : life.last ≡ Server last) (begun_is : (new.nodes number).node ≡ Server begun) where
@@ -265,7 +297,7 @@ module _ (A : Type 0) (config : ConfigValue) (number : ℕ) (told : List TurnAct
     beside_server k (Router m) differs (place, number_is, there) = (place, number_is ∙ ap (λ l. l + place) (sym (length-set at_end.servers number begun)), there)
 
     server_goes_on : Goes
-    server_goes_on = goes_on with_server (record { event = events.Restart number 0 None; line = lines.Restarted number; actor = server_restarted.0; shown = server_restarted.1 }) server_restarted.2 refl refl
+    server_goes_on = goes_on with_server (record { event = events.Restart number 0 None; line = lines.Restarted number; actor = server_restarted.0; shown = server_restarted.1 }) refl refl server_restarted.2 refl refl
         (subst (λ (n : NodeState). HasNode with_server number n) (sym begun_is) (get_set_there at_start.servers number begun (slice_get_within at_start.servers number last was))) beside_server
 
   -- of a router that keeps its key and its database
@@ -320,7 +352,7 @@ module _ (A : Type 0) (config : ConfigValue) (number : ℕ) (told : List TurnAct
     beside_router k (Router m) differs (at, k_is, has) = (at, k_is, get_set_other at_end.routers place at begun m (λ same. differs (omega (arith, same, k_is, number_is))) has)
 
     router_goes_on : Goes
-    router_goes_on = goes_on with_router (record { event = events.Restart number 0 None; line = lines.Restarted number; actor = router_restarted.0; shown = router_restarted.1 }) router_restarted.2 refl refl
+    router_goes_on = goes_on with_router (record { event = events.Restart number 0 None; line = lines.Restarted number; actor = router_restarted.0; shown = router_restarted.1 }) refl refl router_restarted.2 refl refl
         (subst (λ (n : NodeState). HasNode with_router number n) (sym begun_is) (place, number_is, get_set_there at_start.routers place begun (slice_get_within at_start.routers place last was))) beside_router
 
   -- of either kind

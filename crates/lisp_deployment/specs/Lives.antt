@@ -1,10 +1,12 @@
 -- The lives of a node in a deployment: it starts, takes turns, and stops, perhaps in the middle of one.
-use Rattle.std.specs.Prelude.{◌≡◌, ◌≢◌, ◌⊎◌, ℕ, ◌+◌, ◌<◌, ◌≤◌, IsTrue, true, false, List, ◌++◌, length, None, Ok}
+use Rattle.std.specs.Prelude.{◌≡◌, ◌≢◌, ◌⊎◌, ℕ, ◌+◌, ◌<◌, ◌≤◌, IsTrue, true, false, List, ◌∷◌, ◌++◌, length, None, Ok}
 use Rattle.std.specs.List.{AllByRecursion}
 use Rattle.lisp_records.specs.Moment.{max_moment}
 use Rattle.lisp_policy.specs.Configuration.{ConfigValue}
 use Rattle.lisp_nonces.specs.Kept.{NarrowsEach}
 use Rattle.lisp_nonces.specs.Store.{StoreState, Proceeds}
+use Rattle.lisp_model.specs.declared.event.Event.TheVariants as events
+use Rattle.lisp_model.specs.declared.line.Line.TheVariants as lines
 use Rattle.lisp_model.specs.Trace.{router_at, etr_config_of, Step, Opening}
 use Rattle.lisp_refinement.specs.Calls.{NodeStarts, config_of, database_of}
 use Rattle.lisp_refinement.specs.World.{RouterNodeState, WorldState}
@@ -13,7 +15,7 @@ use Rattle.lisp_world.specs.Making.{server_over, IsRouterOver}
 use Rattle.lisp_turns.specs.Acts.{TurnAct, DoesAll, acts_calls}
 use Rattle.lisp_turns.specs.Due.{IsDuty, IsRefused}
 use Rattle.lisp_turns.specs.Node.{NodeState, Server, Router, Passes}
-use Rattle.lisp_turns.specs.Part.{IsOwn}
+use Rattle.lisp_turns.specs.Part.{IsOwn, ArePrinted, lines_of}
 use Rattle.lisp_turns.specs.Stretch.{beginning}
 use Rattle.lisp_deployment.specs.Deployment.{DeploymentState, node_count, sent_by, DeploymentStands}
 
@@ -78,10 +80,28 @@ abbrev pub EndsAsConfigured : ConfigValue → ℕ → NodeState → Type 0
 EndsAsConfigured config number (Server n) = Unit {0}
 EndsAsConfigured config number (Router n) = IsAsConfigured config number n
 
--- A node's next life is a restart: a deployment that is a network goes on to be one, where a router ended as it is configured, and no count
--- of failures of the node's store fell.
+-- The steps of a life that begins: first what was told of the last turn, of which the lines are those that were printed; then what nobody
+-- was told, and time that passes; and last the restart.
+pub record IsLife (number : ℕ) (told : List TurnAct) (steps : List Step) : Type 0 where
+  pub first : List Step
+  pub printed : ArePrinted first (lines_of (acts_calls told))
+  pub untold : List Step
+  pub own : AllByRecursion (λ s. IsOwn number s.event) (untold ++ first)
+  pub restart : Step
+  pub event : restart.event ≡ events.Restart number 0 None
+  pub line : restart.line ≡ lines.Restarted number
+  pub is : steps ≡ restart ∷ untold ++ first
+
+-- a deployment that is a network went on to be one by them
+pub record LifeGoesOn (config : ConfigValue) (number : ℕ) (told : List TurnAct) (new : DeploymentState) (o : Opening) (T : List Step)
+    : Type 0 where
+  pub steps : List Step
+  pub left : WorldState
+  pub life : IsLife number told steps
+  pub stands : DeploymentStands config new left o (steps ++ T)
+
+-- A node's next life is a restart, where a router ended as it is configured, and no count of failures of the node's store fell.
 abbrev pub LivesStand : Type 0 → Type 0
 LivesStand A = (config : ConfigValue) (number : ℕ) (told : List TurnAct) (old new : DeploymentState)
     → (life : BeginsLife A config number told old new) → EndsAsConfigured config number life.last → Proceeds (store_of life.last) life.store
-    → (w : WorldState) (o : Opening) (T : List Step) → DeploymentStands config old w o T
-    → (steps : List Step) × (left : WorldState) × DeploymentStands config new left o (steps ++ T)
+    → (w : WorldState) (o : Opening) (T : List Step) → DeploymentStands config old w o T → LifeGoesOn config number told new o T

@@ -51,7 +51,7 @@ pub fn lives_stand<A: Allocator>()
 {}
 
 /// A deployment has a legal trace, of which the headline holds, whichever of its nodes takes a turn when, and whichever crashes and
-/// begins again: what a Map-Server accepted in all its lives is in that one trace.
+/// begins again: the events' lines that its nodes printed in all their lives are lines of that one trace.
 pub fn deployments_have_traces<A: Allocator>()
     ensures { DeploymentsHaveTraces A }
 {}
