@@ -22,7 +22,7 @@ use Rattle.lisp_deployment.proofs.OthersStand.{others_kept, others_stand, has_it
 
 -- what is among a list is so once both have more at their ends
 module _ {X : Type 0} where
-  among_itself : (zs : List X) → IsAmong zs zs
+  pub among_itself : (zs : List X) → IsAmong zs zs
   among_itself [] = tt
   among_itself (z ∷ zs) = inl (refl, among_itself zs)
 

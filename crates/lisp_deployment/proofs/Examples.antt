@@ -1,5 +1,5 @@
 -- Examples: a turn and a life of a deployment, and near misses, each but for one thing: what the definitions don't allow.
-use Rattle.std.proofs.Common.{◌≡◌, inl, inr, ℕ, zero, suc, ◌<◌, ◌≤◌, Bool, true, false, List, [], ◌∷◌, Option, Some, None, refl, sym, ap, subst, ◌∙◌, arith}
+use Rattle.std.proofs.Common.{◌≡◌, inl, inr, ℕ, zero, suc, ◌<◌, ◌≤◌, Bool, true, false, List, [], ◌∷◌, ◌++◌, Option, Some, None, refl, sym, ap, subst, ◌∙◌, arith}
 use Rattle.std.specs.Prelude.{◌≢◌, ◌==◌, if◌then◌else◌}
 use Rattle.std.specs.FinMap.{empty}
 use Rattle.std.specs.List.{Contains}
@@ -24,6 +24,13 @@ use Rattle.lisp_turns.specs.Turn.{TurnState, IsTurn}
 use Rattle.lisp_deployment.specs.Deployment.{DeploymentState, node_count, calls_in, sent_by, TakesTurn, IsAmong}
 use Rattle.lisp_deployment.specs.Lives.{Survives, BeginsAt, BeginsLife}
 use Rattle.lisp_deployment.specs.Passing.{PassesNode}
+use Rattle.lisp_deployment.specs.Deeds.{Turn, Life}
+use Rattle.lisp_deployment.specs.Printed.{all_lines, accepted_nonces}
+use Rattle.lisp_model.specs.declared.event.Event.TheVariants as events
+use Rattle.lisp_model.specs.declared.line.Line.TheVariants as lines
+use Rattle.lisp_records.specs.declared.address.Addr.TheVariants.{V4}
+use Rattle.lisp_turns.specs.Act.{line_act}
+use Rattle.lisp_turns.specs.Part.{lines_of}
 
 -- a live row isn't dropped, and a dead one may stay
 live_row : (old new : ServerNodeState) (now : ℕ) (router : RouterId) (eid : PrefixValue) (h : RowValue) → PassesNode old new now → row_at old.core.rows router eid ≡ Some h → is_alive h now ≡ true
@@ -128,3 +135,20 @@ begins_first config number store (Router n) (place, number_is, down, over, start
 -- and a Map-Server doesn't begin with rows, nor at another moment
 other_start : (config : ConfigValue) (number now : ℕ) (store : StoreState) (n : ServerNodeState) → n.started ≢ now → BeginsAt config number store now (Server n) → ⊥
 other_start config number now store n differs begins = differs (ap (λ (x : ServerNodeState). x.started) begins.1)
+
+-- a line counts for its own Map-Server, router and key
+abbrev me : RouterId
+me = record { site = 5; xtr = [] }
+
+its_nonce : accepted_nonces 0 me 1 (lines.Accepted 0 me 1 7 None ∷ lines.Restarted 0 ∷ lines.Accepted 0 me 1 6 (Some 3) ∷ []) ≡ 7 ∷ 6 ∷ []
+its_nonce = refl
+
+other_nonces : accepted_nonces 0 me 1 (lines.Accepted 1 me 1 7 None ∷ lines.Accepted 0 me 2 8 None ∷ lines.Accepted 0 (record { site = 6; xtr = [] }) 1 9 None ∷ []) ≡ []
+other_nonces = refl
+
+-- nor is what a life told before its crash forgotten
+abbrev heard : TurnAct
+heard = record { event = events.Junk 0 (V4 []) []; act = line_act (lines.Accepted 0 me 1 7 None); told = true; taken = true }
+
+two_lives : (calls : List Call) → all_lines (Turn 0 calls ∷ Life 0 (heard ∷ []) ∷ []) ≡ lines_of calls ++ lines.Accepted 0 me 1 7 None ∷ []
+two_lives calls = refl

@@ -4,4 +4,5 @@ pub mod Deploying
 pub mod Opening
 pub mod Living
 pub mod Deeds
+pub mod Printed
 pub mod Examples

@@ -4,3 +4,4 @@ pub mod Deployment
 pub mod Opening
 pub mod Lives
 pub mod Deeds
+pub mod Printed

@@ -5,6 +5,7 @@ ghost use Rattle.lisp_deployment.specs.Deployment.{TurnsAreOneTrace};
 ghost use Rattle.lisp_deployment.specs.Late.{LateTurnsAreParts};
 ghost use Rattle.lisp_deployment.specs.Lives.{LivesStand};
 ghost use Rattle.lisp_deployment.specs.Opening.{DeploymentsAreNetworks};
+ghost use Rattle.lisp_deployment.specs.Printed.{PrintedNoncesRise};
 ghost use Rattle.lisp_deployment.specs.Passing.{IdlingPasses, PassingStands, TicksArePasses};
 
 use std::alloc::Allocator;
@@ -54,4 +55,10 @@ pub fn lives_stand<A: Allocator>()
 /// begins again: the events' lines that its nodes printed in all their lives are lines of that one trace.
 pub fn deployments_have_traces<A: Allocator>()
     ensures { DeploymentsHaveTraces A }
+{}
+
+/// The nonces of Map-Registers of a router under a key that a Map-Server printed as accepted rise, over all its lives (RFC 9301
+/// section 5.6).
+pub fn printed_nonces_rise<A: Allocator>()
+    ensures { PrintedNoncesRise A }
 {}
