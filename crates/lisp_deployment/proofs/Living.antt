@@ -26,13 +26,14 @@ use Rattle.lisp_world.specs.Making.{router_over}
 use Rattle.lisp_turns.specs.Acts.{TurnAct, DoesAll, acts_calls}
 use Rattle.lisp_turns.specs.Node.{NodeState, Server, Router, HasNode, Passes}
 use Rattle.lisp_turns.specs.Part.{IsOwn, ArePrinted, lines_of, sent_of, datagram_from}
-use Rattle.lisp_turns.specs.Turn.{TurnState}
+use Rattle.lisp_turns.specs.Turn.{TurnState, acts_of}
 use Rattle.lisp_turns.proofs.Acting.{get_set_there, IsTold, AreOwn, arrived, acts_reach}
 use Rattle.lisp_turns.proofs.BeginningStores.{get_set_other}
+use Rattle.lisp_turns.proofs.OwnActs.{heard_own, taken_own, taken_did}
 use Rattle.lisp_turns.proofs.Reaching.{Reaches, goes_further}
 use Rattle.lisp_turns.proofs.Ticking.{tick_reaches}
 use Rattle.lisp_deployment.specs.Deployment.{DeploymentState, node_count, sent_by, IsAmong, DeploymentStands}
-use Rattle.lisp_deployment.specs.Lives.{store_of, BeginsAt, BeginsLife, StartsAt, IsAsConfigured, EndsAsConfigured, IsLife, LifeGoesOn, LivesStand}
+use Rattle.lisp_deployment.specs.Lives.{store_of, BeginsAt, BeginsLife, StartsAt, IsAsConfigured, EndsAsConfigured, IsLife, LifeGoesOn, LostTurnsAreCuts, LivesStand}
 use Rattle.lisp_deployment.proofs.Passing.{passing_stands, idling_passes}
 use Rattle.lisp_deployment.proofs.OthersStand.{others_kept, others_stand, has_it, has_others}
 use Rattle.lisp_deployment.proofs.Deploying.{among_more, kept_clock, kept_bag}
@@ -81,6 +82,29 @@ all_of_both P (x ∷ later) earlier one other = (one.0, all_of_both P later earl
 own_told : (number : ℕ) (acts : List TurnAct) → AllByRecursion (λ a. IsOwn number a.event) acts → AllByRecursion (IsTold number) acts → AreOwn number acts
 own_told number [] own told = tt
 own_told number (a ∷ earlier) own told = ((own.0, told.0), own_told number earlier own.1 told.1)
+
+-- a turn that is lost
+only_own : (number : ℕ) (acts : List TurnAct) → AreOwn number acts → AllByRecursion (λ a. IsOwn number a.event) acts
+only_own number [] own = tt
+only_own number (a ∷ earlier) own = (own.0.0, only_own number earlier own.1)
+
+pub lost_turns_are_cuts : (A : Type 0) → LostTurnsAreCuts A
+lost_turns_are_cuts A config number places s outside lost =
+    let hearing = lost.hearing in
+    let takes = hearing.takes in
+    let intake = lost.intake in
+    let did = taken_did A config number lost.now hearing.passed takes.between lost.between intake.heard takes.did_hear intake.order intake.outcome intake.taken takes.obeys in
+    let own = taken_own number intake.order intake.outcome intake.taken intake.heard (heard_own number (intake.others ++ lost.reception ∷ []) intake.heard takes.hears) in
+    let all = sym (append-nil (acts_of number intake)) in (
+      record {
+        passed = hearing.passed;
+        passes = inl hearing.expires.passes;
+        did = subst (λ (l : List TurnAct). DoesAll A config number hearing.passed lost.between lost.now l) all did;
+        own = subst (λ (l : List TurnAct). AllByRecursion (λ a. IsOwn number a.event) l) all (only_own number (acts_of number intake) own);
+        are_told = tt;
+      },
+      record { passed = s.node; passes = inr refl; did = refl; own = tt; are_told = tt },
+    )
 
 -- time passes in a network, in which nothing happens
 module _ (w : WorldState) (now : ℕ) (o : Opening) (T : List Step) (stand : Stands w o T) (early : w.clock ≤ now) (bound : now ≤ max_moment) where

@@ -1,5 +1,5 @@
 -- The lives of a node in a deployment: it starts, takes turns, and stops, perhaps in the middle of one.
-use Rattle.std.specs.Prelude.{◌≡◌, ◌≢◌, ◌⊎◌, ℕ, ◌+◌, ◌<◌, ◌≤◌, IsTrue, true, false, List, ◌∷◌, ◌++◌, length, None, Ok}
+use Rattle.std.specs.Prelude.{◌≡◌, ◌≢◌, ◌⊎◌, ℕ, ◌+◌, ◌<◌, ◌≤◌, IsTrue, true, false, List, [], ◌∷◌, ◌++◌, length, None, Ok}
 use Rattle.std.specs.List.{AllByRecursion}
 use Rattle.lisp_records.specs.Moment.{max_moment}
 use Rattle.lisp_policy.specs.Configuration.{ConfigValue}
@@ -16,7 +16,9 @@ use Rattle.lisp_turns.specs.Acts.{TurnAct, DoesAll, acts_calls}
 use Rattle.lisp_turns.specs.Due.{IsDuty, IsRefused}
 use Rattle.lisp_turns.specs.Node.{NodeState, Server, Router, Passes}
 use Rattle.lisp_turns.specs.Part.{IsOwn, ArePrinted, lines_of}
+use Rattle.lisp_turns.specs.Outside.{OutsideState}
 use Rattle.lisp_turns.specs.Stretch.{beginning}
+use Rattle.lisp_turns.specs.Turn.{TurnState, acts_of, IsLostTurn}
 use Rattle.lisp_deployment.specs.Deployment.{DeploymentState, node_count, sent_by, DeploymentStands}
 
 -- A store as the next life opens it: it is honest, and of what may have been kept for a pair something is kept, and nothing else. No
@@ -52,6 +54,12 @@ pub record IsCut (A : Type 0) (config : ConfigValue) (number : ℕ) (old last : 
   pub did : DoesAll A config number passed last now (untold ++ told)
   pub own : AllByRecursion (λ a. IsOwn number a.event) (untold ++ told)
   pub are_told : AllByRecursion (λ a. (a.told ≡ true) ⊎ (IsDuty number a.event × IsRefused a.act.line)) told
+
+-- A turn that is lost is cut off so: the store keeps all that it saved, or nothing.
+abbrev pub LostTurnsAreCuts : Type 0 → Type 0
+LostTurnsAreCuts A = (config : ConfigValue) (number places : ℕ) (s : TurnState) (outside : OutsideState)
+    → (lost : IsLostTurn A config number places s outside)
+    → IsCut A config number s.node lost.between lost.now (acts_of number lost.intake) [] × IsCut A config number s.node s.node lost.now [] []
 
 -- A node's life ends, at the end of a turn or in one, and its next life begins over what its store kept; the others do nothing.
 pub record BeginsLife (A : Type 0) (config : ConfigValue) (number : ℕ) (told : List TurnAct) (old new : DeploymentState)

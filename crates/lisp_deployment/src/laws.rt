@@ -3,7 +3,7 @@
 ghost use Rattle.lisp_deployment.specs.Deeds.{DeploymentsHaveTraces};
 ghost use Rattle.lisp_deployment.specs.Deployment.{TurnsAreOneTrace};
 ghost use Rattle.lisp_deployment.specs.Late.{LateTurnsAreParts};
-ghost use Rattle.lisp_deployment.specs.Lives.{LivesStand};
+ghost use Rattle.lisp_deployment.specs.Lives.{LivesStand, LostTurnsAreCuts};
 ghost use Rattle.lisp_deployment.specs.Opening.{DeploymentsAreNetworks};
 ghost use Rattle.lisp_deployment.specs.Printed.{PrintedNoncesRise};
 ghost use Rattle.lisp_deployment.specs.Passing.{IdlingPasses, PassingStands, TicksArePasses};
@@ -42,6 +42,12 @@ pub fn turns_are_one_trace<A: Allocator>()
 /// a legal trace from its opening on, whose steps are those of the turns, whichever node took which.
 pub fn deployments_are_networks<A: Allocator>()
     ensures { DeploymentsAreNetworks A }
+{}
+
+/// A turn that couldn't be committed is one that a crash cut off before anybody was told anything, whether the store keeps all that
+/// was saved in it, or nothing.
+pub fn lost_turns_are_cuts<A: Allocator>()
+    ensures { LostTurnsAreCuts A }
 {}
 
 /// A node that crashes, perhaps in a turn, and begins its next life over what its store kept, is a restart in the network's trace,
