@@ -61,7 +61,7 @@ held_before : (all : List Acceptance) (router : RouterId) (eid : PrefixValue) (n
 held_before all router eid now later h le is = earlier_row now later le _ h is
 
 -- a server that drops dead rows alone holds what is held then
-rows_pass : (n m : ServerNodeState) (all : List Acceptance) (now later : ℕ) → now ≤ later → PassesNode n m later → StandsForRows n all now → StandsForRows m all later
+pub rows_pass : (n m : ServerNodeState) (all : List Acceptance) (now later : ℕ) → now ≤ later → PassesNode n m later → StandsForRows n all now → StandsForRows m all later
 rows_pass n m all now later le passes stand = record {
   rows = λ router eid. passes.rows router eid ∙ sym (alive_twice now later le (row_at n.core.rows router eid))
       ∙ ap (option_and_then (if_alive later)) (stand.rows router eid) ∙ alive_twice now later le (find (is_row_of router eid) (accepted_rows all));

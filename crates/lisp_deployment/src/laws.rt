@@ -1,6 +1,12 @@
 //! What nodes that run come to, over their turns and together, as laws: each function's contract is a law, and its body is empty.
 
 ghost use Rattle.lisp_deployment.specs.Budgeted.{RepliesKeepTheBudget};
+ghost use Rattle.lisp_deployment.specs.Deeds.{DeploymentsHaveTraces};
+ghost use Rattle.lisp_deployment.specs.Deployment.{TurnsAreOneTrace};
+ghost use Rattle.lisp_deployment.specs.Late.{LateTurnsAreParts};
+ghost use Rattle.lisp_deployment.specs.Lives.{LivesStand, LostTurnsAreCuts};
+ghost use Rattle.lisp_deployment.specs.Opening.{DeploymentsAreNetworks};
+ghost use Rattle.lisp_deployment.specs.Printed.{PrintedNoncesRise};
 ghost use Rattle.lisp_deployment.specs.Passing.{IdlingPasses, PassingStands, TicksArePasses};
 
 use std::alloc::Allocator;
@@ -25,4 +31,47 @@ pub fn ticks_are_passes()
 /// Where no node drops any row, time passes too, up to the greatest moment.
 pub fn idling_passes()
     ensures { IdlingPasses }
+{}
+
+/// Turns of a node are a legal trace's part of it, also in a network whose clock is behind the one of the node.
+pub fn late_turns_are_parts<A: Allocator>()
+    ensures { LateTurnsAreParts A }
+{}
+
+/// Turns of several nodes, in any order in which their clocks' readings don't fall, are one legal trace: a network that has all
+/// nodes, and matches a trace, matches the trace followed by the steps of each turn, one turn after another. The events'
+/// lines that a node printed are those of its steps, and the network has each datagram that was sent.
+pub fn turns_are_one_trace<A: Allocator>()
+    ensures { TurnsAreOneTrace A }
+{}
+
+/// All that the nodes of a configuration do from their start on, each over an honest store of its own, is one network's: it has
+/// a legal trace from its opening on, whose steps are those of the turns, whichever node took which.
+pub fn deployments_are_networks<A: Allocator>()
+    ensures { DeploymentsAreNetworks A }
+{}
+
+/// A turn that couldn't be committed is one that a crash cut off before anybody was told anything, whether the store keeps all that
+/// was saved in it, or nothing.
+pub fn lost_turns_are_cuts<A: Allocator>()
+    ensures { LostTurnsAreCuts A }
+{}
+
+/// A node that crashes, perhaps in a turn, and begins its next life over what its store kept, is a restart in the network's trace,
+/// unless it is a router that went over to another key or was given another database. Of what it did before the crash the
+/// network may have more than was printed and sent.
+pub fn lives_stand<A: Allocator>()
+    ensures { LivesStand A }
+{}
+
+/// A deployment has a legal trace, of which the headline holds, whichever of its nodes takes a turn when, and whichever crashes and
+/// begins again: the events' lines that its nodes printed in all their lives are lines of that one trace.
+pub fn deployments_have_traces<A: Allocator>()
+    ensures { DeploymentsHaveTraces A }
+{}
+
+/// The nonces of Map-Registers of a router under a key that a Map-Server printed as accepted rise, over all its lives (RFC 9301
+/// section 5.6).
+pub fn printed_nonces_rise<A: Allocator>()
+    ensures { PrintedNoncesRise A }
 {}

@@ -5,6 +5,12 @@
 //!
 //! - Where time passes a node may drop its dead rows or keep them: a program drops them in its own turns, and not whenever
 //!   another node acts. No promise speaks of a dead row.
+//! - A deployment has one moment: of two turns the later one reads its clock no earlier. So all clocks are taken to be one.
+//! - The network has all that the nodes sent, and perhaps more: a node that crashed may have saved the nonce of a message that it
+//!   didn't send any more. Nobody receives such a message.
+//! - To the trace all that a node receives comes from outside; what another node sent is an echo of it there. That nobody forges a
+//!   message stays a premise of the headline (`Clean`).
+//! - That a store keeps over a crash what it said that it saved is a premise: no contract sees a program that is killed.
 #![tactic(auto)]
 
 pub mod laws;

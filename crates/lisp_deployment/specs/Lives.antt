@@ -1,0 +1,115 @@
+-- The lives of a node in a deployment: it starts, takes turns, and stops, perhaps in the middle of one.
+use Rattle.std.specs.Prelude.{◌≡◌, ◌≢◌, ◌⊎◌, ℕ, ◌+◌, ◌<◌, ◌≤◌, IsTrue, true, false, List, [], ◌∷◌, ◌++◌, length, None, Ok}
+use Rattle.std.specs.List.{AllByRecursion}
+use Rattle.lisp_records.specs.Moment.{max_moment}
+use Rattle.lisp_policy.specs.Configuration.{ConfigValue}
+use Rattle.lisp_nonces.specs.Kept.{NarrowsEach}
+use Rattle.lisp_nonces.specs.Store.{StoreState, Proceeds}
+use Rattle.lisp_model.specs.declared.event.Event.TheVariants as events
+use Rattle.lisp_model.specs.declared.line.Line.TheVariants as lines
+use Rattle.lisp_model.specs.Trace.{router_at, etr_config_of, Step, Opening}
+use Rattle.lisp_refinement.specs.Calls.{NodeStarts, config_of, database_of}
+use Rattle.lisp_refinement.specs.World.{RouterNodeState, WorldState}
+use Rattle.lisp_nodes.specs.Cores.{first_used}
+use Rattle.lisp_world.specs.Making.{server_over, IsRouterOver}
+use Rattle.lisp_turns.specs.Acts.{TurnAct, DoesAll, acts_calls}
+use Rattle.lisp_turns.specs.Due.{IsDuty, IsRefused}
+use Rattle.lisp_turns.specs.Node.{NodeState, Server, Router, Passes}
+use Rattle.lisp_turns.specs.Part.{IsOwn, ArePrinted, lines_of}
+use Rattle.lisp_turns.specs.Outside.{OutsideState}
+use Rattle.lisp_turns.specs.Stretch.{beginning}
+use Rattle.lisp_turns.specs.Turn.{TurnState, acts_of, IsLostTurn}
+use Rattle.lisp_deployment.specs.Deployment.{DeploymentState, node_count, sent_by, DeploymentStands}
+
+-- A store as the next life opens it: it is honest, and of what may have been kept for a pair something is kept, and nothing else. No
+-- schedule says what.
+pub record Survives (last next : StoreState) : Type 0 where
+  pub honest : IsTrue last.is_honest × IsTrue next.is_honest
+  pub unscheduled : (last.is_obedient ≡ false) × (next.is_obedient ≡ false)
+  pub narrows : NarrowsEach last.kept next.kept
+
+abbrev pub store_of : NodeState → StoreState
+store_of (Server n) = n.store
+store_of (Router n) = n.store
+
+-- a router started at a moment
+pub record StartsAt (old new : RouterNodeState) (now : ℕ) : Type 0 where
+  pub me : new.me ≡ old.me
+  pub servers : new.servers ≡ old.servers
+  pub used : new.used ≡ old.used
+  pub starts : NodeStarts old new None now (Ok tt)
+
+-- the node with a number at the start of a life that begins at a moment, over a store: a Map-Server that holds nothing, or a router
+abbrev pub BeginsAt : ConfigValue → ℕ → StoreState → ℕ → NodeState → Type 0
+BeginsAt config number store now (Server n) = (number < length config.servers) × (n ≡ record (server_over config store) { started = now })
+BeginsAt config number store now (Router n) = (place : ℕ) × (number ≡ length config.servers + place)
+    × (down : RouterNodeState) × IsRouterOver config place store down × StartsAt down n now
+
+-- What is left of a turn that a crash cut off at a moment, the newest act first. The older acts were told, unless they were due and
+-- refused, and their messages sent; of those behind them the store keeps what they saved, and nobody was told.
+pub record IsCut (A : Type 0) (config : ConfigValue) (number : ℕ) (old last : NodeState) (now : ℕ) (untold told : List TurnAct)
+    : Type 0 where
+  pub passed : NodeState
+  pub passes : Passes old passed now ⊎ (passed ≡ old)
+  pub did : DoesAll A config number passed last now (untold ++ told)
+  pub own : AllByRecursion (λ a. IsOwn number a.event) (untold ++ told)
+  pub are_told : AllByRecursion (λ a. (a.told ≡ true) ⊎ (IsDuty number a.event × IsRefused a.act.line)) told
+
+-- A turn that is lost is cut off so: the store keeps all that it saved, or nothing.
+abbrev pub LostTurnsAreCuts : Type 0 → Type 0
+LostTurnsAreCuts A = (config : ConfigValue) (number places : ℕ) (s : TurnState) (outside : OutsideState)
+    → (lost : IsLostTurn A config number places s outside)
+    → IsCut A config number s.node lost.between lost.now (acts_of number lost.intake) [] × IsCut A config number s.node s.node lost.now [] []
+
+-- A node's life ends, at the end of a turn or in one, and its next life begins over what its store kept; the others do nothing.
+pub record BeginsLife (A : Type 0) (config : ConfigValue) (number : ℕ) (told : List TurnAct) (old new : DeploymentState)
+    : Type 0 where
+  pub known : number < node_count config
+  pub last : NodeState
+  pub ended : ℕ
+  pub untold : List TurnAct
+  pub cut : IsCut A config number (old.nodes number).node last ended untold told
+  pub store : StoreState
+  pub survives : Survives (store_of last) store
+  pub later : (old.moment ≤ ended) × (ended ≤ new.moment)
+  pub bound : new.moment ≤ max_moment
+  pub begins : BeginsAt config number store new.moment (new.nodes number).node
+  pub fresh : new.nodes number ≡ beginning (new.nodes number).node (new.nodes number).resolving (new.nodes number).outside
+  pub others : (k : ℕ) → k ≢ number → new.nodes k ≡ old.nodes k
+  pub sent : new.sent ≡ old.sent ++ sent_by config number (acts_calls told)
+
+-- A router is as it is configured: it went over to no other key, and was given no other database.
+pub record IsAsConfigured (config : ConfigValue) (number : ℕ) (n : RouterNodeState) : Type 0 where
+  pub settings : config_of n.core ≡ etr_config_of config (router_at config number)
+  pub database : database_of n.core ≡ (router_at config number).database
+  pub used : n.used ≡ first_used (router_at config number).key_id
+
+abbrev pub EndsAsConfigured : ConfigValue → ℕ → NodeState → Type 0
+EndsAsConfigured config number (Server n) = Unit {0}
+EndsAsConfigured config number (Router n) = IsAsConfigured config number n
+
+-- The steps of a life that begins: first what was told of the last turn, of which the lines are those that were printed; then what nobody
+-- was told, and time that passes; and last the restart.
+pub record IsLife (number : ℕ) (told : List TurnAct) (steps : List Step) : Type 0 where
+  pub first : List Step
+  pub printed : ArePrinted first (lines_of (acts_calls told))
+  pub untold : List Step
+  pub own : AllByRecursion (λ s. IsOwn number s.event) (untold ++ first)
+  pub restart : Step
+  pub event : restart.event ≡ events.Restart number 0 None
+  pub line : restart.line ≡ lines.Restarted number
+  pub is : steps ≡ restart ∷ untold ++ first
+
+-- a deployment that is a network went on to be one by them
+pub record LifeGoesOn (config : ConfigValue) (number : ℕ) (told : List TurnAct) (new : DeploymentState) (o : Opening) (T : List Step)
+    : Type 0 where
+  pub steps : List Step
+  pub left : WorldState
+  pub life : IsLife number told steps
+  pub stands : DeploymentStands config new left o (steps ++ T)
+
+-- A node's next life is a restart, where a router ended as it is configured, and no count of failures of the node's store fell.
+abbrev pub LivesStand : Type 0 → Type 0
+LivesStand A = (config : ConfigValue) (number : ℕ) (told : List TurnAct) (old new : DeploymentState)
+    → (life : BeginsLife A config number told old new) → EndsAsConfigured config number life.last → Proceeds (store_of life.last) life.store
+    → (w : WorldState) (o : Opening) (T : List Step) → DeploymentStands config old w o T → LifeGoesOn config number told new o T
