@@ -48,7 +48,7 @@ module _ {X : Type 0} where
   among_both (x ∷ xs) (y ∷ ys) us vs (inl (same, among)) more = inl (same, among_both xs ys us vs among more)
   among_both (x ∷ xs) (y ∷ ys) us vs (inr among) more = inr (among_both (x ∷ xs) ys us vs among more)
 
-  contains_among : (xs ys : List X) (v : X) → IsAmong xs ys → Contains xs v → Contains ys v
+  pub contains_among : (xs ys : List X) (v : X) → IsAmong xs ys → Contains xs v → Contains ys v
   contains_among [] ys v among has = absurd (in_none v has)
   contains_among (x ∷ xs) [] v among has = absurd among
   contains_among (x ∷ xs) (y ∷ ys) v (inr among) has = in_tail y ys v (contains_among (x ∷ xs) ys v among has)
