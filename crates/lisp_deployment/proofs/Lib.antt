@@ -10,4 +10,5 @@ pub mod Opening
 pub mod Living
 pub mod Deeds
 pub mod Printed
+pub mod Received
 pub mod Examples

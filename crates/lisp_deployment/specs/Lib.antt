@@ -6,3 +6,4 @@ pub mod Opening
 pub mod Lives
 pub mod Deeds
 pub mod Printed
+pub mod Received

@@ -7,6 +7,7 @@ ghost use Rattle.lisp_deployment.specs.Late.{LateTurnsAreParts};
 ghost use Rattle.lisp_deployment.specs.Lives.{LivesStand, LostTurnsAreCuts};
 ghost use Rattle.lisp_deployment.specs.Opening.{DeploymentsAreNetworks};
 ghost use Rattle.lisp_deployment.specs.Printed.{PrintedNoncesRise};
+ghost use Rattle.lisp_deployment.specs.Received.{UnforgedDeploymentsAreClean};
 ghost use Rattle.lisp_deployment.specs.Passing.{IdlingPasses, PassingStands, TicksArePasses};
 
 use std::alloc::Allocator;
@@ -74,4 +75,10 @@ pub fn deployments_have_traces<A: Allocator>()
 /// section 5.6).
 pub fn printed_nonces_rise<A: Allocator>()
     ensures { PrintedNoncesRise A }
+{}
+
+/// A deployment in which nothing that a node received was forged has a clean trace, of which all holds that the headline says over clean
+/// traces: each datagram was sent by a node before, or spells no message, or is authentic under no secret that its receiver may hold.
+pub fn unforged_deployments_are_clean<A: Allocator>()
+    ensures { UnforgedDeploymentsAreClean A }
 {}
