@@ -10,5 +10,6 @@ pub mod Opening
 pub mod Living
 pub mod Deeds
 pub mod Printed
+pub mod Killed
 pub mod Received
 pub mod Examples

@@ -6,7 +6,7 @@ ghost use Rattle.lisp_deployment.specs.Deployment.{TurnsAreOneTrace};
 ghost use Rattle.lisp_deployment.specs.Late.{LateTurnsAreParts};
 ghost use Rattle.lisp_deployment.specs.Lives.{LivesStand, LostTurnsAreCuts};
 ghost use Rattle.lisp_deployment.specs.Opening.{DeploymentsAreNetworks};
-ghost use Rattle.lisp_deployment.specs.Printed.{PrintedNoncesRise};
+ghost use Rattle.lisp_deployment.specs.Printed.{KilledServersAcceptNoReplays, PrintedNoncesRise};
 ghost use Rattle.lisp_deployment.specs.Received.{UnforgedDeploymentsAreClean};
 ghost use Rattle.lisp_deployment.specs.Passing.{IdlingPasses, PassingStands, TicksArePasses};
 
@@ -82,3 +82,10 @@ pub fn printed_nonces_rise<A: Allocator>()
 pub fn unforged_deployments_are_clean<A: Allocator>()
     ensures { UnforgedDeploymentsAreClean A }
 {}
+
+/// A Map-Server that was killed accepts no replay (RFC 9301 section 5.6): this follows from `printed_nonces_rise` alone.
+pub fn killed_servers_accept_no_replays<A: Allocator>()
+    ensures { KilledServersAcceptNoReplays A }
+{
+    printed_nonces_rise::<A>()
+}
