@@ -12,4 +12,5 @@ pub mod Deeds
 pub mod Printed
 pub mod Killed
 pub mod Received
+pub mod Told
 pub mod Examples

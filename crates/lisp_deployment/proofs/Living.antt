@@ -1,5 +1,5 @@
 -- A node's life ends, perhaps in a turn, and its next one begins: the deployment goes on to be a network.
-use Rattle.std.proofs.Common.{Ok, ◌≡◌, ◌⊎◌, inl, inr, Bool, true, false, true≢false, ℕ, ◌+◌, ◌-◌, ◌<◌, ◌≤◌, List, [], ◌∷◌, ◌++◌, length, length-set, map, reverse, Some, None, refl, sym, ap, subst, ◌∙◌, append-nil, arith}
+use Rattle.std.proofs.Common.{Ok, ◌≡◌, ◌⊎◌, inl, inr, Bool, true, false, true≢false, ℕ, ◌+◌, ◌-◌, ◌<◌, ◌≤◌, List, [], ◌∷◌, ◌++◌, length, length-set, map, reverse, Option, Some, None, refl, sym, ap, subst, ◌∙◌, append-nil, arith}
 use Rattle.std.specs.Prelude.{◌≢◌, ◌==◌, slice_get, slice_set}
 use Rattle.std.specs.List.{AllByRecursion}
 use Rattle.std.proofs.lemmas.Bool.Decides.{Decides-eqb}
@@ -11,7 +11,7 @@ use Rattle.lisp_policy.specs.Configuration.{ConfigValue, RouterEntryValue}
 use Rattle.lisp_nonces.specs.Store.{StoreState, Proceeds}
 use Rattle.lisp_model.specs.declared.event.Event.TheVariants as events
 use Rattle.lisp_model.specs.declared.line.Line.TheVariants as lines
-use Rattle.lisp_model.specs.Trace.{router_at, etr_config_of, ShownStore, Step, Opening, address_at}
+use Rattle.lisp_model.specs.Trace.{EventValue, router_at, etr_config_of, ShownStore, Step, Opening, address_at}
 use Rattle.lisp_refinement.specs.World.{ServerNodeState, RouterNodeState, DatagramValue, WorldState}
 use Rattle.lisp_refinement.specs.Calls.{StoreRestarts, CoreAnswersStartOver, config_of, database_of, NodeRestarts}
 use Rattle.lisp_refinement.specs.Events.{address_of, NetworkRestartsServer, NetworkRestartsRouter}
@@ -23,7 +23,9 @@ use Rattle.lisp_etr.specs.Config.{EtrConfigValue}
 use Rattle.lisp_records.specs.Record.{MapRecordValue}
 use Rattle.lisp_nodes.specs.Cores.{first_used}
 use Rattle.lisp_world.specs.Making.{router_over}
-use Rattle.lisp_turns.specs.Acts.{TurnAct, DoesAll, acts_calls}
+use Rattle.lisp_turns.specs.Acts.{TurnAct, DoesAll, send_calls, printed_of, act_calls, acts_calls}
+use Rattle.lisp_turns.specs.Outside.{Prints}
+use Rattle.lisp_turns.proofs.Calls.{lines_append}
 use Rattle.lisp_turns.specs.Node.{NodeState, Server, Router, HasNode, Passes}
 use Rattle.lisp_turns.specs.Part.{IsOwn, ArePrinted, arrival, arrivals, lines_of, sent_of, datagram_from}
 use Rattle.lisp_turns.specs.Turn.{TurnState, acts_of}
@@ -76,6 +78,23 @@ arrived_is (a ∷ earlier) = ap (λ (l : List (Addr × List ℕ)). arrival a.eve
 same_arrived : (acts : List TurnAct) → arrived (all_told acts) ≡ arrived_in acts
 same_arrived [] = refl
 same_arrived (a ∷ earlier) = ap (λ (l : List (Addr × List ℕ)). arrival a.event ++ l) (same_arrived earlier)
+
+-- the lines of acts that are all told
+told_line : (a : TurnAct) → lines_of (act_calls (as_told a)) ≡ a.act.line ∷ []
+told_line a = lines_append (send_calls a.act.message a.taken) (Prints (printed_of a.event a.act.line) ∷ []) ∙ (λ i. unsent a.act.message a.taken i ++ said a.event i)
+  where
+    unsent : (message : Option (Addr × List ℕ)) (taken : Bool) → lines_of (send_calls message taken) ≡ []
+    unsent None taken = refl
+    unsent (Some m) true = refl
+    unsent (Some m) false = refl
+
+    said : (event : EventValue) → lines_of (Prints (printed_of event a.act.line) ∷ []) ≡ a.act.line ∷ []
+    said (events.Junk to from bytes) = refl
+    said _ = refl
+
+all_told_lines : (acts : List TurnAct) → lines_of (acts_calls (all_told acts)) ≡ map (λ a. a.act.line) acts
+all_told_lines [] = refl
+all_told_lines (a ∷ earlier) = lines_append (act_calls (as_told a)) (acts_calls (all_told earlier)) ∙ (λ i. told_line a i ++ all_told_lines earlier i)
 
 -- acts up to one of them, and from there on
 split_did : (A : Type 0) (config : ConfigValue) (number : ℕ) (old new : NodeState) (now : ℕ) (later earlier : List TurnAct) → DoesAll A config number old new now (later ++ earlier)
@@ -298,11 +317,13 @@ module _ (A : Type 0) (config : ConfigValue) (number : ℕ) (told : List TurnAct
         ∙ (λ i. same_arrived life.untold i ++ arrived_is told i) ∙ sym (arrived_both life.untold told)
 
     goes_on : Goes
+    unfolding life_steps
     goes_on = record {
       steps = s ∷ waits ∷ untold_reaches.steps ++ until_told.steps;
       left = left;
       life = life_steps;
       heard = what_arrived;
+      swallowed = inl (tt, subst (ArePrinted untold_reaches.steps) (all_told_lines life.untold) untold_reaches.are_printed);
       stands = record {
         stands = subst (λ (l : List Step). Stands left o (s ∷ waits ∷ l)) (sym (append_assoc untold_reaches.steps until_told.steps T)) stands;
         config_is = stand.config_is;

@@ -1,10 +1,10 @@
 -- Where nothing that was received is forged, the trace of a deployment is clean.
-use Rattle.std.proofs.Common.{◌≡◌, ◌⊎◌, inl, inr, ℕ, suc, Bool, true, false, List, [], ◌∷◌, ◌++◌, map, Some, refl, sym, ap, subst, append-nil}
+use Rattle.std.proofs.Common.{◌≡◌, ◌⊎◌, inl, inr, ℕ, suc, Bool, true, false, List, [], ◌∷◌, ◌++◌, map, Some, refl, sym, ap, subst, ◌∙◌, append-nil}
 use Rattle.std.specs.Prelude.{◌==◌, slice_get, if◌then◌else◌}
 use Rattle.std.proofs.lemmas.Bool.Decides.{Decides-eqb}
 use Rattle.std.specs.List.{AllByRecursion, Contains, flat_map}
 use Rattle.std.proofs.lemmas.List.{append_assoc}
-use Rattle.std.proofs.lemmas.List.Elements.{Contains-append_left}
+use Rattle.std.proofs.lemmas.List.Elements.{Contains-append_left, Contains-append_right, Contains-append_cases}
 use Rattle.lisp_records.specs.declared.address.Addr.{Addr}
 use Rattle.lisp_policy.specs.Configuration.{ConfigValue}
 use Rattle.lisp_model.specs.declared.event.Event.TheVariants as events
@@ -17,15 +17,21 @@ use Rattle.lisp_model.specs.Keys.{KnowsKey}
 use Rattle.lisp_model.specs.Legal.{LegalTrace, MayCome, context_of}
 use Rattle.lisp_model.specs.Trace.{EventValue, Step, Opening, address_at, etr_config, is_server, key_after, key}
 use Rattle.lisp_model.proofs.CleanLemmas.{in_get}
-use Rattle.lisp_model.proofs.ListLemmas.{head_or_tail, in_none}
+use Rattle.lisp_model.proofs.ListLemmas.{at_head, in_tail, head_or_tail, in_none}
 use Rattle.lisp_refinement.specs.World.{DatagramValue, WorldState}
 use Rattle.lisp_refinement.proofs.ServerArrivals.{lies}
-use Rattle.lisp_turns.specs.Acts.{TurnAct}
-use Rattle.lisp_turns.specs.Part.{IsOwn, arrival, arrivals, datagram_from, received_of}
+use Rattle.lisp_turns.specs.Act.{numbered}
+use Rattle.lisp_turns.specs.Acts.{TurnAct, acts_calls}
+use Rattle.lisp_turns.specs.Part.{IsOwn, IsQuiet, ArePrinted, arrival, arrivals, datagram_from, lines_of, received_of}
 use Rattle.lisp_deployment.specs.Deeds.{Deed, Turn, Life, DoesDeed, DoDeeds, IsOf, AreOf}
 use Rattle.lisp_deployment.specs.Deployment.{DeploymentState, DeploymentStands}
 use Rattle.lisp_deployment.specs.Lives.{IsLife, arrived_in}
-use Rattle.lisp_deployment.specs.Received.{node_of, received_in, MayBeUnder, MayHold, IsForgedFor, IsUnforged, ReceivesUnforged, UnforgedDeploymentsAreClean}
+use Rattle.lisp_deployment.specs.Received.{node_of, received_in, MayBeUnder, MayHold, IsForgedFor, IsUnforged, ReceivesUnforged, HasCleanTrace, UnforgedDeploymentsAreClean}
+use Rattle.lisp_deployment.specs.Told.{swallowed_in, all_swallowed, IsTold}
+use Rattle.lisp_deployment.specs.Printed.{lines_in, all_lines}
+use Rattle.lisp_deployment.specs.Opening.{DeploymentBegins, DeploymentOpens}
+use Rattle.lisp_nonces.specs.Store.{StoreState}
+use Rattle.lisp_model.specs.Network.{IsNetwork}
 use Rattle.lisp_deployment.proofs.Deploying.{turned, its_part, turn_stands}
 use Rattle.lisp_deployment.proofs.Living.{lives_stand}
 use Rattle.lisp_deployment.proofs.Opening.{first_opens}
@@ -129,13 +135,73 @@ module _ (config : ConfigValue) (d : DeploymentState) (w : WorldState) (o : Open
   all_harmless [] all = tt
   all_harmless (m ∷ ms) all = (unforged_harmless m all.0, all_harmless ms all.1)
 
+-- the lines of steps
+abbrev pub AllTold : List Line → List Line → List Step → Type 0
+AllTold printed swallowed steps = (s : Step) → Contains steps s → IsTold printed swallowed s.line
+
+printed_told : (steps : List Step) (ls : List Line) → ArePrinted steps ls → (s : Step) → Contains steps s → IsQuiet s.line ⊎ Contains ls (numbered 0 s.line)
+printed_told [] ls is s has = absurd (in_none s has)
+printed_told (x ∷ steps) ls (inl (quiet, printed)) s has = by (head_or_tail x steps s has) (printed_told steps ls printed s)
+  where
+    by : (s ≡ x) ⊎ Contains steps s → (Contains steps s → IsQuiet s.line ⊎ Contains ls (numbered 0 s.line)) → IsQuiet s.line ⊎ Contains ls (numbered 0 s.line)
+    by (inl is) go = inl (subst (λ (y : Step). IsQuiet y.line) (sym is) quiet)
+    by (inr there) go = go there
+printed_told (x ∷ steps) ls (inr (line, rest, is, same, printed)) s has = subst (λ (l : List Line). IsQuiet s.line ⊎ Contains l (numbered 0 s.line)) (sym is) (by (head_or_tail x steps s has) (printed_told steps rest printed s))
+  where
+    by : (s ≡ x) ⊎ Contains steps s → (Contains steps s → IsQuiet s.line ⊎ Contains rest (numbered 0 s.line)) → IsQuiet s.line ⊎ Contains (line ∷ rest) (numbered 0 s.line)
+    by (inl here) go = inr (subst (λ (l : Line). Contains (line ∷ rest) l) (same ∙ ap (λ (y : Step). numbered 0 y.line) (sym here)) (at_head line rest))
+    by (inr there) go = later (go there)
+      where
+        later : IsQuiet s.line ⊎ Contains rest (numbered 0 s.line) → IsQuiet s.line ⊎ Contains (line ∷ rest) (numbered 0 s.line)
+        later (inl quiet) = inl quiet
+        later (inr found) = inr (in_tail line rest (numbered 0 s.line) found)
+
+is_told : (printed swallowed : List Line) (s : Step) → IsQuiet s.line ⊎ Contains printed (numbered 0 s.line) → IsTold printed swallowed s.line
+is_told printed swallowed s (inl quiet) = inl quiet
+is_told printed swallowed s (inr found) = inr (inr (inl found))
+
+is_swallowed : (printed swallowed : List Line) (s : Step) → IsQuiet s.line ⊎ Contains swallowed (numbered 0 s.line) → IsTold printed swallowed s.line
+is_swallowed printed swallowed s (inl quiet) = inl quiet
+is_swallowed printed swallowed s (inr found) = inr (inr (inr found))
+
+life_told : (number : ℕ) (told : List TurnAct) (steps : List Step) (life : IsLife number told steps) (swallowed : List Line) → ArePrinted life.untold swallowed → AllTold (lines_of (acts_calls told)) swallowed steps
+life_told number told steps life swallowed printed s has = by (head_or_tail life.restart (life.untold ++ life.first) s (subst (λ (l : List Step). Contains l s) life.is has))
+  where
+    both : Contains life.untold s ⊎ Contains life.first s → IsTold (lines_of (acts_calls told)) swallowed s.line
+    both (inl there) = is_swallowed (lines_of (acts_calls told)) swallowed s (printed_told life.untold swallowed printed s there)
+    both (inr there) = is_told (lines_of (acts_calls told)) swallowed s (printed_told life.first (lines_of (acts_calls told)) life.printed s there)
+
+    by : (s ≡ life.restart) ⊎ Contains (life.untold ++ life.first) s → IsTold (lines_of (acts_calls told)) swallowed s.line
+    by (inl is) = inr (inl (number, ap (λ (y : Step). y.line) is ∙ life.line))
+    by (inr there) = both (Contains-append_cases life.untold life.first s there)
+
+both_told : (ls ms us vs : List Line) (later earlier : List Step) → AllTold ls us later → AllTold ms vs earlier → AllTold (ls ++ ms) (us ++ vs) (later ++ earlier)
+both_told ls ms us vs later earlier one other s has = by (Contains-append_cases later earlier s has)
+  where
+    of_later : IsTold ls us s.line → IsTold (ls ++ ms) (us ++ vs) s.line
+    of_later (inl quiet) = inl quiet
+    of_later (inr (inl restarted)) = inr (inl restarted)
+    of_later (inr (inr (inl found))) = inr (inr (inl (Contains-append_left ls ms (numbered 0 s.line) found)))
+    of_later (inr (inr (inr found))) = inr (inr (inr (Contains-append_left us vs (numbered 0 s.line) found)))
+
+    of_earlier : IsTold ms vs s.line → IsTold (ls ++ ms) (us ++ vs) s.line
+    of_earlier (inl quiet) = inl quiet
+    of_earlier (inr (inl restarted)) = inr (inl restarted)
+    of_earlier (inr (inr (inl found))) = inr (inr (inl (Contains-append_right ls ms (numbered 0 s.line) found)))
+    of_earlier (inr (inr (inr found))) = inr (inr (inr (Contains-append_right us vs (numbered 0 s.line) found)))
+
+    by : Contains later s ⊎ Contains earlier s → IsTold (ls ++ ms) (us ++ vs) s.line
+    by (inl there) = of_later (one s there)
+    by (inr there) = of_earlier (other s there)
+
 -- a deployment goes on to be a network with a clean trace, by a deed
-record GoesOnCleanly (config : ConfigValue) (deed : Deed) (new : DeploymentState) (w : WorldState) (o : Opening) (T : List Step) : Type 0 where
+record GoesOnCleanly (config : ConfigValue) (deed : Deed) (new : DeploymentState) (swallowed : List Line) (w : WorldState) (o : Opening) (T : List Step) : Type 0 where
   pub steps : List Step
   pub left : WorldState
   pub is_of : IsOf deed w left o T steps
   pub stands : DeploymentStands config new left o (steps ++ T)
   pub clean : Clean o (steps ++ T)
+  pub told : AllTold (lines_in deed) swallowed steps
 
 -- the steps of a life
 life_clean : (config : ConfigValue) (number : ℕ) (told : List TurnAct) (o : Opening) (T steps : List Step) (life : IsLife number told steps) → LegalTrace o (steps ++ T) → AllByRecursion (IsHarmlessTo o T number) (arrivals steps) → Clean o T → Clean o (steps ++ T)
@@ -148,7 +214,7 @@ life_clean config number told o T steps life legal all clean =
 
 module _ (A : Type 0) (config : ConfigValue) where
   one_deed : (deed : Deed) (old new : DeploymentState) (does : DoesDeed A config deed old new) → AllByRecursion (IsUnforged config old.sent (node_of deed)) (received_in A config deed old new does)
-      → (w : WorldState) (o : Opening) (T : List Step) → DeploymentStands config old w o T → Clean o T → GoesOnCleanly config deed new w o T
+      → (w : WorldState) (o : Opening) (T : List Step) → DeploymentStands config old w o T → Clean o T → GoesOnCleanly config deed new (swallowed_in A config deed old new does) w o T
   one_deed (Turn number calls) old new takes unforged w o T stand clean =
       let goes = turned A config number calls old new takes w o T stand in
       let part = its_part A config number calls old new takes w o T stand in
@@ -159,6 +225,7 @@ module _ (A : Type 0) (config : ConfigValue) where
         stands = turn_stands A config number calls old new takes w o T stand;
         clean = clean_steps o T number goes.steps part.own part.stands.steps.legal
             (subst (λ (ms : List (Addr × List ℕ)). AllByRecursion (IsHarmlessTo o T number) ms) (sym part.heard) (all_harmless config old w o T stand number (received_of calls) unforged)) clean;
+        told = λ s has. is_told (lines_of calls) [] s (printed_told goes.steps (lines_of calls) part.printed s has);
       }
   one_deed (Life number told) old new begins unforged w o T stand clean =
       let goes = lives_stand A config number told old new begins.life begins.configured begins.counts w o T stand in
@@ -169,19 +236,21 @@ module _ (A : Type 0) (config : ConfigValue) where
         stands = goes.stands;
         clean = life_clean config number told o T goes.steps goes.life goes.stands.stands.steps.legal
             (subst (λ (ms : List (Addr × List ℕ)). AllByRecursion (IsHarmlessTo o T number) ms) (sym goes.heard) (all_harmless config old w o T stand number (arrived_in (begins.life.untold ++ told)) unforged)) clean;
+        told = life_told number told goes.steps goes.life (map (λ a. a.act.line) begins.life.untold) goes.swallowed;
       }
 
   -- and by deeds
-  record GoOnCleanly (deeds : List Deed) (new : DeploymentState) (w : WorldState) (o : Opening) (T : List Step) : Type 0 where
+  record GoOnCleanly (deeds : List Deed) (new : DeploymentState) (swallowed : List Line) (w : WorldState) (o : Opening) (T : List Step) : Type 0 where
     pub steps : List Step
     pub left : WorldState
     pub are_of : AreOf deeds w left o T steps
     pub stands : DeploymentStands config new left o (steps ++ T)
     pub clean : Clean o (steps ++ T)
+    pub told : AllTold (all_lines deeds) swallowed steps
 
   deeds_clean : (deeds : List Deed) (old new : DeploymentState) (did : DoDeeds A config deeds old new) → ReceivesUnforged A config deeds old new did
-      → (w : WorldState) (o : Opening) (T : List Step) → DeploymentStands config old w o T → Clean o T → GoOnCleanly deeds new w o T
-  deeds_clean [] old new is unforged w o T stand clean = record { steps = []; left = w; are_of = (refl, refl); stands = subst (λ (d : DeploymentState). DeploymentStands config d w o T) (sym is) stand; clean = clean }
+      → (w : WorldState) (o : Opening) (T : List Step) → DeploymentStands config old w o T → Clean o T → GoOnCleanly deeds new (all_swallowed A config deeds old new did) w o T
+  deeds_clean [] old new is unforged w o T stand clean = record { steps = []; left = w; are_of = (refl, refl); stands = subst (λ (d : DeploymentState). DeploymentStands config d w o T) (sym is) stand; clean = clean; told = λ s has. absurd (in_none s has) }
   deeds_clean (deed ∷ earlier) old new (between, did, does) unforged w o T stand clean =
       let first = deeds_clean earlier old between did unforged.0 w o T stand clean in
       let second = one_deed deed between new does unforged.1 first.left o (first.steps ++ T) first.stands first.clean in
@@ -191,17 +260,37 @@ module _ (A : Type 0) (config : ConfigValue) where
         are_of = (first.left, first.steps, second.steps, first.are_of, second.is_of, refl);
         stands = subst (λ (l : List Step). DeploymentStands config new second.left o l) (sym (append_assoc second.steps first.steps T)) second.stands;
         clean = subst (λ (l : List Step). Clean o l) (sym (append_assoc second.steps first.steps T)) second.clean;
+        told = both_told (lines_in deed) (all_lines earlier) (swallowed_in A config deed between new does) (all_swallowed A config earlier old between did) second.steps first.steps second.told first.told;
       }
 
-pub unforged_deployments_are_clean : (A : Type 0) → UnforgedDeploymentsAreClean A
-unforged_deployments_are_clean A config stores begun d deeds network begins did unforged =
+-- it has a clean trace, whose lines were printed, or swallowed
+pub record CleanRun (A : Type 0) (config : ConfigValue) (stores : ℕ → StoreState) (begun d : DeploymentState) (deeds : List Deed) (did : DoDeeds A config deeds begun d) : Type 0 where
+  pub first : WorldState
+  pub opening : Opening
+  pub opens : DeploymentOpens config stores begun first opening
+  pub clean : HasCleanTrace config deeds d first opening
+  pub told : AllTold (all_lines deeds) (all_swallowed A config deeds begun d did) clean.has.trace
+
+pub runs_cleanly : (A : Type 0) (config : ConfigValue) (stores : ℕ → StoreState) (begun d : DeploymentState) (deeds : List Deed) → IsNetwork config → DeploymentBegins config stores begun → (did : DoDeeds A config deeds begun d)
+    → ReceivesUnforged A config deeds begun d did → CleanRun A config stores begun d deeds did
+runs_cleanly A config stores begun d deeds network begins did unforged =
     let opens = first_opens config stores begun network begins in
     let goes = deeds_clean A config deeds begun d did unforged opens.0 opens.1 [] opens.2.stands tt in
     let stand = subst (λ (l : List Step). DeploymentStands config d goes.left opens.1 l) (append-nil goes.steps) goes.stands in
     let clean = subst (λ (l : List Step). Clean opens.1 l) (append-nil goes.steps) goes.clean in
     let headline = networks_promise goes.left opens.1 goes.steps stand.stands in
-    (opens.0, opens.1, opens.2, record {
-      has = record { trace = goes.steps; network = goes.left; are_of = goes.are_of; stands = stand; headline = headline };
-      clean = clean;
-      over_clean = headline.over_clean clean;
-    })
+    record {
+      first = opens.0;
+      opening = opens.1;
+      opens = opens.2;
+      clean = record {
+        has = record { trace = goes.steps; network = goes.left; are_of = goes.are_of; stands = stand; headline = headline };
+        clean = clean;
+        over_clean = headline.over_clean clean;
+      };
+      told = goes.told;
+    }
+
+pub unforged_deployments_are_clean : (A : Type 0) → UnforgedDeploymentsAreClean A
+unforged_deployments_are_clean A config stores begun d deeds network begins did unforged =
+    let run = runs_cleanly A config stores begun d deeds network begins did unforged in (run.first, run.opening, run.opens, run.clean)

@@ -7,3 +7,4 @@ pub mod Lives
 pub mod Deeds
 pub mod Printed
 pub mod Received
+pub mod Told

@@ -1,5 +1,5 @@
 -- The lives of a node in a deployment: it starts, takes turns, and stops, perhaps in the middle of one.
-use Rattle.std.specs.Prelude.{◌≡◌, ◌≢◌, ◌⊎◌, ℕ, ◌+◌, ◌<◌, ◌≤◌, IsTrue, true, false, List, [], ◌∷◌, ◌++◌, length, None, Ok}
+use Rattle.std.specs.Prelude.{◌≡◌, ◌≢◌, ◌⊎◌, ℕ, ◌+◌, ◌<◌, ◌≤◌, IsTrue, true, false, List, [], ◌∷◌, ◌++◌, length, map, None, Ok}
 use Rattle.std.specs.List.{AllByRecursion}
 use Rattle.lisp_records.specs.declared.address.Addr.{Addr}
 use Rattle.lisp_records.specs.Moment.{max_moment}
@@ -106,13 +106,15 @@ pub record IsLife (number : ℕ) (told : List TurnAct) (steps : List Step) : Typ
   pub line : restart.line ≡ lines.Restarted number
   pub is : steps ≡ restart ∷ untold ++ first
 
--- a deployment that is a network went on to be one by them; what arrived in them is what arrived in the acts
+-- a deployment that is a network went on to be one by them; what arrived in them is what arrived in the acts, and the lines of what nobody
+-- was told are those of the acts of which nobody was told
 pub record LifeGoesOn (config : ConfigValue) (number : ℕ) (untold told : List TurnAct) (new : DeploymentState) (o : Opening)
     (T : List Step) : Type 0 where
   pub steps : List Step
   pub left : WorldState
   pub life : IsLife number told steps
   pub heard : arrivals steps ≡ arrived_in (untold ++ told)
+  pub swallowed : ArePrinted life.untold (map (λ a. a.act.line) untold)
   pub stands : DeploymentStands config new left o (steps ++ T)
 
 -- A node's next life is a restart, where a router ended as it is configured, and no count of failures of the node's store fell.
