@@ -1,5 +1,5 @@
 -- Examples: a turn and a life of a deployment, and near misses, each but for one thing: what the definitions don't allow.
-use Rattle.std.proofs.Common.{◌≡◌, inl, inr, ℕ, zero, suc, ◌<◌, ◌≤◌, Bool, true, false, List, [], ◌∷◌, ◌++◌, Option, Some, None, refl, sym, ap, subst, ◌∙◌, arith}
+use Rattle.std.proofs.Common.{Ok, Err, map, true≢false, ◌≡◌, inl, inr, ℕ, zero, suc, ◌<◌, ◌≤◌, Bool, true, false, List, [], ◌∷◌, ◌++◌, Option, Some, None, refl, sym, ap, subst, ◌∙◌, arith}
 use Rattle.std.specs.Prelude.{◌≢◌, ◌==◌, if◌then◌else◌}
 use Rattle.std.specs.FinMap.{empty}
 use Rattle.std.specs.List.{Contains}
@@ -31,6 +31,20 @@ use Rattle.lisp_model.specs.declared.line.Line.TheVariants as lines
 use Rattle.lisp_records.specs.declared.address.Addr.TheVariants.{V4}
 use Rattle.lisp_turns.specs.Act.{line_act}
 use Rattle.lisp_turns.specs.Part.{lines_of}
+use Rattle.std.specs.Prelude.{Result}
+use Rattle.lisp_records.specs.declared.address.Addr.{Addr}
+use Rattle.lisp_messages.specs.declared.fault.ReadFault.{ReadFault}
+use Rattle.lisp_messages.specs.Authentic.{is_authentic}
+use Rattle.lisp_messages.specs.Message.{MessageValue}
+use Rattle.lisp_messages.specs.Reading.{message_at}
+use Rattle.lisp_model.specs.declared.line.Line.{Line}
+use Rattle.lisp_model.specs.Keys.{KnowsKey}
+use Rattle.lisp_model.specs.Trace.{address_at, router_at, secret_at, is_server}
+use Rattle.lisp_refinement.specs.World.{DatagramValue}
+use Rattle.lisp_deployment.specs.Deeds.{DoesDeed}
+use Rattle.lisp_deployment.specs.Lives.{arrived_in}
+use Rattle.lisp_deployment.specs.Received.{received_in, MayHold, IsUnforged}
+use Rattle.lisp_deployment.specs.Told.{swallowed_in, IsTold}
 
 -- a live row isn't dropped, and a dead one may stay
 live_row : (old new : ServerNodeState) (now : ℕ) (router : RouterId) (eid : PrefixValue) (h : RowValue) → PassesNode old new now → row_at old.core.rows router eid ≡ Some h → is_alive h now ≡ true
@@ -152,3 +166,44 @@ heard = record { event = events.Junk 0 (V4 []) []; act = line_act (lines.Accepte
 
 two_lives : (calls : List Call) → all_lines (Turn 0 calls ∷ Life 0 (heard ∷ []) ∷ []) ≡ lines_of calls ++ lines.Accepted 0 me 1 7 None ∷ []
 two_lives calls = refl
+
+-- what comes from another address than its sender's, or goes to another one than the receiver's, is no datagram that was sent
+abbrev here : Addr
+here = V4 (1 ∷ [])
+
+abbrev there : Addr
+there = V4 (2 ∷ [])
+
+moved : (config : ConfigValue) (number : ℕ) (bytes secret : List ℕ) (message : MessageValue) → address_at config number ≡ there → message_at bytes ≡ Ok message → MayHold config number secret → is_authentic bytes secret ≡ true
+    → IsUnforged config (record { from = here; to = here; bytes = bytes } ∷ []) number (here, bytes) → ⊥
+moved config number bytes secret message address reads holds authentic (inl (zero, within, is)) = (let differs : V4 (1 ∷ []) ≡ V4 (2 ∷ []) = ap (λ (x : DatagramValue). x.to) is ∙ address in absurd cc)
+moved config number bytes secret message address reads holds authentic (inl (suc i, within, is)) = omega (arith, within)
+moved config number bytes secret message address reads holds authentic (inr (inl noise)) = (let clash : ◌≡◌ {A = Result MessageValue ReadFault} (Err noise.0) (Ok message) = sym noise.1 ∙ reads in absurd cc)
+moved config number bytes secret message address reads holds authentic (inr (inr forged)) = absurd (true≢false (sym authentic ∙ forged secret holds))
+
+-- a router may be under each key of its site, and hold its secret; it doesn't hold those of other sites
+under_another : (config : ConfigValue) (number key : ℕ) → KnowsKey config number key → is_server config number ≡ false → MayHold config number (secret_at config.sites (router_at config number).me.site key)
+under_another config number key known router = inr (router, key, inr known, refl)
+
+other_secret : (config : ConfigValue) (number : ℕ) (secret : List ℕ) → is_server config number ≡ false → ((key : ℕ) → secret ≢ secret_at config.sites (router_at config number).me.site key) → MayHold config number secret → ⊥
+other_secret config number secret router differs (inl (server, has)) = absurd (true≢false (sym server ∙ router))
+other_secret config number secret router differs (inr (kind, key, under, is)) = differs key is
+
+-- what a crash cut off was received, and its line was swallowed; what was told wasn't
+module _ (A : Type 0) (config : ConfigValue) (number : ℕ) (old new : DeploymentState) (begins : DoesDeed A config (Life number []) old new) (cut_off : begins.life.untold ≡ heard ∷ []) where
+  received_too : received_in A config (Life number []) old new begins ≡ (V4 [], []) ∷ []
+  received_too = ap (λ (acts : List TurnAct). arrived_in (acts ++ [])) cut_off
+
+  line_swallowed : swallowed_in A config (Life number []) old new begins ≡ lines.Accepted 0 me 1 7 None ∷ []
+  line_swallowed = ap (λ (acts : List TurnAct). map (λ (a : TurnAct). a.act.line) acts) cut_off
+
+not_swallowed : (A : Type 0) (config : ConfigValue) (number : ℕ) (old new : DeploymentState) (begins : DoesDeed A config (Life number (heard ∷ [])) old new) → begins.life.untold ≡ []
+    → swallowed_in A config (Life number (heard ∷ [])) old new begins ≡ []
+not_swallowed A config number old new begins none = ap (λ (acts : List TurnAct). map (λ (a : TurnAct). a.act.line) acts) none
+
+-- of a message that was accepted the line isn't missing
+missing_line : (printed swallowed : List Line) → (Contains printed (lines.Accepted 0 me 1 7 None) → ⊥) → (Contains swallowed (lines.Accepted 0 me 1 7 None) → ⊥) → IsTold printed swallowed (lines.Accepted 0 me 1 7 None) → ⊥
+missing_line printed swallowed unprinted kept (inl quiet) = quiet
+missing_line printed swallowed unprinted kept (inr (inl (node, is))) = absurd cc
+missing_line printed swallowed unprinted kept (inr (inr (inl has))) = unprinted has
+missing_line printed swallowed unprinted kept (inr (inr (inr has))) = kept has

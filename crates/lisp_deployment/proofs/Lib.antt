@@ -10,4 +10,7 @@ pub mod Opening
 pub mod Living
 pub mod Deeds
 pub mod Printed
+pub mod Killed
+pub mod Received
+pub mod Told
 pub mod Examples

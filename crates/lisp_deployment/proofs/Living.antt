@@ -1,5 +1,5 @@
 -- A node's life ends, perhaps in a turn, and its next one begins: the deployment goes on to be a network.
-use Rattle.std.proofs.Common.{Ok, ◌≡◌, ◌⊎◌, inl, inr, Bool, true, false, true≢false, ℕ, ◌+◌, ◌-◌, ◌<◌, ◌≤◌, List, [], ◌∷◌, ◌++◌, length, length-set, map, reverse, Some, None, refl, sym, ap, subst, ◌∙◌, append-nil, arith}
+use Rattle.std.proofs.Common.{Ok, ◌≡◌, ◌⊎◌, inl, inr, Bool, true, false, true≢false, ℕ, ◌+◌, ◌-◌, ◌<◌, ◌≤◌, List, [], ◌∷◌, ◌++◌, length, length-set, map, reverse, Option, Some, None, refl, sym, ap, subst, ◌∙◌, append-nil, arith}
 use Rattle.std.specs.Prelude.{◌≢◌, ◌==◌, slice_get, slice_set}
 use Rattle.std.specs.List.{AllByRecursion}
 use Rattle.std.proofs.lemmas.Bool.Decides.{Decides-eqb}
@@ -11,7 +11,7 @@ use Rattle.lisp_policy.specs.Configuration.{ConfigValue, RouterEntryValue}
 use Rattle.lisp_nonces.specs.Store.{StoreState, Proceeds}
 use Rattle.lisp_model.specs.declared.event.Event.TheVariants as events
 use Rattle.lisp_model.specs.declared.line.Line.TheVariants as lines
-use Rattle.lisp_model.specs.Trace.{router_at, etr_config_of, ShownStore, Step, Opening, address_at}
+use Rattle.lisp_model.specs.Trace.{EventValue, router_at, etr_config_of, ShownStore, Step, Opening, address_at}
 use Rattle.lisp_refinement.specs.World.{ServerNodeState, RouterNodeState, DatagramValue, WorldState}
 use Rattle.lisp_refinement.specs.Calls.{StoreRestarts, CoreAnswersStartOver, config_of, database_of, NodeRestarts}
 use Rattle.lisp_refinement.specs.Events.{address_of, NetworkRestartsServer, NetworkRestartsRouter}
@@ -23,9 +23,11 @@ use Rattle.lisp_etr.specs.Config.{EtrConfigValue}
 use Rattle.lisp_records.specs.Record.{MapRecordValue}
 use Rattle.lisp_nodes.specs.Cores.{first_used}
 use Rattle.lisp_world.specs.Making.{router_over}
-use Rattle.lisp_turns.specs.Acts.{TurnAct, DoesAll, acts_calls}
+use Rattle.lisp_turns.specs.Acts.{TurnAct, DoesAll, send_calls, printed_of, act_calls, acts_calls}
+use Rattle.lisp_turns.specs.Outside.{Prints}
+use Rattle.lisp_turns.proofs.Calls.{lines_append}
 use Rattle.lisp_turns.specs.Node.{NodeState, Server, Router, HasNode, Passes}
-use Rattle.lisp_turns.specs.Part.{IsOwn, ArePrinted, lines_of, sent_of, datagram_from}
+use Rattle.lisp_turns.specs.Part.{IsOwn, ArePrinted, arrival, arrivals, lines_of, sent_of, datagram_from}
 use Rattle.lisp_turns.specs.Turn.{TurnState, acts_of}
 use Rattle.lisp_turns.proofs.Acting.{get_set_there, IsTold, AreOwn, arrived, acts_reach}
 use Rattle.lisp_turns.proofs.BeginningStores.{get_set_other}
@@ -33,7 +35,7 @@ use Rattle.lisp_turns.proofs.OwnActs.{heard_own, taken_own, taken_did}
 use Rattle.lisp_turns.proofs.Reaching.{Reaches, goes_further}
 use Rattle.lisp_turns.proofs.Ticking.{tick_reaches}
 use Rattle.lisp_deployment.specs.Deployment.{DeploymentState, node_count, sent_by, IsAmong, DeploymentStands}
-use Rattle.lisp_deployment.specs.Lives.{store_of, BeginsAt, BeginsLife, StartsAt, IsAsConfigured, EndsAsConfigured, IsLife, LifeGoesOn, LostTurnsAreCuts, LivesStand}
+use Rattle.lisp_deployment.specs.Lives.{store_of, BeginsAt, BeginsLife, StartsAt, IsAsConfigured, EndsAsConfigured, arrived_in, IsLife, LifeGoesOn, LostTurnsAreCuts, LivesStand}
 use Rattle.lisp_deployment.proofs.Passing.{passing_stands, idling_passes}
 use Rattle.lisp_deployment.proofs.OthersStand.{others_kept, others_stand, has_it, has_others}
 use Rattle.lisp_deployment.proofs.Deploying.{among_more, kept_clock, kept_bag}
@@ -59,6 +61,40 @@ told_did A config number old new now (a ∷ earlier) (between, did, does) = (bet
 told_own : (number : ℕ) (acts : List TurnAct) → AllByRecursion (λ a. IsOwn number a.event) acts → AreOwn number (all_told acts)
 told_own number [] own = tt
 told_own number (a ∷ earlier) own = ((own.0, inl refl), told_own number earlier own.1)
+
+-- what arrived in acts, and in steps
+arrivals_both : (later earlier : List Step) → arrivals (later ++ earlier) ≡ arrivals later ++ arrivals earlier
+arrivals_both [] earlier = refl
+arrivals_both (s ∷ later) earlier = ap (λ (l : List (Addr × List ℕ)). arrival s.event ++ l) (arrivals_both later earlier) ∙ sym (append_assoc (arrival s.event) (arrivals later) (arrivals earlier))
+
+arrived_both : (later earlier : List TurnAct) → arrived_in (later ++ earlier) ≡ arrived_in later ++ arrived_in earlier
+arrived_both [] earlier = refl
+arrived_both (a ∷ later) earlier = ap (λ (l : List (Addr × List ℕ)). arrival a.event ++ l) (arrived_both later earlier) ∙ sym (append_assoc (arrival a.event) (arrived_in later) (arrived_in earlier))
+
+arrived_is : (acts : List TurnAct) → arrived acts ≡ arrived_in acts
+arrived_is [] = refl
+arrived_is (a ∷ earlier) = ap (λ (l : List (Addr × List ℕ)). arrival a.event ++ l) (arrived_is earlier)
+
+same_arrived : (acts : List TurnAct) → arrived (all_told acts) ≡ arrived_in acts
+same_arrived [] = refl
+same_arrived (a ∷ earlier) = ap (λ (l : List (Addr × List ℕ)). arrival a.event ++ l) (same_arrived earlier)
+
+-- the lines of acts that are all told
+told_line : (a : TurnAct) → lines_of (act_calls (as_told a)) ≡ a.act.line ∷ []
+told_line a = lines_append (send_calls a.act.message a.taken) (Prints (printed_of a.event a.act.line) ∷ []) ∙ (λ i. unsent a.act.message a.taken i ++ said a.event i)
+  where
+    unsent : (message : Option (Addr × List ℕ)) (taken : Bool) → lines_of (send_calls message taken) ≡ []
+    unsent None taken = refl
+    unsent (Some m) true = refl
+    unsent (Some m) false = refl
+
+    said : (event : EventValue) → lines_of (Prints (printed_of event a.act.line) ∷ []) ≡ a.act.line ∷ []
+    said (events.Junk to from bytes) = refl
+    said _ = refl
+
+all_told_lines : (acts : List TurnAct) → lines_of (acts_calls (all_told acts)) ≡ map (λ a. a.act.line) acts
+all_told_lines [] = refl
+all_told_lines (a ∷ earlier) = lines_append (act_calls (as_told a)) (acts_calls (all_told earlier)) ∙ (λ i. told_line a i ++ all_told_lines earlier i)
 
 -- acts up to one of them, and from there on
 split_did : (A : Type 0) (config : ConfigValue) (number : ℕ) (old new : NodeState) (now : ℕ) (later earlier : List TurnAct) → DoesAll A config number old new now (later ++ earlier)
@@ -244,7 +280,7 @@ module _ (A : Type 0) (config : ConfigValue) (number : ℕ) (told : List TurnAct
       ∙ ap (λ (a : Addr). w.bag ++ map (datagram_from a) (reverse (sent_of (acts_calls told)))) (address_is w o T stand.stands number ∙ ap (λ (c : ConfigValue). address_at c number) stand.config_is))
 
   abbrev Goes : Type 0
-  Goes = LifeGoesOn config number told new o T
+  Goes = LifeGoesOn config number life.untold told new o T
 
   module _ (left : WorldState) (s : Step) (event_is : s.event ≡ events.Restart number 0 None) (line_is : s.line ≡ lines.Restarted number) (stands : Stands left o (s ∷ until_start)) (bag : left.bag ≡ at_start.bag ++ [])
       (clock : left.clock ≡ at_start.clock) (has : HasNode left number (new.nodes number).node) (others : (k : ℕ) (other : NodeState) → k ≢ number → HasNode at_end k other → HasNode left k other) where
@@ -275,11 +311,19 @@ module _ (A : Type 0) (config : ConfigValue) (number : ℕ) (told : List TurnAct
       is = refl;
     }
 
+    what_arrived : arrivals (s ∷ waits ∷ untold_reaches.steps ++ until_told.steps) ≡ arrived_in (life.untold ++ told)
+    what_arrived = (λ i. arrival (event_is i) ++ arrivals (untold_reaches.steps ++ until_told.steps)) ∙ arrivals_both untold_reaches.steps until_told.steps
+        ∙ (λ i. untold_reaches.heard i ++ (until_told.heard ∙ append-nil (arrived told)) i)
+        ∙ (λ i. same_arrived life.untold i ++ arrived_is told i) ∙ sym (arrived_both life.untold told)
+
     goes_on : Goes
+    unfolding life_steps
     goes_on = record {
       steps = s ∷ waits ∷ untold_reaches.steps ++ until_told.steps;
       left = left;
       life = life_steps;
+      heard = what_arrived;
+      swallowed = inl (tt, subst (ArePrinted untold_reaches.steps) (all_told_lines life.untold) untold_reaches.are_printed);
       stands = record {
         stands = subst (λ (l : List Step). Stands left o (s ∷ waits ∷ l)) (sym (append_assoc untold_reaches.steps until_told.steps T)) stands;
         config_is = stand.config_is;

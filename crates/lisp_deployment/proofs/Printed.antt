@@ -48,7 +48,7 @@ module _ {X : Type 0} where
   among_both (x ∷ xs) (y ∷ ys) us vs (inl (same, among)) more = inl (same, among_both xs ys us vs among more)
   among_both (x ∷ xs) (y ∷ ys) us vs (inr among) more = inr (among_both (x ∷ xs) ys us vs among more)
 
-  contains_among : (xs ys : List X) (v : X) → IsAmong xs ys → Contains xs v → Contains ys v
+  pub contains_among : (xs ys : List X) (v : X) → IsAmong xs ys → Contains xs v → Contains ys v
   contains_among [] ys v among has = absurd (in_none v has)
   contains_among (x ∷ xs) [] v among has = absurd among
   contains_among (x ∷ xs) (y ∷ ys) v (inr among) has = in_tail y ys v (contains_among (x ∷ xs) ys v among has)
@@ -65,10 +65,10 @@ falls_among (x ∷ xs) (y ∷ ys) (inl (same, among)) falls = ((λ m has. subst 
 falls_among (x ∷ xs) (y ∷ ys) (inr among) falls = falls_among (x ∷ xs) ys among falls.1
 
 module _ (server : ℕ) (router : RouterId) (key : ℕ) where
-  abbrev nonce_in : Line → List ℕ
+  abbrev pub nonce_in : Line → List ℕ
   nonce_in line = accepted_nonce server router key line
 
-  abbrev nonces : List Line → List ℕ
+  abbrev pub nonces : List Line → List ℕ
   nonces ls = accepted_nonces server router key ls
 
   abbrev step_nonces : List Step → List ℕ
@@ -82,7 +82,7 @@ module _ (server : ℕ) (router : RouterId) (key : ℕ) where
   numbered_nonce n (lines.Resent server router datagram) = refl
   numbered_nonce n _ = refl
 
-  nonces_append : (xs ys : List Line) → nonces (xs ++ ys) ≡ nonces xs ++ nonces ys
+  pub nonces_append : (xs ys : List Line) → nonces (xs ++ ys) ≡ nonces xs ++ nonces ys
   nonces_append [] ys = refl
   nonces_append (x ∷ xs) ys = ap (λ (ns : List ℕ). nonce_in x ++ ns) (nonces_append xs ys) ∙ sym (append_assoc (nonce_in x) (nonces xs) (nonces ys))
 
@@ -139,7 +139,7 @@ module _ (server : ℕ) (router : RouterId) (key : ℕ) where
   abbrev accepted : Opening → List Step → List ℕ
   accepted o T = nonces_of pair (acceptances o T server)
 
-  its_number : (node : ℕ) (who : RouterId) (under : ℕ) → Decides ((node == server) && (router_eq who router && (under == key))) ((node ≡ server) × ((who ≡ router) × (under ≡ key)))
+  pub its_number : (node : ℕ) (who : RouterId) (under : ℕ) → Decides ((node == server) && (router_eq who router && (under == key))) ((node ≡ server) × ((who ≡ router) × (under ≡ key)))
   its_number node who under = Decides-and _ _ (Decides-eqb node server) (Decides-and _ _ (router_eq-Decides who router) (Decides-eqb under key))
 
   trace_among : (o : Opening) (T : List Step) → LegalTrace o T → IsAmong (step_nonces T) (accepted o T)

@@ -6,3 +6,5 @@ pub mod Opening
 pub mod Lives
 pub mod Deeds
 pub mod Printed
+pub mod Received
+pub mod Told

@@ -1,6 +1,7 @@
 -- The lives of a node in a deployment: it starts, takes turns, and stops, perhaps in the middle of one.
-use Rattle.std.specs.Prelude.{◌≡◌, ◌≢◌, ◌⊎◌, ℕ, ◌+◌, ◌<◌, ◌≤◌, IsTrue, true, false, List, [], ◌∷◌, ◌++◌, length, None, Ok}
+use Rattle.std.specs.Prelude.{◌≡◌, ◌≢◌, ◌⊎◌, ℕ, ◌+◌, ◌<◌, ◌≤◌, IsTrue, true, false, List, [], ◌∷◌, ◌++◌, length, map, None, Ok}
 use Rattle.std.specs.List.{AllByRecursion}
+use Rattle.lisp_records.specs.declared.address.Addr.{Addr}
 use Rattle.lisp_records.specs.Moment.{max_moment}
 use Rattle.lisp_policy.specs.Configuration.{ConfigValue}
 use Rattle.lisp_nonces.specs.Kept.{NarrowsEach}
@@ -15,7 +16,7 @@ use Rattle.lisp_world.specs.Making.{server_over, IsRouterOver}
 use Rattle.lisp_turns.specs.Acts.{TurnAct, DoesAll, acts_calls}
 use Rattle.lisp_turns.specs.Due.{IsDuty, IsRefused}
 use Rattle.lisp_turns.specs.Node.{NodeState, Server, Router, Passes}
-use Rattle.lisp_turns.specs.Part.{IsOwn, ArePrinted, lines_of}
+use Rattle.lisp_turns.specs.Part.{IsOwn, ArePrinted, arrival, arrivals, lines_of}
 use Rattle.lisp_turns.specs.Outside.{OutsideState}
 use Rattle.lisp_turns.specs.Stretch.{beginning}
 use Rattle.lisp_turns.specs.Turn.{TurnState, acts_of, IsLostTurn}
@@ -88,6 +89,11 @@ abbrev pub EndsAsConfigured : ConfigValue → ℕ → NodeState → Type 0
 EndsAsConfigured config number (Server n) = Unit {0}
 EndsAsConfigured config number (Router n) = IsAsConfigured config number n
 
+-- what arrived in acts, and from which address
+abbrev pub arrived_in : List TurnAct → List (Addr × List ℕ)
+arrived_in [] = []
+arrived_in (a ∷ earlier) = arrival a.event ++ arrived_in earlier
+
 -- The steps of a life that begins: first what was told of the last turn, of which the lines are those that were printed; then what nobody
 -- was told, and time that passes; and last the restart.
 pub record IsLife (number : ℕ) (told : List TurnAct) (steps : List Step) : Type 0 where
@@ -100,16 +106,20 @@ pub record IsLife (number : ℕ) (told : List TurnAct) (steps : List Step) : Typ
   pub line : restart.line ≡ lines.Restarted number
   pub is : steps ≡ restart ∷ untold ++ first
 
--- a deployment that is a network went on to be one by them
-pub record LifeGoesOn (config : ConfigValue) (number : ℕ) (told : List TurnAct) (new : DeploymentState) (o : Opening) (T : List Step)
-    : Type 0 where
+-- a deployment that is a network went on to be one by them; what arrived in them is what arrived in the acts, and the lines of what nobody
+-- was told are those of the acts of which nobody was told
+pub record LifeGoesOn (config : ConfigValue) (number : ℕ) (untold told : List TurnAct) (new : DeploymentState) (o : Opening)
+    (T : List Step) : Type 0 where
   pub steps : List Step
   pub left : WorldState
   pub life : IsLife number told steps
+  pub heard : arrivals steps ≡ arrived_in (untold ++ told)
+  pub swallowed : ArePrinted life.untold (map (λ a. a.act.line) untold)
   pub stands : DeploymentStands config new left o (steps ++ T)
 
 -- A node's next life is a restart, where a router ended as it is configured, and no count of failures of the node's store fell.
 abbrev pub LivesStand : Type 0 → Type 0
 LivesStand A = (config : ConfigValue) (number : ℕ) (told : List TurnAct) (old new : DeploymentState)
     → (life : BeginsLife A config number told old new) → EndsAsConfigured config number life.last → Proceeds (store_of life.last) life.store
-    → (w : WorldState) (o : Opening) (T : List Step) → DeploymentStands config old w o T → LifeGoesOn config number told new o T
+    → (w : WorldState) (o : Opening) (T : List Step) → DeploymentStands config old w o T
+    → LifeGoesOn config number life.untold told new o T

@@ -1,5 +1,6 @@
 -- What the nodes of a deployment print over all their lives.
-use Rattle.std.specs.Prelude.{ℕ, ◌==◌, ◌&&◌, List, [], ◌∷◌, ◌++◌, if◌then◌else◌}
+use Rattle.std.specs.Prelude.{ℕ, ◌<◌, ◌==◌, ◌&&◌, List, [], ◌∷◌, ◌++◌, Option, if◌then◌else◌}
+use Rattle.std.specs.List.{Contains}
 use Rattle.lisp_records.specs.declared.router.RouterId.{RouterId}
 use Rattle.lisp_records.specs.Router.{router_eq}
 use Rattle.lisp_policy.specs.Configuration.{ConfigValue}
@@ -8,7 +9,7 @@ use Rattle.lisp_model.specs.declared.line.Line.{Line}
 use Rattle.lisp_model.specs.declared.line.Line.TheVariants as lines
 use Rattle.lisp_model.specs.Network.{IsNetwork}
 use Rattle.lisp_model.specs.Promises.{Falls}
-use Rattle.lisp_turns.specs.Acts.{acts_calls}
+use Rattle.lisp_turns.specs.Acts.{TurnAct, acts_calls}
 use Rattle.lisp_turns.specs.Part.{lines_of}
 use Rattle.lisp_deployment.specs.Deeds.{Deed, Turn, Life, DoDeeds}
 use Rattle.lisp_deployment.specs.Deployment.{DeploymentState}
@@ -38,3 +39,13 @@ abbrev pub PrintedNoncesRise : Type 0 → Type 0
 PrintedNoncesRise A = (config : ConfigValue) (stores : ℕ → StoreState) (begun d : DeploymentState) (deeds : List Deed)
     → IsNetwork config → DeploymentBegins config stores begun → DoDeeds A config deeds begun d
     → (server : ℕ) (router : RouterId) (key : ℕ) → Falls (accepted_nonces server router key (all_lines deeds))
+
+-- a Map-Server that was killed accepts no replay: what it prints as accepted afterwards, in all its lives, of a router under a key has a
+-- greater nonce than each that it printed before
+abbrev pub KilledServersAcceptNoReplays : Type 0 → Type 0
+KilledServersAcceptNoReplays A = (config : ConfigValue) (stores : ℕ → StoreState) (begun d : DeploymentState) (later earlier : List Deed)
+    (server : ℕ) (told : List TurnAct) → IsNetwork config → DeploymentBegins config stores begun
+    → DoDeeds A config (later ++ Life server told ∷ earlier) begun d
+    → (router : RouterId) (key before after : ℕ) (reply other : Option ℕ)
+    → Contains (all_lines (Life server told ∷ earlier)) (lines.Accepted server router key before reply)
+    → Contains (all_lines later) (lines.Accepted server router key after other) → before < after

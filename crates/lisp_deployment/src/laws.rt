@@ -6,7 +6,9 @@ ghost use Rattle.lisp_deployment.specs.Deployment.{TurnsAreOneTrace};
 ghost use Rattle.lisp_deployment.specs.Late.{LateTurnsAreParts};
 ghost use Rattle.lisp_deployment.specs.Lives.{LivesStand, LostTurnsAreCuts};
 ghost use Rattle.lisp_deployment.specs.Opening.{DeploymentsAreNetworks};
-ghost use Rattle.lisp_deployment.specs.Printed.{PrintedNoncesRise};
+ghost use Rattle.lisp_deployment.specs.Printed.{KilledServersAcceptNoReplays, PrintedNoncesRise};
+ghost use Rattle.lisp_deployment.specs.Received.{UnforgedDeploymentsAreClean};
+ghost use Rattle.lisp_deployment.specs.Told.{CountedLinesWereAccepted, HeldRowsWereSent};
 ghost use Rattle.lisp_deployment.specs.Passing.{IdlingPasses, PassingStands, TicksArePasses};
 
 use std::alloc::Allocator;
@@ -74,4 +76,29 @@ pub fn deployments_have_traces<A: Allocator>()
 /// section 5.6).
 pub fn printed_nonces_rise<A: Allocator>()
     ensures { PrintedNoncesRise A }
+{}
+
+/// A deployment in which nothing that a node received was forged has a clean trace, of which all holds that the headline says over clean
+/// traces: each datagram was sent by a node before, or spells no message, or is authentic under no secret that its receiver may hold.
+pub fn unforged_deployments_are_clean<A: Allocator>()
+    ensures { UnforgedDeploymentsAreClean A }
+{}
+
+/// A Map-Server that was killed accepts no replay (RFC 9301 section 5.6): this follows from `printed_nonces_rise` alone.
+pub fn killed_servers_accept_no_replays<A: Allocator>()
+    ensures { KilledServersAcceptNoReplays A }
+{
+    printed_nonces_rise::<A>()
+}
+
+/// Where nothing that was received was forged, each row that a Map-Server holds is of a Map-Register that it accepted and a router sent,
+/// whose database had the row's record then; both lines were printed, or a crash swallowed them (RFC 9301 sections 5.6 and 8.2).
+pub fn held_rows_were_sent<A: Allocator>()
+    ensures { HeldRowsWereSent A }
+{}
+
+/// Where nothing that was received was forged, a router that printed that it counted a nonce has a Map-Server that accepted it: the
+/// line was printed, or a crash swallowed it (RFC 9301 section 5.7).
+pub fn counted_lines_were_accepted<A: Allocator>()
+    ensures { CountedLinesWereAccepted A }
 {}
