@@ -109,11 +109,13 @@ counted_lines_were_accepted A config stores begun d deeds network begins did unf
     let place = is_in trace at.step at.there in
     let over = run.clean.over_clean in
     let was = counted_were_accepted o trace stand.stands.steps.legal stand.stands.steps.network over.accepted_was_sent over.counted_was_accepted at.step place.0 place.1 node server part key nonce
-        (count_is at.step.line node server part key nonce at.line_is) in
+    (count_is at.step.line node server part key nonce at.line_is) in
     let found = its_line (all_lines deeds) (all_swallowed A config deeds begun d did) was.accepting.line (lines.Accepted server (router_at o.config node).me key nonce was.reply) was.line (λ quiet. quiet)
-        (λ k. accepted_runs server (router_at o.config node).me key nonce was.reply k) (run.told was.accepting (is_there trace was.accepting was.before_accepting was.there)) in
-    (option_map (λ _. 0) was.reply, subst (λ (l : Line). IsLine (all_lines deeds) (all_swallowed A config deeds begun d did) l)
-        (ap (numbered 0) was.line ∙ ap (λ (c : ConfigValue). lines.Accepted server (router_at c node).me key nonce (option_map (λ _. 0) was.reply)) stand.config_is) found)
+    (λ k. accepted_runs server (router_at o.config node).me key nonce was.reply k) (run.told was.accepting (is_there trace was.accepting was.before_accepting was.there)) in (
+      option_map (λ _. 0) was.reply,
+      subst (λ (l : Line). IsLine (all_lines deeds) (all_swallowed A config deeds begun d did) l)
+          (ap (numbered 0) was.line ∙ ap (λ (c : ConfigValue). lines.Accepted server (router_at c node).me key nonce (option_map (λ _. 0) was.reply)) stand.config_is) found,
+    )
 
 pub held_rows_were_sent : (A : Type 0) → HeldRowsWereSent A
 held_rows_were_sent A config stores begun d deeds network begins did unforged =

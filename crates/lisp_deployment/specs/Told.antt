@@ -57,8 +57,8 @@ HeldRowsWereSent A = (config : ConfigValue) (stores : ℕ → StoreState) (begun
     → (first : WorldState) × (o : Opening) × DeploymentOpens config stores begun first o
     × (clean : HasCleanTrace config deeds d first o)
     × ((server : ℕ) (n : ServerNodeState) (held : List RowValue) → server < length config.servers
-        → (d.nodes server).node ≡ Server n → IsHeld n.core.rows d.moment held → (row : RowValue) → Contains held row
-        → RowWasSent o clean.has.trace (all_lines deeds) (all_swallowed A config deeds begun d did) server row)
+    → (d.nodes server).node ≡ Server n → IsHeld n.core.rows d.moment held → (row : RowValue) → Contains held row
+    → RowWasSent o clean.has.trace (all_lines deeds) (all_swallowed A config deeds begun d did) server row)
 
 -- for each line of a part that a router counted there is a line of its Map-Server that accepted the nonce under that key
 abbrev pub CountedLinesWereAccepted : Type 0 → Type 0
@@ -67,4 +67,4 @@ CountedLinesWereAccepted A = (config : ConfigValue) (stores : ℕ → StoreState
     → ReceivesUnforged A config deeds begun d did
     → (node server part key nonce : ℕ) → Contains (all_lines deeds) (lines.Counted node server part key nonce)
     → (reply : Option ℕ) × IsLine (all_lines deeds) (all_swallowed A config deeds begun d did)
-        (lines.Accepted server (router_at config node).me key nonce reply)
+    (lines.Accepted server (router_at config node).me key nonce reply)
