@@ -206,11 +206,12 @@ record GoesOnCleanly (config : ConfigValue) (deed : Deed) (new : DeploymentState
 -- the steps of a life
 life_clean : (config : ConfigValue) (number : ℕ) (told : List TurnAct) (o : Opening) (T steps : List Step) (life : IsLife number told steps) → LegalTrace o (steps ++ T) → AllByRecursion (IsHarmlessTo o T number) (arrivals steps) → Clean o T → Clean o (steps ++ T)
 life_clean config number told o T steps life legal all clean =
-    subst (λ (l : List Step). Clean o (l ++ T)) (sym life.is)
-    (subst (λ (e : EventValue). IsHarmless o ((life.untold ++ life.first) ++ T) e) (sym life.event) tt,
-    clean_steps o T number (life.untold ++ life.first) life.own (subst (λ (l : List Step). LegalTrace o (l ++ T)) life.is legal).1
-    (subst (λ (e : EventValue). AllByRecursion (IsHarmlessTo o T number) (arrival e ++ arrivals (life.untold ++ life.first))) life.event
-    (subst (λ (l : List Step). AllByRecursion (IsHarmlessTo o T number) (arrivals l)) life.is all)) clean)
+    subst (λ (l : List Step). Clean o (l ++ T)) (sym life.is) (
+      subst (λ (e : EventValue). IsHarmless o ((life.untold ++ life.first) ++ T) e) (sym life.event) tt,
+      clean_steps o T number (life.untold ++ life.first) life.own (subst (λ (l : List Step). LegalTrace o (l ++ T)) life.is legal).1
+          (subst (λ (e : EventValue). AllByRecursion (IsHarmlessTo o T number) (arrival e ++ arrivals (life.untold ++ life.first))) life.event
+          (subst (λ (l : List Step). AllByRecursion (IsHarmlessTo o T number) (arrivals l)) life.is all)) clean,
+    )
 
 module _ (A : Type 0) (config : ConfigValue) where
   one_deed : (deed : Deed) (old new : DeploymentState) (does : DoesDeed A config deed old new) → AllByRecursion (IsUnforged config old.sent (node_of deed)) (received_in A config deed old new does)

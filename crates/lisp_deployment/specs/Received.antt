@@ -38,7 +38,7 @@ abbrev pub MayHold : ConfigValue → ℕ → List ℕ → Type 0
 MayHold config number secret =
     ((is_server config number ≡ true) × Contains (flat_map (λ s. map (λ k. k.secret) s.keys) config.sites) secret)
     ⊎ ((is_server config number ≡ false) × (key : ℕ) × MayBeUnder config number key
-        × (secret ≡ secret_at config.sites (router_at config number).me.site key))
+    × (secret ≡ secret_at config.sites (router_at config number).me.site key))
 
 -- the bytes are authentic under none of them
 abbrev pub IsForgedFor : ConfigValue → ℕ → List ℕ → Type 0

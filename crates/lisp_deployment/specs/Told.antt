@@ -64,7 +64,7 @@ HeldRowsWereSent A = (config : ConfigValue) (stores : ℕ → StoreState) (begun
     → (first : WorldState) × (o : Opening) × DeploymentOpens config stores begun first o
     × (clean : HasCleanTrace config deeds d first o)
     × ((server : ℕ) (held : List RowValue) → Holds config d server held → (row : RowValue) → Contains held row
-        → RowWasSent o clean.has.trace (all_lines deeds) (all_swallowed A config deeds begun d did) server row)
+    → RowWasSent o clean.has.trace (all_lines deeds) (all_swallowed A config deeds begun d did) server row)
 
 -- and rows of one router and prefix that two of them hold, sent in steps with no change of the router's database between, have equal records
 abbrev pub HeldRowsAgree : Type 0 → Type 0
@@ -74,7 +74,7 @@ HeldRowsAgree A = (config : ConfigValue) (stores : ℕ → StoreState) (begun d 
     → (first : WorldState) × (o : Opening) × DeploymentOpens config stores begun first o
     × (clean : HasCleanTrace config deeds d first o)
     × ((one other : ℕ) (held held_by_other : List RowValue) → Holds config d one held → Holds config d other held_by_other
-        → RowsAgree o clean.has.trace one other held held_by_other)
+    → RowsAgree o clean.has.trace one other held held_by_other)
 
 -- for each line of a part that a router counted there is a line of its Map-Server that accepted the nonce under that key
 abbrev pub CountedLinesWereAccepted : Type 0 → Type 0
@@ -83,4 +83,4 @@ CountedLinesWereAccepted A = (config : ConfigValue) (stores : ℕ → StoreState
     → ReceivesUnforged A config deeds begun d did
     → (node server part key nonce : ℕ) → Contains (all_lines deeds) (lines.Counted node server part key nonce)
     → (reply : Option ℕ) × IsLine (all_lines deeds) (all_swallowed A config deeds begun d did)
-        (lines.Accepted server (router_at config node).me key nonce reply)
+    (lines.Accepted server (router_at config node).me key nonce reply)
