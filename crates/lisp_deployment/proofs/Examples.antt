@@ -1,5 +1,5 @@
 -- Examples: a turn and a life of a deployment, and near misses, each but for one thing: what the definitions don't allow.
-use Rattle.std.proofs.Common.{Ok, Err, map, true≢false, ◌≡◌, inl, inr, ℕ, zero, suc, ◌<◌, ◌≤◌, Bool, true, false, List, [], ◌∷◌, ◌++◌, Option, Some, None, refl, sym, ap, subst, ◌∙◌, arith}
+use Rattle.std.proofs.Common.{Ok, Err, length, map, true≢false, ◌≡◌, inl, inr, ℕ, zero, suc, ◌<◌, ◌≤◌, Bool, true, false, List, [], ◌∷◌, ◌++◌, Option, Some, None, refl, sym, ap, subst, ◌∙◌, arith}
 use Rattle.std.specs.Prelude.{◌≢◌, ◌==◌, if◌then◌else◌}
 use Rattle.std.specs.FinMap.{empty}
 use Rattle.std.specs.List.{Contains}
@@ -44,7 +44,7 @@ use Rattle.lisp_refinement.specs.World.{DatagramValue}
 use Rattle.lisp_deployment.specs.Deeds.{DoesDeed}
 use Rattle.lisp_deployment.specs.Lives.{arrived_in}
 use Rattle.lisp_deployment.specs.Received.{received_in, MayHold, IsUnforged}
-use Rattle.lisp_deployment.specs.Told.{swallowed_in, IsTold}
+use Rattle.lisp_deployment.specs.Told.{swallowed_in, IsTold, Holds}
 
 -- a live row isn't dropped, and a dead one may stay
 live_row : (old new : ServerNodeState) (now : ℕ) (router : RouterId) (eid : PrefixValue) (h : RowValue) → PassesNode old new now → row_at old.core.rows router eid ≡ Some h → is_alive h now ≡ true
@@ -207,3 +207,7 @@ missing_line printed swallowed unprinted kept (inl quiet) = quiet
 missing_line printed swallowed unprinted kept (inr (inl (node, is))) = absurd cc
 missing_line printed swallowed unprinted kept (inr (inr (inl has))) = unprinted has
 missing_line printed swallowed unprinted kept (inr (inr (inr has))) = kept has
+
+-- a router holds no rows of a Map-Server's
+no_server : (config : ConfigValue) (d : DeploymentState) (held : List RowValue) → Holds config d (length config.servers) held → ⊥
+no_server config d held holds = omega (arith, holds.known)

@@ -1,5 +1,5 @@
 -- Over a clean trace: of the rows that a Map-Server holds, and of what a router counted, the lines are there.
-use Rattle.std.proofs.Common.{◌≡◌, ◌⊎◌, inl, inr, ℕ, ◌<◌, List, [], ◌∷◌, ◌++◌, length, Option, sym, ap, subst, ◌∙◌, arith}
+use Rattle.std.proofs.Common.{◌≡◌, ◌⊎◌, inl, inr, ℕ, List, [], ◌∷◌, ◌++◌, Option, sym, ap, subst, ◌∙◌, arith}
 use Rattle.std.specs.Option.{option_map}
 use Rattle.std.specs.List.{Contains}
 use Rattle.std.proofs.lemmas.List.Elements.{Contains-append_left, Contains-append_right, Contains-append_cases}
@@ -15,16 +15,16 @@ use Rattle.lisp_refinement.specs.Headline.{Lists}
 use Rattle.lisp_refinement.specs.World.{ServerNodeState, WorldState}
 use Rattle.lisp_client.specs.Steps.{IsIn}
 use Rattle.lisp_client.proofs.Counts.{counted_were_accepted}
-use Rattle.lisp_client.proofs.Rows.{registered}
+use Rattle.lisp_client.proofs.Rows.{registered, agree}
 use Rattle.lisp_turns.specs.Act.{numbered}
 use Rattle.lisp_turns.specs.Acts.{acts_calls}
 use Rattle.lisp_turns.specs.Node.{NodeState, Server, HasNode}
 use Rattle.lisp_turns.specs.Part.{IsQuiet, ArePrinted, lines_of}
 use Rattle.lisp_nonces.specs.Store.{StoreState}
 use Rattle.lisp_deployment.specs.Deeds.{Deed, Turn, Life, DoDeeds, IsOf, AreOf}
-use Rattle.lisp_deployment.specs.Deployment.{DeploymentState}
+use Rattle.lisp_deployment.specs.Deployment.{DeploymentState, DeploymentStands}
 use Rattle.lisp_deployment.specs.Printed.{lines_in, all_lines}
-use Rattle.lisp_deployment.specs.Told.{IsLine, IsTold, RowWasSent, all_swallowed, HeldRowsWereSent, CountedLinesWereAccepted}
+use Rattle.lisp_deployment.specs.Told.{IsLine, IsTold, Holds, RowWasSent, all_swallowed, HeldRowsWereSent, HeldRowsAgree, CountedLinesWereAccepted}
 use Rattle.lisp_deployment.proofs.Received.{CleanRun, runs_cleanly}
 
 -- the step of a line
@@ -84,11 +84,21 @@ its_line printed swallowed line other is loud runs (inl quiet) = absurd (loud (s
 its_line printed swallowed line other is loud runs (inr (inl (node, restarted))) = absurd (runs node (sym is ∙ restarted))
 its_line printed swallowed line other is loud runs (inr (inr found)) = found
 
-accepted_runs : (server : ℕ) (router : RouterId) (key nonce : ℕ) (reply : Option ℕ) (node : ℕ) → lines.Accepted server router key nonce reply ≡ lines.Restarted node → ⊥
-accepted_runs server router key nonce reply node e = absurd cc
+accepted_line : (printed swallowed : List Line) (line : Line) (server : ℕ) (router : RouterId) (key nonce : ℕ) (reply : Option ℕ) → line ≡ lines.Accepted server router key nonce reply → IsTold printed swallowed line → IsLine printed swallowed (numbered 0 line)
+accepted_line printed swallowed line server router key nonce reply is told = its_line printed swallowed line (lines.Accepted server router key nonce reply) is (λ quiet. quiet) (λ node e. absurd cc) told
 
-sent_runs : (router server part key nonce datagram node : ℕ) → ◌≡◌ {A = Line} (lines.Sent router server part key nonce datagram) (lines.Restarted node) → ⊥
-sent_runs router server part key nonce datagram node e = absurd cc
+sent_line : (printed swallowed : List Line) (line : Line) (router server part key nonce datagram : ℕ) → line ≡ lines.Sent router server part key nonce datagram → IsTold printed swallowed line → IsLine printed swallowed (numbered 0 line)
+sent_line printed swallowed line router server part key nonce datagram is told = its_line printed swallowed line (lines.Sent router server part key nonce datagram) is (λ quiet. quiet) (λ node e. absurd cc) told
+
+-- of an accepted message, as the configuration names its router
+accepted_of : (config : ConfigValue) (o : Opening) → o.config ≡ config → (printed swallowed : List Line) (line : Line) (server node key nonce : ℕ) (reply : Option ℕ) → line ≡ lines.Accepted server (router_at o.config node).me key nonce reply → IsTold printed swallowed line
+    → (other : Option ℕ) × IsLine printed swallowed (lines.Accepted server (router_at config node).me key nonce other)
+accepted_of config o same printed swallowed line server node key nonce reply is told = (
+  option_map (λ _. 0) reply,
+  subst (λ (l : Line). IsLine printed swallowed l)
+      (ap (numbered 0) is ∙ ap (λ (c : ConfigValue). lines.Accepted server (router_at c node).me key nonce (option_map (λ _. 0) reply)) same)
+      (accepted_line printed swallowed line server (router_at o.config node).me key nonce reply is told),
+)
 
 -- a line of a count has no datagram's number
 count_is : (line : Line) (node server part key nonce : ℕ) → lines.Counted node server part key nonce ≡ numbered 0 line → line ≡ lines.Counted node server part key nonce
@@ -110,35 +120,48 @@ counted_lines_were_accepted A config stores begun d deeds network begins did unf
     let over = run.clean.over_clean in
     let was = counted_were_accepted o trace stand.stands.steps.legal stand.stands.steps.network over.accepted_was_sent over.counted_was_accepted at.step place.0 place.1 node server part key nonce
     (count_is at.step.line node server part key nonce at.line_is) in
-    let found = its_line (all_lines deeds) (all_swallowed A config deeds begun d did) was.accepting.line (lines.Accepted server (router_at o.config node).me key nonce was.reply) was.line (λ quiet. quiet)
-    (λ k. accepted_runs server (router_at o.config node).me key nonce was.reply k) (run.told was.accepting (is_there trace was.accepting was.before_accepting was.there)) in (
-      option_map (λ _. 0) was.reply,
-      subst (λ (l : Line). IsLine (all_lines deeds) (all_swallowed A config deeds begun d did) l)
-          (ap (numbered 0) was.line ∙ ap (λ (c : ConfigValue). lines.Accepted server (router_at c node).me key nonce (option_map (λ _. 0) was.reply)) stand.config_is) found,
-    )
+    accepted_of config o stand.config_is (all_lines deeds) (all_swallowed A config deeds begun d did) was.accepting.line server node key nonce was.reply was.line (run.told was.accepting (is_there trace was.accepting was.before_accepting was.there))
+
+-- what a Map-Server of the deployment holds that of the network lists
+listed : (config : ConfigValue) (d : DeploymentState) (w : WorldState) (o : Opening) (T : List Step) → DeploymentStands config d w o T → (server : ℕ) (held : List RowValue) → Holds config d server held → Lists w server held
+listed config d w o T stand server held holds =
+    let there : HasNode w server (Server holds.node) = subst (λ (x : NodeState). HasNode w server x) holds.running (stand.nodes server (omega (arith, holds.known))) in
+    record { core = holds.node.core; running = ap (option_map (λ (x : ServerNodeState). x.core)) there; held = subst (λ (m : ℕ). IsHeld holds.node.core.rows m held) (sym stand.clock) holds.rows }
+
+its_row : (A : Type 0) (config : ConfigValue) (stores : ℕ → StoreState) (begun d : DeploymentState) (deeds : List Deed) (did : DoDeeds A config deeds begun d) (run : CleanRun A config stores begun d deeds did)
+    (server : ℕ) (held : List RowValue) → Holds config d server held → (row : RowValue) → Contains held row
+    → RowWasSent run.opening run.clean.has.trace (all_lines deeds) (all_swallowed A config deeds begun d did) server row
+its_row A config stores begun d deeds did run server held holds row has =
+    let o = run.opening in
+    let trace = run.clean.has.trace in
+    let stand = run.clean.has.stands in
+    let entry = run.clean.over_clean.listed_was_sent server held (listed config d run.clean.has.network o trace stand server held holds) row has in
+    let was = registered o trace stand.stands.steps.legal server row entry.0 entry.1 in
+    record {
+      was = was;
+      accepted = accepted_line (all_lines deeds) (all_swallowed A config deeds begun d did) was.accepting.line server row.router row.key row.nonce was.accepted.reply was.accepted.line
+          (run.told was.accepting (is_there trace was.accepting was.before_accepting was.accepted.there));
+      sent = sent_line (all_lines deeds) (all_swallowed A config deeds begun d did) was.sending.line was.node server was.sent.part was.accepted.arrived.message.key_id was.accepted.arrived.message.nonce was.sent.datagram was.sent.line
+          (run.told was.sending (is_there trace was.sending was.before_sending was.sent.there));
+    }
 
 pub held_rows_were_sent : (A : Type 0) → HeldRowsWereSent A
 held_rows_were_sent A config stores begun d deeds network begins did unforged =
     let run = runs_cleanly A config stores begun d deeds network begins did unforged in
-    (run.first, run.opening, run.opens, run.clean, λ server n held known is lists row has. its_row A config stores begun d deeds did run server n held known is lists row has)
-  where
-    its_row : (A : Type 0) (config : ConfigValue) (stores : ℕ → StoreState) (begun d : DeploymentState) (deeds : List Deed) (did : DoDeeds A config deeds begun d) (run : CleanRun A config stores begun d deeds did)
-        (server : ℕ) (n : ServerNodeState) (held : List RowValue) → server < length config.servers → (d.nodes server).node ≡ Server n → IsHeld n.core.rows d.moment held → (row : RowValue) → Contains held row
-        → RowWasSent run.opening run.clean.has.trace (all_lines deeds) (all_swallowed A config deeds begun d did) server row
-    its_row A config stores begun d deeds did run server n held known is lists row has =
-        let w = run.clean.has.network in
-        let o = run.opening in
-        let trace = run.clean.has.trace in
-        let stand = run.clean.has.stands in
-        let there : HasNode w server (Server n) = subst (λ (x : NodeState). HasNode w server x) is (stand.nodes server (omega (arith, known))) in
-        let listed : Lists w server held = record { core = n.core; running = ap (option_map (λ (x : ServerNodeState). x.core)) there; held = subst (λ (m : ℕ). IsHeld n.core.rows m held) (sym stand.clock) lists } in
-        let entry = run.clean.over_clean.listed_was_sent server held listed row has in
-        let was = registered o trace stand.stands.steps.legal server row entry.0 entry.1 in
-        record {
-          was = was;
-          accepted = its_line (all_lines deeds) (all_swallowed A config deeds begun d did) was.accepting.line (lines.Accepted server row.router row.key row.nonce was.accepted.reply) was.accepted.line (λ quiet. quiet)
-              (λ k. accepted_runs server row.router row.key row.nonce was.accepted.reply k) (run.told was.accepting (is_there trace was.accepting was.before_accepting was.accepted.there));
-          sent = its_line (all_lines deeds) (all_swallowed A config deeds begun d did) was.sending.line
-              (lines.Sent was.node server was.sent.part was.accepted.arrived.message.key_id was.accepted.arrived.message.nonce was.sent.datagram) was.sent.line (λ quiet. quiet)
-              (λ k. sent_runs was.node server was.sent.part was.accepted.arrived.message.key_id was.accepted.arrived.message.nonce was.sent.datagram k) (run.told was.sending (is_there trace was.sending was.before_sending was.sent.there));
-        }
+    (run.first, run.opening, run.opens, run.clean, λ server held holds row has. its_row A config stores begun d deeds did run server held holds row has)
+
+pub held_rows_agree : (A : Type 0) → HeldRowsAgree A
+held_rows_agree A config stores begun d deeds network begins did unforged =
+    let run = runs_cleanly A config stores begun d deeds network begins did unforged in
+    let o = run.opening in
+    let trace = run.clean.has.trace in
+    let w = run.clean.has.network in
+    let stand = run.clean.has.stands in (
+      run.first,
+      o,
+      run.opens,
+      run.clean,
+      λ one other held held_by_other holds holds_too.
+          agree w o trace stand.stands.steps.legal stand.stands.steps.network run.clean.over_clean.listed_was_sent run.clean.over_clean.listed_agree one other held held_by_other
+          (listed config d w o trace stand one held holds) (listed config d w o trace stand other held_by_other holds_too),
+    )

@@ -10,7 +10,7 @@ use Rattle.lisp_model.specs.declared.line.Line.TheVariants as lines
 use Rattle.lisp_model.specs.Network.{IsNetwork}
 use Rattle.lisp_model.specs.Trace.{Step, Opening, router_at}
 use Rattle.lisp_refinement.specs.World.{ServerNodeState, WorldState}
-use Rattle.lisp_client.specs.Promised.{WasRegistered}
+use Rattle.lisp_client.specs.Promised.{WasRegistered, RowsAgree}
 use Rattle.lisp_turns.specs.Act.{numbered}
 use Rattle.lisp_turns.specs.Node.{Server}
 use Rattle.lisp_turns.specs.Part.{IsQuiet}
@@ -42,6 +42,13 @@ abbrev pub IsTold : List Line → List Line → Line → Type 0
 IsTold printed swallowed line = IsQuiet line ⊎ (((node : ℕ) × (line ≡ lines.Restarted node))
     ⊎ IsLine printed swallowed (numbered 0 line))
 
+-- the rows that a Map-Server of a deployment holds at the deployment's moment
+pub record Holds (config : ConfigValue) (d : DeploymentState) (server : ℕ) (held : List RowValue) : Type 0 where
+  pub known : server < length config.servers
+  pub node : ServerNodeState
+  pub running : (d.nodes server).node ≡ Server node
+  pub rows : IsHeld node.core.rows d.moment held
+
 -- A row that a Map-Server holds: it accepted a Map-Register that a router sent before, whose database had the row's record then. The lines
 -- of both are there.
 pub record RowWasSent (o : Opening) (T : List Step) (printed swallowed : List Line) (server : ℕ) (row : RowValue) : Type 0 where
@@ -56,9 +63,18 @@ HeldRowsWereSent A = (config : ConfigValue) (stores : ℕ → StoreState) (begun
     → ReceivesUnforged A config deeds begun d did
     → (first : WorldState) × (o : Opening) × DeploymentOpens config stores begun first o
     × (clean : HasCleanTrace config deeds d first o)
-    × ((server : ℕ) (n : ServerNodeState) (held : List RowValue) → server < length config.servers
-    → (d.nodes server).node ≡ Server n → IsHeld n.core.rows d.moment held → (row : RowValue) → Contains held row
+    × ((server : ℕ) (held : List RowValue) → Holds config d server held → (row : RowValue) → Contains held row
     → RowWasSent o clean.has.trace (all_lines deeds) (all_swallowed A config deeds begun d did) server row)
+
+-- and rows of one router and prefix that two of them hold, sent in steps with no change of the router's database between, have equal records
+abbrev pub HeldRowsAgree : Type 0 → Type 0
+HeldRowsAgree A = (config : ConfigValue) (stores : ℕ → StoreState) (begun d : DeploymentState) (deeds : List Deed)
+    → IsNetwork config → DeploymentBegins config stores begun → (did : DoDeeds A config deeds begun d)
+    → ReceivesUnforged A config deeds begun d did
+    → (first : WorldState) × (o : Opening) × DeploymentOpens config stores begun first o
+    × (clean : HasCleanTrace config deeds d first o)
+    × ((one other : ℕ) (held held_by_other : List RowValue) → Holds config d one held → Holds config d other held_by_other
+    → RowsAgree o clean.has.trace one other held held_by_other)
 
 -- for each line of a part that a router counted there is a line of its Map-Server that accepted the nonce under that key
 abbrev pub CountedLinesWereAccepted : Type 0 → Type 0

@@ -8,7 +8,7 @@ ghost use Rattle.lisp_deployment.specs.Lives.{LivesStand, LostTurnsAreCuts};
 ghost use Rattle.lisp_deployment.specs.Opening.{DeploymentsAreNetworks};
 ghost use Rattle.lisp_deployment.specs.Printed.{KilledServersAcceptNoReplays, PrintedNoncesRise};
 ghost use Rattle.lisp_deployment.specs.Received.{UnforgedDeploymentsAreClean};
-ghost use Rattle.lisp_deployment.specs.Told.{CountedLinesWereAccepted, HeldRowsWereSent};
+ghost use Rattle.lisp_deployment.specs.Told.{CountedLinesWereAccepted, HeldRowsAgree, HeldRowsWereSent};
 ghost use Rattle.lisp_deployment.specs.Passing.{IdlingPasses, PassingStands, TicksArePasses};
 
 use std::alloc::Allocator;
@@ -95,6 +95,12 @@ pub fn killed_servers_accept_no_replays<A: Allocator>()
 /// whose database had the row's record then; both lines were printed, or a crash swallowed them (RFC 9301 sections 5.6 and 8.2).
 pub fn held_rows_were_sent<A: Allocator>()
     ensures { HeldRowsWereSent A }
+{}
+
+/// Where nothing that was received was forged, two Map-Servers that hold rows of one router and prefix, sent with no change of its
+/// database between, hold equal records.
+pub fn held_rows_agree<A: Allocator>()
+    ensures { HeldRowsAgree A }
 {}
 
 /// Where nothing that was received was forged, a router that printed that it counted a nonce has a Map-Server that accepted it: the

@@ -8,8 +8,9 @@
 //! - A deployment has one moment: of two turns the later one reads its clock no earlier. So all clocks are taken to be one.
 //! - The network has all that the nodes sent, and perhaps more: a node that crashed may have saved the nonce of a message that it
 //!   didn't send any more. Nobody receives such a message.
-//! - To the trace all that a node receives comes from outside; what another node sent is an echo of it there. That nobody forges a
-//!   message stays a premise of the headline (`Clean`).
+//! - To the trace all that a node receives comes from outside; what another node sent is an echo of it there. That nobody
+//!   outside knows a secret is a premise about what was received (`ReceivesUnforged`): then the trace is clean.
+//! - A secret that a node may hold is, of a router, that of each key of its site: a router may go over to any of them.
 //! - That a store keeps over a crash what it said that it saved is a premise: no contract sees a program that is killed.
 #![tactic(auto)]
 
