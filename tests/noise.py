@@ -32,12 +32,15 @@ def dropped(address):
 
 
 def taken(folder):
-    """How many Map-Requests a node has taken."""
-    with socket.socket(socket.AF_UNIX) as it:
-        it.settimeout(LIMIT)
-        it.connect(f"{folder}/control")
-        it.sendall(b"counts\n")
-        return counts_of(b"".join(iter(lambda: it.recv(1 << 16), b"")).decode()).get("requests", 0)
+    """How many Map-Requests a node has taken; 0 where it doesn't say so, as one that is asked beside much else may not."""
+    try:
+        with socket.socket(socket.AF_UNIX) as it:
+            it.settimeout(LIMIT)
+            it.connect(f"{folder}/control")
+            it.sendall(b"counts\n")
+            return counts_of(b"".join(iter(lambda: it.recv(1 << 16), b"")).decode()).get("requests", 0)
+    except OSError:
+        return 0
 
 
 def drawn(draw, itr, port):
