@@ -1,5 +1,5 @@
 -- Legal step: what may come of an event after a trace. One row for each line; anything else is illegal.
-use Rattle.std.specs.Prelude.{◌≡◌, ◌≤◌, ℕ, ◌+◌, true, false, List, [], ◌∷◌, slice_get, Some, None}
+use Rattle.std.specs.Prelude.{◌≡◌, ◌≤◌, ℕ, ◌+◌, Bool, true, false, List, [], ◌∷◌, slice_get, Some, None}
 use Rattle.lisp_records.specs.Moment.{max_moment}
 use Rattle.lisp_model.specs.declared.event.Event.TheVariants as events
 use Rattle.lisp_model.specs.declared.line.Line.{Line}
@@ -99,9 +99,15 @@ MayCome t _ _ = ⊥
 abbrev pub context_of : Opening → List Step → Step → Context
 context_of o T s = record { opening = o; past = T; node = s.actor; fate = fate_of s.event; before = shown_store o T s.actor; after = s.shown }
 
--- a step is legal after a trace: a row allows it, and no call lowers the count of faults or makes a store another one
+-- a node restarted: it may have opened its store anew, which then counts its faults anew
+abbrev pub is_restart : Line → Bool
+is_restart (lines.Restarted node) = true
+is_restart _ = false
+
+-- a step is legal after a trace: a row allows it, and no call lowers the count of faults, but for a restart, or makes a store another
+-- one
 pub record Legal (o : Opening) (T : List Step) (s : Step) : Type 0 where
-  pub faults : (shown_store o T s.actor).faults ≤ s.shown.faults
+  pub faults : is_restart s.line ≡ false → (shown_store o T s.actor).faults ≤ s.shown.faults
   pub obedient : s.shown.is_obedient ≡ (shown_store o T s.actor).is_obedient
   pub row : MayCome (context_of o T s) s.event s.line
 

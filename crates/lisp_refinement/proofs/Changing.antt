@@ -64,7 +64,7 @@ module _ (old new : WorldState) (router : ℕ) (db : List MapRecordValue) (line 
     -- it is legal
     up_legal : Legal o T up_step
     up_legal = record {
-      faults = omega arith;
+      faults = λ other. omega arith;
       obedient = refl;
       row = record { acts = record { kind = kind; acts = refl; state = part.up }; names = refl; fits = changes.fits; count = refl; same = refl };
     }
@@ -97,7 +97,7 @@ module _ (old new : WorldState) (router : ℕ) (db : List MapRecordValue) (line 
 
   -- the step of a router that is down is legal
   down_legal : is_up T router ≡ false → Legal o T (change o T router db (lines.Down router))
-  down_legal down = record { faults = omega arith; obedient = refl; row = record { acts = record { kind = kind; acts = refl; state = down }; names = refl; same = refl } }
+  down_legal down = record { faults = λ other. omega arith; obedient = refl; row = record { acts = record { kind = kind; acts = refl; state = down }; names = refl; same = refl } }
 
   -- by whether the router is up
   change_case : (core : RouterCoreState) → changes.acts.before.core ≡ core → StandsForCore o T router core → Stands new o (change o T router db line ∷ T)

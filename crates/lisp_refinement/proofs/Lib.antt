@@ -7,7 +7,7 @@ pub mod Acting
 pub mod Heads
 pub mod RouterEvents
 pub mod RouterRounds
-pub mod Ticking
+pub mod Passing
 pub mod Changing
 pub mod UsedKeys
 pub mod Starting

@@ -24,7 +24,7 @@ use Rattle.lisp_refinement.specs.Events.{NetworkLoses, loss_line}
 use Rattle.lisp_refinement.specs.Stands.{shown_by, Marks, StandsForKeys, StandsForRouter, Stands, StandsAfter}
 use Rattle.lisp_refinement.proofs.Going.{here}
 use Rattle.lisp_refinement.proofs.RouterEvents.{step_of, turn_at, acts_router, acts_part}
-use Rattle.lisp_refinement.proofs.Starting.{config_known, database_known, answer_line, StartsBy, become_honest, loaded, start_stands}
+use Rattle.lisp_refinement.proofs.Starting.{config_known, database_known, answer_line, goes_on, StartsBy, become_honest, loaded, start_stands}
 use Rattle.lisp_refinement.proofs.UsedKeys.{lists_one, lists_both, config_under, may_start}
 
 module _ (old new : WorldState) (node key : ℕ) (db : Option (List MapRecordValue)) (line : Line) (fits : Fits db) (loses : NetworkLoses old new node key db line) (o : Opening) (T : List Step) (stand : Stands old o T) where
@@ -53,8 +53,8 @@ module _ (old new : WorldState) (node key : ℕ) (db : Option (List MapRecordVal
 
   -- some value is kept for each pair, and a load keeps it
   some : KeepsSome after.store.kept
-  some = subst KeepsSome (sym (loaded old new node loses.acts o T stand lost loses.loses.loses.proceeds config registered loses.answer loses.loses.starts))
-      (loses.loses.loses.some (become_honest old new node loses.acts o T stand lost loses.loses.loses.proceeds config registered loses.answer loses.loses.starts))
+  some = subst KeepsSome (sym (loaded old new node loses.acts o T stand lost line (goes_on before.store lost line loses.loses.loses.proceeds) config registered loses.answer loses.loses.starts))
+      (loses.loses.loses.some (become_honest old new node loses.acts o T stand lost line (goes_on before.store lost line loses.loses.loses.proceeds) config registered loses.answer loses.loses.starts))
 
   -- the event, and the step as the router sees it
   abbrev event : EventValue
@@ -123,8 +123,8 @@ module _ (old new : WorldState) (node key : ℕ) (db : Option (List MapRecordVal
 
   -- so the network stands
   lose_here : Stands new o (step line ∷ T)
-  lose_here = start_stands old new node loses.acts o T stand lost loses.loses.loses.proceeds config registered loses.answer loses.loses.starts
-      event (lines.Emptied node key) starts_by loses.loses.me loses.loses.servers line (loses.said ∙ said loses.answer)
+  lose_here = start_stands old new node loses.acts o T stand lost line (goes_on before.store lost line loses.loses.loses.proceeds) config registered loses.answer loses.loses.starts
+      event (lines.Emptied node key) starts_by loses.loses.me loses.loses.servers (loses.said ∙ said loses.answer)
 
 -- a network stands for a trace with the loss of a router's store
 pub lose_stands : (old new : WorldState) (node key : ℕ) (db : Option (List MapRecordValue)) (line : Line) → Fits db → NetworkLoses old new node key db line → StandsAfter old new (events.Lose node key db) line

@@ -181,7 +181,7 @@ module _ (old new : WorldState) (server router : ℕ) (fate : Fate) (line : Line
     -- the step is legal
     sent_legal : Legal o T (step sent)
     sent_legal = record {
-      faults = shows.count;
+      faults = λ other. shows.count;
       obedient = shows.obedient;
       row = (
         refl,
@@ -371,7 +371,7 @@ module _ (old new : WorldState) (server router : ℕ) (fate : Fate) (line : Line
 
     -- the step is legal
     refused_legal : Legal o T (step refused)
-    refused_legal = record { faults = shows.count; obedient = shows.obedient; row = (refl, acting refused, known_router old o T stand router turn.place turn.number turn.node turn.there, why fault refuses) }
+    refused_legal = record { faults = λ other. shows.count; obedient = shows.obedient; row = (refl, acting refused, known_router old o T stand router turn.place turn.number turn.node turn.there, why fault refuses) }
 
     -- nothing comes to the bag
     refused_bag : bag o (step refused ∷ T) ≡ bag o T ++ []

@@ -96,7 +96,7 @@ module _ (old new : WorldState) (server router : ℕ) (line : Line) (turn : Netw
     -- the step is legal
     sent_legal : Legal o T (step sent)
     sent_legal = record {
-      faults = omega arith;
+      faults = λ other. omega arith;
       obedient = refl;
       row = (
         refl,
@@ -201,7 +201,7 @@ module _ (old new : WorldState) (server router : ℕ) (line : Line) (turn : Netw
 
     -- the step is legal
     refused_legal : Legal o T (step refused)
-    refused_legal = record { faults = omega arith; obedient = refl; row = (refl, acting refused, known_router old o T stand router turn.place turn.number turn.node turn.there, why fault refuses) }
+    refused_legal = record { faults = λ other. omega arith; obedient = refl; row = (refl, acting refused, known_router old o T stand router turn.place turn.number turn.node turn.there, why fault refuses) }
 
     -- nothing comes to the bag
     refused_bag : bag o (step refused ∷ T) ≡ bag o T ++ []

@@ -1,6 +1,6 @@
 -- A node stops and starts again: a Map-Server with its sites alone, a router with what its store has kept, or not at all.
-use Rattle.std.proofs.Common.{◌≡◌, ℕ, true, false, Bool, List, [], ◌∷◌, Option, Some, None, Result, Ok, Err, refl, sym, ap, subst, inl, inr, ◌∙◌, arith}
-use Rattle.std.specs.Prelude.{IsTrue}
+use Rattle.std.proofs.Common.{◌≡◌, ℕ, true, false, Bool, List, [], ◌∷◌, Option, Some, None, Result, Ok, Err, refl, sym, ap, subst, true≢false, inl, inr, ◌∙◌}
+use Rattle.std.specs.Prelude.{IfErr, IsTrue, ◌≤◌}
 use Rattle.std.specs.Option.{unwrap_or, option_and_then}
 use Rattle.std.specs.FinMap.{empty, get-empty}
 use Rattle.std.specs.List.{find}
@@ -32,28 +32,29 @@ use Rattle.lisp_model.specs.Life.{began}
 use Rattle.lisp_model.specs.Context.{Context, Restarts, Picks}
 use Rattle.lisp_model.specs.Counted.{latest_nonce, acked}
 use Rattle.lisp_model.specs.Sending.{pair_at, last_sent, start_values}
-use Rattle.lisp_model.specs.Legal.{Legal}
+use Rattle.lisp_model.specs.Legal.{Legal, is_restart}
 use Rattle.lisp_model.specs.Restarting.{Fits}
 use Rattle.lisp_refinement.specs.World.{UsedKeysState, RouterNodeState, WorldState}
-use Rattle.lisp_refinement.specs.Calls.{StoreRestarts as Crashes, config_of, database_of}
+use Rattle.lisp_refinement.specs.Calls.{StoreRestarts, config_of, database_of}
 use Rattle.lisp_refinement.specs.Events.{NetworkRestartsServer, NetworkRestartsRouter, start_line}
+use Rattle.lisp_refinement.specs.Reopening.{StoreReopens, ServerReopens, RouterReopens}
 use Rattle.lisp_refinement.specs.Stands.{shown_by, Shows, StandsForServer, Marks, StandsForRouter, SameNotice, Stands, StandsAfter}
 use Rattle.lisp_refinement.proofs.Gets.{none_is_some}
 use Rattle.lisp_refinement.proofs.Going.{here}
 use Rattle.lisp_refinement.proofs.Acting.{adds_none, server_is, server_acts}
 use Rattle.lisp_refinement.proofs.RouterEvents.{step_of, turn_at, acts_router, acts_part, acts_shows}
-use Rattle.lisp_refinement.proofs.Starting.{stays_honest, config_known, database_known, answer_line, StartsBy, loaded, start_stands}
+use Rattle.lisp_refinement.proofs.Starting.{stays_honest, config_known, database_known, answer_line, Becomes, StartsBy, loaded, start_stands}
 
 -- the step of a restart
 abbrev restart : ℕ → ℕ → Option (List MapRecordValue) → StoreState → Line → Step
 restart node pick db store line = record { event = events.Restart node pick db; line = line; actor = node; shown = shown_by store }
 
 -- a store's crash narrows what it keeps
-crash_narrows : (old new : StoreState) (pick : ℕ) (before : ShownStore) → Crashes old new pick → Shows old before → (q : Pair) → Narrows (kept_at before.kept q) (kept_at new.kept q)
+crash_narrows : (old new : StoreState) (pick : ℕ) (before : ShownStore) → StoreReopens old new pick → Shows old before → (q : Pair) → Narrows (kept_at before.kept q) (kept_at new.kept q)
 crash_narrows old new pick before crashes shows q = subst (λ (k : Kept). Narrows (kept_at k q) (kept_at new.kept q)) shows.kept (crashes.narrows shows.honest q)
 
 -- and leaves of an obedient one what was picked
-crash_picks : (old new : StoreState) (pick : ℕ) (before : ShownStore) → Crashes old new pick → Shows old before → IsTrue before.is_obedient → (q : Pair) → kept_at new.kept q ≡ picked (kept_at before.kept q) pick ∷ []
+crash_picks : (old new : StoreState) (pick : ℕ) (before : ShownStore) → StoreReopens old new pick → Shows old before → IsTrue before.is_obedient → (q : Pair) → kept_at new.kept q ≡ picked (kept_at before.kept q) pick ∷ []
 crash_picks old new pick before crashes shows obeys q = subst (λ (k : Kept). kept_at new.kept q ≡ picked (kept_at k q) pick ∷ []) shows.kept (crashes.picks (subst (λ (b : Bool). IsTrue b) (sym shows.obedient) obeys) q)
 
 -- a server that has just started holds nothing
@@ -72,7 +73,7 @@ unfolding notice_at
 no_notice o T node router = tt
 
 -- a Map-Server
-module _ (old new : WorldState) (node pick : ℕ) (line : Line) (restarts : NetworkRestartsServer old new node pick line) (o : Opening) (T : List Step) (stand : Stands old o T) where
+module _ (old new : WorldState) (node pick : ℕ) (line : Line) (restarts : ServerReopens old new node pick line) (o : Opening) (T : List Step) (stand : Stands old o T) where
   -- the step with its line
   abbrev server_step : Step
   server_step = restart node pick None restarts.acts.after.store (lines.Restarted node)
@@ -84,15 +85,15 @@ module _ (old new : WorldState) (node pick : ℕ) (line : Line) (restarts : Netw
   -- the step is legal
   server_legal : Legal o T server_step
   server_legal = record {
-    faults = omega (arith, restarts.crashes.proceeds.count, store_before.faults);
-    obedient = restarts.crashes.proceeds.obedient ∙ store_before.obedient;
+    faults = λ other. absurd (true≢false other);
+    obedient = restarts.reopens.obedient ∙ store_before.obedient;
     row = record {
       names = refl;
       acts = refl;
       kind = inl (server_is old o T stand node restarts.acts.before restarts.acts.was, refl);
       fits = tt;
-      narrows = crash_narrows restarts.acts.before.store restarts.acts.after.store pick (shown_store o T node) restarts.crashes store_before;
-      picks = crash_picks restarts.acts.before.store restarts.acts.after.store pick (shown_store o T node) restarts.crashes store_before;
+      narrows = crash_narrows restarts.acts.before.store restarts.acts.after.store pick (shown_store o T node) restarts.reopens store_before;
+      picks = crash_picks restarts.acts.before.store restarts.acts.after.store pick (shown_store o T node) restarts.reopens store_before;
     };
   }
 
@@ -126,14 +127,23 @@ module _ (old new : WorldState) (node pick : ℕ) (line : Line) (restarts : Netw
   server_here : Stands new o (restart node pick None restarts.acts.after.store line ∷ T)
   server_here = subst (λ (l : Line). Stands new o (restart node pick None restarts.acts.after.store l ∷ T)) (sym restarts.said)
       (server_acts old new node [] restarts.acts o T server_step stand refl refl server_legal (adds_none o T server_step refl)
-      (record { honest = stays_honest restarts.acts.before.store restarts.acts.after.store restarts.crashes.proceeds.honest store_before.honest; kept = refl; faults = refl; obedient = refl }) server_part)
+      (record { honest = stays_honest restarts.acts.before.store restarts.acts.after.store restarts.reopens.honest store_before.honest; kept = refl; faults = refl; obedient = refl }) server_part)
 
--- a network stands for a trace with a restart of a Map-Server
+-- a network stands for a trace with a restart of a Map-Server over a store that it opened anew
+pub reopen_server_stands : (old new : WorldState) (node pick : ℕ) (line : Line) → ServerReopens old new node pick line → StandsAfter old new (events.Restart node pick None) line
+reopen_server_stands old new node pick line restarts o T stand = (node, shown_by restarts.acts.after.store, server_here old new node pick line restarts o T stand)
+
+-- a crash of a schedule leaves a store as one that is opened anew
+reopened : (old new : StoreState) (pick : ℕ) → StoreRestarts old new pick → StoreReopens old new pick
+reopened old new pick crashes = record { narrows = crashes.narrows; picks = crashes.picks; honest = crashes.proceeds.honest; obedient = crashes.proceeds.obedient }
+
+-- so with each restart of a Map-Server
 pub restart_server_stands : (old new : WorldState) (node pick : ℕ) (line : Line) → NetworkRestartsServer old new node pick line → StandsAfter old new (events.Restart node pick None) line
-restart_server_stands old new node pick line restarts o T stand = (node, shown_by restarts.acts.after.store, server_here old new node pick line restarts o T stand)
+restart_server_stands old new node pick line restarts = reopen_server_stands old new node pick line
+    (record { acts = restarts.acts; core = restarts.core; reopens = reopened restarts.acts.before.store restarts.acts.after.store pick restarts.crashes; started = restarts.started; said = restarts.said })
 
 -- a router
-module _ (old new : WorldState) (node pick : ℕ) (db : Option (List MapRecordValue)) (line : Line) (fits : Fits db) (restarts : NetworkRestartsRouter old new node pick db line) (o : Opening) (T : List Step) (stand : Stands old o T) where
+module _ (old new : WorldState) (node pick : ℕ) (db : Option (List MapRecordValue)) (line : Line) (fits : Fits db) (restarts : RouterReopens old new node pick db line) (o : Opening) (T : List Step) (stand : Stands old o T) where
   -- the router before
   abbrev before : RouterNodeState
   before = restarts.acts.before
@@ -144,7 +154,15 @@ module _ (old new : WorldState) (node pick : ℕ) (db : Option (List MapRecordVa
 
   -- its store after the crash
   abbrev crashed : StoreState
-  crashed = restarts.restarts.crashed
+  crashed = restarts.opened
+
+  -- where it didn't start, that counted on
+  counted : (answer : Result (Unit {0}) StartFault) → IfErr answer (λ fault. before.store.faults ≤ crashed.faults) → is_restart (start_line node answer) ≡ false → before.store.faults ≤ crashed.faults
+  counted (Ok done) counts other = absurd (true≢false other)
+  counted (Err fault) counts other = counts
+
+  becomes : Becomes before.store crashed line
+  becomes = record { honest = restarts.reopens.honest; obedient = restarts.reopens.obedient; count = λ other. counted restarts.answer restarts.counts (ap is_restart (sym restarts.said) ∙ other) }
 
   -- it stood before
   stood : StandsForRouter o T node before
@@ -163,7 +181,7 @@ module _ (old new : WorldState) (node pick : ℕ) (db : Option (List MapRecordVa
 
   -- a load keeps what the crash has left
   keeps : after.store.kept ≡ crashed.kept
-  keeps = loaded old new node restarts.acts o T stand crashed restarts.restarts.crashes.proceeds config registered restarts.answer restarts.restarts.starts
+  keeps = loaded old new node restarts.acts o T stand crashed line becomes config registered restarts.answer restarts.starts
 
   -- the event, and the step as the router sees it
   abbrev event : EventValue
@@ -175,12 +193,12 @@ module _ (old new : WorldState) (node pick : ℕ) (db : Option (List MapRecordVa
   -- the restart narrows what is kept
   narrows : Restarts turn
   narrows q = subst (λ (k : Kept). Narrows (kept_at (shown_store o T node).kept q) (kept_at k q)) (sym keeps)
-      (crash_narrows before.store crashed pick (shown_store o T node) restarts.restarts.crashes shows q)
+      (crash_narrows before.store crashed pick (shown_store o T node) restarts.reopens shows q)
 
   -- to what is picked
   picks : Picks turn pick
   picks obeys q = subst (λ (k : Kept). kept_at k q ≡ picked (kept_at (shown_store o T node).kept q) pick ∷ []) (sym keeps)
-      (crash_picks before.store crashed pick (shown_store o T node) restarts.restarts.crashes shows obeys q)
+      (crash_picks before.store crashed pick (shown_store o T node) restarts.reopens shows obeys q)
 
   -- what it registers is what the trace says, with another database or not
   given_case : (l : Line) (x : Option (List MapRecordValue)) → unwrap_or x (database_of before.core) ≡ database_after (events.Restart node pick x) l node (database o T node)
@@ -194,8 +212,8 @@ module _ (old new : WorldState) (node pick : ℕ) (db : Option (List MapRecordVa
     settled = λ l. config_known o T node before.core stood.core;
     given = λ l. given_case l db;
     keys = λ l. record {
-      since_loss = subst (λ (used : UsedKeysState). Marks used.since_loss (keys_since_loss o T node)) (sym restarts.restarts.used) stood.used.since_loss;
-      before_loss = subst (λ (used : UsedKeysState). Marks used.before_loss (keys_before_loss o T node)) (sym restarts.restarts.used) stood.used.before_loss;
+      since_loss = subst (λ (used : UsedKeysState). Marks used.since_loss (keys_since_loss o T node)) (sym restarts.used) stood.used.since_loss;
+      before_loss = subst (λ (used : UsedKeysState). Marks used.before_loss (keys_before_loss o T node)) (sym restarts.used) stood.used.before_loss;
     };
     up = here node true (is_up T node);
     begins = record {
@@ -219,9 +237,29 @@ module _ (old new : WorldState) (node pick : ℕ) (db : Option (List MapRecordVa
 
   -- so the network stands
   restart_here : Stands new o (step_of event node (shown_by after.store) line ∷ T)
-  restart_here = start_stands old new node restarts.acts o T stand crashed restarts.restarts.crashes.proceeds config registered restarts.answer restarts.restarts.starts
-      event (lines.Restarted node) starts_by restarts.restarts.me restarts.restarts.servers line (restarts.said ∙ said restarts.answer)
+  restart_here = start_stands old new node restarts.acts o T stand crashed line becomes config registered restarts.answer restarts.starts
+      event (lines.Restarted node) starts_by restarts.me restarts.servers (restarts.said ∙ said restarts.answer)
 
--- a network stands for a trace with a restart of a router
+-- a network stands for a trace with a restart of a router over a store that it opened anew
+pub reopen_router_stands : (old new : WorldState) (node pick : ℕ) (db : Option (List MapRecordValue)) (line : Line) → Fits db → RouterReopens old new node pick db line → StandsAfter old new (events.Restart node pick db) line
+reopen_router_stands old new node pick db line fits restarts o T stand = (node, shown_by restarts.acts.after.store, restart_here old new node pick db line fits restarts o T stand)
+
+-- a store that goes on counts on, whether the router starts or not
+counts_on : {less more : ℕ} (answer : Result (Unit {0}) StartFault) → less ≤ more → IfErr answer (λ fault. less ≤ more)
+counts_on (Ok done) counts = tt
+counts_on (Err fault) counts = counts
+
+-- so with each restart of a router
 pub restart_router_stands : (old new : WorldState) (node pick : ℕ) (db : Option (List MapRecordValue)) (line : Line) → Fits db → NetworkRestartsRouter old new node pick db line → StandsAfter old new (events.Restart node pick db) line
-restart_router_stands old new node pick db line fits restarts o T stand = (node, shown_by restarts.acts.after.store, restart_here old new node pick db line fits restarts o T stand)
+restart_router_stands old new node pick db line fits restarts = (let is = restarts.restarts in reopen_router_stands old new node pick db line fits (record {
+  acts = restarts.acts;
+  me = is.me;
+  servers = is.servers;
+  used = is.used;
+  opened = is.crashed;
+  reopens = reopened restarts.acts.before.store is.crashed pick is.crashes;
+  answer = restarts.answer;
+  counts = counts_on restarts.answer is.crashes.proceeds.count;
+  starts = is.starts;
+  said = restarts.said;
+}))

@@ -72,4 +72,4 @@ module _ (old new : WorldState) (node : ℕ) (more : List DatagramValue) (acts :
 
   -- with such a step the network stands for the trace
   pub stands_by : (event : EventValue) (s : ShownStore) (line : Line) → is_timeless event ≡ true → RouterStep o T event node s (MayCome (turn_at o T node (fate_of event) s) event) line more acts.after → Stands new o (step_of event node s line ∷ T)
-  stands_by event s line timeless step = router_acts old new node more acts o T (step_of event node s line) stand refl timeless (record { faults = step.count; obedient = step.obedient; row = step.row }) step.adds step.shows step.part
+  stands_by event s line timeless step = router_acts old new node more acts o T (step_of event node s line) stand refl timeless (record { faults = λ other. step.count; obedient = step.obedient; row = step.row }) step.adds step.shows step.part

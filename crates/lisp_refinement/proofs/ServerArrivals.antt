@@ -100,7 +100,7 @@ module _ (A : Type 0) (old new : WorldState) (node : ℕ) (fate : Fate) (from : 
       let left = leaves event fated timeless arrives in
       subst (λ (said : Line). Stands new o (step event said ∷ T)) (sym (at.said ∙ ap (λ (next : ℕ). server_line node next at.answer) stand.bag.count))
       (server_acts old new node (replies (address_of old node) from at.answer) at.acts o T (step event says) stand refl timeless
-      (record { faults = uses.count; obedient = uses.obedient; row = comes left.row })
+      (record { faults = λ other. uses.count; obedient = uses.obedient; row = comes left.row })
       (subst (λ (home : Addr). Adds o T (step event says) (replies home from at.answer)) (sym (address_is old o T stand node)) left.adds)
       uses.after left.part)
 
@@ -151,7 +151,7 @@ nowhere_stands old fate k d there none o T stand =
       shown_store o T (nobody o.config),
       nobody_acts old o T s stand refl (nobody_server o.config) (nobody_router o.config)
           (record {
-            faults = omega arith;
+            faults = λ other. omega arith;
             obedient = refl;
             row = record {
               item = l.item;

@@ -26,7 +26,7 @@ use Rattle.lisp_model.specs.Bag.{bag}
 use Rattle.lisp_model.specs.Context.{Rose, IsBase}
 use Rattle.lisp_model.specs.Counted.{latest_nonce, acked}
 use Rattle.lisp_model.specs.Sending.{pair_at, last_sent, start_values, CountsFrom}
-use Rattle.lisp_model.specs.Legal.{MayCome}
+use Rattle.lisp_model.specs.Legal.{MayCome, is_restart}
 use Rattle.lisp_model.specs.Restarting.{StartCause}
 use Rattle.lisp_model.specs.Promises.{is_timeless}
 use Rattle.lisp_refinement.specs.World.{RouterCoreState, Up, Down, UsedKeysState, WorldState}
@@ -34,7 +34,7 @@ use Rattle.lisp_refinement.specs.Calls.{config_of, database_of, CoreStarts, Core
 use Rattle.lisp_refinement.specs.Events.{RouterActs}
 use Rattle.lisp_refinement.specs.Stands.{shown_by, Shows, StandsForRound, StandsForRounds, StandsForEtr, StandsForCore, StandsForKeys, StandsForRouter, Stands}
 use Rattle.lisp_refinement.proofs.Gets.{get_replicate}
-use Rattle.lisp_refinement.proofs.Acting.{adds_none}
+use Rattle.lisp_refinement.proofs.Acting.{adds_none, router_acts}
 use Rattle.lisp_refinement.proofs.RouterEvents.{step_of, turn_at, RouterStep, acts_part, acts_shows, stands_by}
 
 -- nothing was acknowledged
@@ -85,6 +85,16 @@ abbrev pub answer_line : ℕ → Line → Result (Unit {0}) StartFault → Line
 answer_line node started (Ok done) = started
 answer_line node started (Err fault) = not_started node fault
 
+-- a store that a node's own has become: it goes on to count faults, unless the line says that the node restarted
+pub record Becomes (old new : StoreState) (line : Line) : Type 0 where
+  pub honest : new.is_honest ≡ old.is_honest
+  pub obedient : new.is_obedient ≡ old.is_obedient
+  pub count : is_restart line ≡ false → old.faults ≤ new.faults
+
+-- one that goes on as stores do
+pub goes_on : (old new : StoreState) (line : Line) → Proceeds old new → Becomes old new line
+goes_on old new line proceeds = record { honest = proceeds.honest; obedient = proceeds.obedient; count = λ other. proceeds.count }
+
 -- what an event makes of a trace that starts a router: by the line of one that starts, and by that of one that doesn't
 pub record StartsBy (o : Opening) (T : List Step) (event : EventValue) (node : ℕ) (s : ShownStore) (started : Line) (config : EtrConfigValue) (registered : List MapRecordValue) (used : UsedKeysState) : Type 0 where
   pub timeless : is_timeless event ≡ true
@@ -101,7 +111,7 @@ pub record StartsBy (o : Opening) (T : List Step) (event : EventValue) (node : �
   pub down_row : (fault : StartFault) → StartCause (turn_at o T node (fate_of event) s) fault → MayCome (turn_at o T node (fate_of event) s) event (not_started node fault)
 
 -- a router starts over a store that its own one has become, or it doesn't
-module _ (old new : WorldState) (node : ℕ) (acts : RouterActs old new node []) (o : Opening) (T : List Step) (stand : Stands old o T) (become : StoreState) (proceeds : Proceeds acts.before.store become)
+module _ (old new : WorldState) (node : ℕ) (acts : RouterActs old new node []) (o : Opening) (T : List Step) (stand : Stands old o T) (become : StoreState) (line : Line) (becomes : Becomes acts.before.store become line)
     (config : EtrConfigValue) (registered : List MapRecordValue) (answer : Result (Unit {0}) StartFault) (starts : CoreAnswersStartOver config registered old.clock become acts.after.store acts.after.core answer) where
   -- its store showed what the trace says
   shows : Shows acts.before.store (shown_store o T node)
@@ -109,7 +119,7 @@ module _ (old new : WorldState) (node : ℕ) (acts : RouterActs old new node [])
 
   -- the store is honest
   pub become_honest : IsTrue become.is_honest
-  become_honest = stays_honest acts.before.store become proceeds.honest shows.honest
+  become_honest = stays_honest acts.before.store become becomes.honest shows.honest
 
   -- a load keeps what it keeps
   pub loaded : acts.after.store.kept ≡ become.kept
@@ -117,11 +127,11 @@ module _ (old new : WorldState) (node : ℕ) (acts : RouterActs old new node [])
 
   -- the store stays obedient, or not
   obedient : acts.after.store.is_obedient ≡ (shown_store o T node).is_obedient
-  obedient = starts.proceeds.obedient ∙ proceeds.obedient ∙ shows.obedient
+  obedient = starts.proceeds.obedient ∙ becomes.obedient ∙ shows.obedient
 
-  -- the count of faults isn't lowered
-  count : (shown_store o T node).faults ≤ acts.after.store.faults
-  count = omega (arith, shows.faults, proceeds.count, starts.proceeds.count)
+  -- the count of faults isn't lowered, but for a restart
+  count : is_restart line ≡ false → (shown_store o T node).faults ≤ acts.after.store.faults
+  count other = omega (arith, shows.faults, becomes.count other, starts.proceeds.count)
 
   -- the store shows what the step says
   after_shows : Shows acts.after.store (shown_by acts.after.store)
@@ -168,22 +178,17 @@ module _ (old new : WorldState) (node : ℕ) (acts : RouterActs old new node [])
             (get_replicate (length config.servers) (first_rounds old.clock) i rs (ap (λ (e : EtrState). slice_get e.rounds i) (sym call.starts) ∙ has)) (started_rounds server);
       }
 
-      -- its step
-      up_step : RouterStep o T event node (shown_by acts.after.store) (MayCome (turn_at o T node (fate_of event) (shown_by acts.after.store)) event) started [] acts.after
-      up_step = record {
-        row = by.up_row;
-        count = count;
-        obedient = obedient;
-        adds = adds_none o T _ by.up_adds;
-        shows = after_shows;
-        part = around started (subst (λ (c : RouterCoreState). StandsForCore o later node c) (sym call.up) up_part);
-      }
+      -- the network stands
+      up_stands : line ≡ started → Stands new o later
+      up_stands said = router_acts old new node [] acts o T (step_of event node (shown_by acts.after.store) started) stand refl by.timeless
+          (record { faults = λ other. count (ap is_restart said ∙ other); obedient = obedient; row = by.up_row }) (adds_none o T _ by.up_adds) after_shows
+          (around started (subst (λ (c : RouterCoreState). StandsForCore o later node c) (sym call.up) up_part))
 
     -- it doesn't, and is down
-    module _ (fault : StartFault) (fails : CoreRefusesToStart config registered become acts.after.store acts.after.core fault) where
+    module _ (fault : StartFault) (said : line ≡ not_started node fault) (fails : CoreRefusesToStart config registered become acts.after.store acts.after.core fault) where
       -- where a device failed in the start, it did in the step
       rose : Rises become acts.after.store → Rose (turn_at o T node (fate_of event) (shown_by acts.after.store))
-      rose (inl more) = inl (omega (arith, shows.faults, proceeds.count, more))
+      rose (inl more) = inl (omega (arith, shows.faults, becomes.count (ap is_restart said), more))
       rose (inr end) = inr end
 
       -- the fault has a cause
@@ -195,7 +200,7 @@ module _ (old new : WorldState) (node : ℕ) (acts : RouterActs old new node [])
       down_step : RouterStep o T event node (shown_by acts.after.store) (MayCome (turn_at o T node (fate_of event) (shown_by acts.after.store)) event) (not_started node fault) [] acts.after
       down_step = record {
         row = by.down_row fault (cause fault refl);
-        count = count;
+        count = count (ap is_restart said);
         obedient = obedient;
         adds = adds_none o T _ (by.down_adds fault);
         shows = after_shows;
@@ -204,10 +209,10 @@ module _ (old new : WorldState) (node : ℕ) (acts : RouterActs old new node [])
       }
 
     -- by whether it starts
-    answered : (ans : Result (Unit {0}) StartFault) → CoreAnswersStart config registered old.clock become acts.after.store acts.after.core ans → Stands new o (step_of event node (shown_by acts.after.store) (answer_line node started ans) ∷ T)
-    answered (Ok done) call = stands_by old new node [] acts o T stand event (shown_by acts.after.store) started by.timeless (up_step call)
-    answered (Err fault) fails = stands_by old new node [] acts o T stand event (shown_by acts.after.store) (not_started node fault) by.timeless (down_step fault fails)
+    answered : (ans : Result (Unit {0}) StartFault) → line ≡ answer_line node started ans → CoreAnswersStart config registered old.clock become acts.after.store acts.after.core ans → Stands new o (step_of event node (shown_by acts.after.store) (answer_line node started ans) ∷ T)
+    answered (Ok done) said call = up_stands call said
+    answered (Err fault) said fails = stands_by old new node [] acts o T stand event (shown_by acts.after.store) (not_started node fault) by.timeless (down_step fault said fails)
 
     -- so the network stands
-    pub start_stands : (line : Line) → line ≡ answer_line node started answer → Stands new o (step_of event node (shown_by acts.after.store) line ∷ T)
-    start_stands line said = subst (λ (l : Line). Stands new o (step_of event node (shown_by acts.after.store) l ∷ T)) (sym said) (answered answer starts.starts)
+    pub start_stands : line ≡ answer_line node started answer → Stands new o (step_of event node (shown_by acts.after.store) line ∷ T)
+    start_stands said = subst (λ (l : Line). Stands new o (step_of event node (shown_by acts.after.store) l ∷ T)) (sym said) (answered answer said starts.starts)

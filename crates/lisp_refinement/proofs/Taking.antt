@@ -18,7 +18,7 @@ use Rattle.lisp_refinement.proofs.Noticing.{notice_stands}
 use Rattle.lisp_refinement.proofs.Resending.{resend_stands}
 use Rattle.lisp_refinement.proofs.Rotating.{rotate_stands}
 use Rattle.lisp_refinement.proofs.Sending.{send_stands}
-use Rattle.lisp_refinement.proofs.Ticking.{tick_stands}
+use Rattle.lisp_refinement.proofs.Passing.{tick_stands}
 use Rattle.lisp_refinement.proofs.ServerArrivals.{deliver_to_server_stands, junk_to_server_stands, nowhere_stands}
 use Rattle.lisp_refinement.proofs.RouterArrivals.{deliver_to_router_stands, junk_to_router_stands}
 use Rattle.lisp_refinement.proofs.Restarting.{restart_server_stands, restart_router_stands}

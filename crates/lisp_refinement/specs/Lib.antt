@@ -2,8 +2,10 @@ pub mod World
 pub mod Nodes
 pub mod Calls
 pub mod Events
+pub mod Reopening
 pub mod Stands
 pub mod Taking
+pub mod Passing
 pub mod Asked
 pub mod Headline
 pub mod Replied

@@ -1,7 +1,8 @@
-//! A network that stands for a trace, and takes an event, stands for the trace followed by that step: the function's
-//! contract is this law, and its body is empty.
+//! A network that stands for a trace, and takes an event, or in which time passes, stands for the trace followed by that step: each
+//! function's contract is a law, and its body is empty.
 
 ghost use Rattle.lisp_refinement.specs.World.{WorldState};
+ghost use Rattle.lisp_refinement.specs.Passing.{IdlingPasses, PassingStands, TicksArePasses};
 ghost use Rattle.lisp_refinement.specs.Taking.{TakingAgrees};
 
 use std::alloc::Allocator;
@@ -13,4 +14,20 @@ use std::alloc::Allocator;
 /// router an unsolicited Map-Notify (notice), or sends one again that is due (RFC 9301 sections 5.6, 5.7 and 8.2).
 pub fn taking_agrees<A: Allocator>()
     ensures { (old new : WorldState) → TakingAgrees A old new }
+{}
+
+/// A network that matches a trace, and in which time passes, matches the trace followed by a tick, whichever dead rows its
+/// Map-Servers drop.
+pub fn passing_stands()
+    ensures { PassingStands }
+{}
+
+/// Where each Map-Server drops all its dead rows, as a tick makes them do, time passes.
+pub fn ticks_are_passes()
+    ensures { TicksArePasses }
+{}
+
+/// Where no node drops any row, time passes too, up to the greatest moment.
+pub fn idling_passes()
+    ensures { IdlingPasses }
 {}

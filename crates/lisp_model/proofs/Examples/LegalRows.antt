@@ -184,12 +184,12 @@ notice_ends = (ends_legal was_noticed 4 (2 ^ 63) _ _ refl refl refl refl refl, w
 -- the answer arrives again
 pub notice_ended : LegalTrace opening (refuses ended (events.Deliver 4 fates.Done) 0 (refusals.Receive refuseds.NoNotice) ∷ ended)
 unfolding cut cut_from written
-notice_ended = (record { faults = omega arith; obedient = refl; row = record { item = answered (2 ^ 63) (mapping wide 1440 ∷ []); sent = refl; there = refl; arrives = (record { kind = refl; acts = refl }, (refl, refl)) } }, notice_ends)
+notice_ended = (record { faults = λ other. omega arith; obedient = refl; row = record { item = answered (2 ^ 63) (mapping wide 1440 ∷ []); sent = refl; there = refl; arrives = (record { kind = refl; acts = refl }, (refl, refl)) } }, notice_ends)
 
 pub older_notice_ended : LegalTrace opening (refuses older_noticed (events.Deliver 4 fates.Done) 0 (refusals.Receive refuseds.NoNotice) ∷ older_noticed)
 unfolding cut cut_from written
 older_notice_ended = (
-  record { faults = omega arith; obedient = refl; row = record { item = answered (2 ^ 63) (mapping wide 1440 ∷ []); sent = refl; there = refl; arrives = (record { kind = refl; acts = refl }, (refl, refl)) } },
+  record { faults = λ other. omega arith; obedient = refl; row = record { item = answered (2 ^ 63) (mapping wide 1440 ∷ []); sent = refl; there = refl; arrives = (record { kind = refl; acts = refl }, (refl, refl)) } },
   (
     notices_legal told_anew 2 (2 ^ 63) 4 _ refl refl refl (omega arith) refl,
     (tells_legal first_told (2 ^ 63 + 1) 3 _ (Some (2 ^ 63)) refl refl refl refl refl (omega arith) refl, first_told_legal),
@@ -200,7 +200,7 @@ pub stale : LegalTrace opening (refuses sent_twice (events.Deliver 1 fates.Done)
 unfolding cut cut_from written numbers_below
 stale = (
   record {
-    faults = omega arith;
+    faults = λ other. omega arith;
     obedient = refl;
     row = record {
       item = told (local_at 11) (local_at 21) 1 (mapping wide 1440 ∷ []);
@@ -216,7 +216,7 @@ stale = (
 pub stale_of_parts : Legal opening parts_sent_again (refuses parts_sent_again (events.Deliver 1 fates.Done) 2 (refusals.Notify (notify_faults.Stale 3)))
 unfolding cut cut_from written numbers_below
 stale_of_parts = record {
-  faults = omega arith;
+  faults = λ other. omega arith;
   obedient = refl;
   row = record {
     item = told (local_at 11) (local_at 21) 1 (mapping wide 1440 ∷ []);
@@ -242,17 +242,17 @@ vanished_part_counts = counts_part_legal vanished 3 0 1 2 (local_at 11) [] refl 
 -- a router sends a part that its database doesn't have
 pub no_part : LegalTrace opening (refuses [] (events.Send 2 0 1 fates.Done) 2 (refusals.Send send_faults.NoPart) ∷ [])
 unfolding cut cut_from written
-no_part = (record { faults = omega arith; obedient = refl; row = (refl, refl, record { kind = refl; acts = refl; state = refl }, (refl, omega arith, refl)) }, tt)
+no_part = (record { faults = λ other. omega arith; obedient = refl; row = (refl, refl, record { kind = refl; acts = refl; state = refl }, (refl, omega arith, refl)) }, tt)
 
 -- a router sends to a server that it isn't told
 pub no_server : LegalTrace opening (refuses [] (events.Send 3 1 0 fates.Done) 3 (refusals.Send send_faults.NoServer) ∷ [])
-no_server = (record { faults = omega arith; obedient = refl; row = (refl, refl, record { kind = refl; acts = refl; state = refl }, (refl, refl)) }, tt)
+no_server = (record { faults = λ other. omega arith; obedient = refl; row = (refl, refl, record { kind = refl; acts = refl; state = refl }, (refl, refl)) }, tt)
 
 pub nothing_thrown : LegalTrace opening (refuses [] (events.Junk 0 (local_at 21) []) 0 (refusals.Receive (refuseds.Read reads.Short)) ∷ [])
-nothing_thrown = (record { faults = omega arith; obedient = refl; row = record { acts = refl; arrives = (record { kind = refl; acts = refl }, (subst (λ (r : Result MessageValue ReadFault). FailsCheck (context_of opening [] (refuses [] (events.Junk 0 (local_at 21) []) 0 (refusals.Receive (refuseds.Read reads.Short)))) (junk_arrival (local_at 21) []) r (refuseds.Read reads.Short)) (sym short_message) refl, refl)) } }, tt)
+nothing_thrown = (record { faults = λ other. omega arith; obedient = refl; row = record { acts = refl; arrives = (record { kind = refl; acts = refl }, (subst (λ (r : Result MessageValue ReadFault). FailsCheck (context_of opening [] (refuses [] (events.Junk 0 (local_at 21) []) 0 (refusals.Receive (refuseds.Read reads.Short)))) (junk_arrival (local_at 21) []) r (refuseds.Read reads.Short)) (sym short_message) refl, refl)) } }, tt)
 
 pub nothing_thrown_at_router : LegalTrace opening (refuses [] (events.Junk 2 (local_at 11) []) 2 (refusals.Notify (notify_faults.Read reads.Short)) ∷ [])
-nothing_thrown_at_router = (record { faults = omega arith; obedient = refl; row = record { acts = refl; arrives = record { acts = record { kind = refl; acts = refl; state = refl }; same = refl; comes = inl (rw short_heard refl) } } }, tt)
+nothing_thrown_at_router = (record { faults = λ other. omega arith; obedient = refl; row = record { acts = refl; arrives = record { acts = record { kind = refl; acts = refl; state = refl }; same = refl; comes = inl (rw short_heard refl) } } }, tt)
 
 pub foreign_sent_legal : LegalTrace opening foreign_sent
 foreign_sent_legal = (sends_legal (changes [] foreign ∷ []) 0 1 0 None refl refl refl refl (fresh_value (sent_by one)) refl (omega arith) foreign_whole refl, (changes_legal [] foreign foreign_whole.database refl, tt))
@@ -265,7 +265,7 @@ told_and_gone_legal : LegalTrace opening told_and_gone
 told_and_gone_legal = (restarts_legal first_told 0 (inl refl) (set_full _ _ _ (set_full _ _ _ empty_full)) refl, first_told_legal)
 
 pub nothing_to_tell : LegalTrace opening (refuses told_and_gone (events.Notice 0 2 fates.Done) 0 (refusals.Notice notice_faults.NotRegistered) ∷ told_and_gone)
-nothing_to_tell = (record { faults = omega arith; obedient = refl; row = (refl, record { kind = refl; acts = refl }, refl, (refl, refl)) }, told_and_gone_legal)
+nothing_to_tell = (record { faults = λ other. omega arith; obedient = refl; row = (refl, record { kind = refl; acts = refl }, refl, (refl, refl)) }, told_and_gone_legal)
 
 pub registered_again_legal : LegalTrace opening registered_again
 unfolding cut cut_from written
@@ -279,14 +279,18 @@ unfolding cut cut_from written
 notices_go_on = (tells_legal registered_again (2 ^ 63 + 1) 5 _ (Some (2 ^ 63)) refl refl refl (other_value _ (got_from one) notice_pair _ (Some (2 ^ 63)) (λ e. absurd (kinds_differ e)) (set_value _ _ _)) refl (omega arith) refl, registered_again_legal)
 
 pub not_started_legal : LegalTrace opening not_started
-not_started_legal = (record { faults = omega arith; obedient = refl; row = record { names = refl; acts = refl; kind = refl; fits = tt; narrows = stays (at one_sent 2).kept (set_full _ _ _ empty_full); picks = λ obeys. absurd (true≢false (sym obeys)); cause = λ other. inl (omega arith) } }, one_sent_legal)
+not_started_legal = (record { faults = λ other. omega arith; obedient = refl; row = record { names = refl; acts = refl; kind = refl; fits = tt; narrows = stays (at one_sent 2).kept (set_full _ _ _ empty_full); picks = λ obeys. absurd (true≢false (sym obeys)); cause = λ other. inl (omega arith) } }, one_sent_legal)
+
+-- a store that was opened anew counts its faults anew
+pub counted_anew : Legal opening not_started (step (events.Restart 2 0 None) (lines.Restarted 2) 2 (at one_sent 2))
+counted_anew = record { faults = λ same. absurd (true≢false same); obedient = refl; row = record { names = refl; acts = refl; kind = inr refl; fits = tt; narrows = stays (at one_sent 2).kept (set_full _ _ _ empty_full); picks = λ obeys. absurd (true≢false (sym obeys)) } }
 
 pub down_and_up : LegalTrace opening (sends (restarts (is_down ∷ not_started) 2 ∷ is_down ∷ not_started) 0 2 1 ∷ restarts (is_down ∷ not_started) 2 ∷ is_down ∷ not_started)
 down_and_up = (
   sends_legal (restarts (is_down ∷ not_started) 2 ∷ is_down ∷ not_started) 0 2 1 (Some 1) refl refl refl refl (set_value _ _ _) refl (omega arith) wide_whole refl,
   (
     restarts_legal (is_down ∷ not_started) 2 (inr refl) (set_full _ _ _ empty_full) refl,
-    (record { faults = omega arith; obedient = refl; row = record { acts = record { kind = refl; acts = refl; state = refl }; names = refl; same = refl } }, not_started_legal),
+    (record { faults = λ other. omega arith; obedient = refl; row = record { acts = record { kind = refl; acts = refl; state = refl }; names = refl; same = refl } }, not_started_legal),
   ),
 )
 
@@ -297,7 +301,7 @@ lost_item = ap (λ (r : Result MessageValue ReadFault). register_item opening []
 
 pub lost : Legal opening answered_elsewhere (step (events.Deliver 1 fates.Done) (lines.Nowhere 1) 4 (at [] 4))
 lost = record {
-  faults = omega arith;
+  faults = λ other. omega arith;
   obedient = refl;
   row = record {
     item = told (local_at 11) (local_at 99) 1 (mapping wide 1440 ∷ []);
@@ -325,7 +329,7 @@ unfolding numbers_below
 last_counts = counts_legal last_taken 1 0 last_nonce _ _ refl refl refl refl (omega arith) refl
 
 pub spent_told : Legal spent [] (step (events.Send 2 0 0 fates.Done) (lines.Refused 2 (refusals.Send send_faults.NonceSpent)) 2 (keeps blank (sent_by one) (2 ^ 63 - 1)))
-spent_told = record { faults = omega arith; obedient = refl; row = (refl, refl, record { kind = refl; acts = refl; state = refl }, ((refl, wide_whole.there), (Some (2 ^ 63 - 1), set_value _ _ _, omega arith), refl)) }
+spent_told = record { faults = λ other. omega arith; obedient = refl; row = (refl, refl, record { kind = refl; acts = refl; state = refl }, ((refl, wide_whole.there), (Some (2 ^ 63 - 1), set_value _ _ _, omega arith), refl)) }
 
 narrow_fits : fits_message (mapping narrow 1440 ∷ []) ≡ true
 unfolding written
@@ -334,7 +338,7 @@ narrow_fits = refl
 pub notices_spent_told : Legal spent spent_taken (step (events.Notice 0 3 fates.Done) (lines.Refused 0 (refusals.Notice notice_faults.NonceSpent)) 0 (keeps (keeps blank notice_pair (2 ^ 64 - 1)) (got_from two) 1))
 unfolding cut cut_from written
 notices_spent_told = record {
-  faults = omega arith;
+  faults = λ other. omega arith;
   obedient = refl;
   row = (
     refl,
@@ -348,7 +352,7 @@ notices_spent_told = record {
 pub saved_its_block : Legal blocks [] (step (events.Send 2 0 0 fates.Done) (lines.Sent 2 0 0 1 1 0) 2 (keeps blank (sent_by one) 10))
 unfolding cut cut_from written
 saved_its_block = record {
-  faults = omega arith;
+  faults = λ other. omega arith;
   obedient = refl;
   row = (
     refl,

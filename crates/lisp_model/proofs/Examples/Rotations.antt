@@ -135,7 +135,7 @@ not_emptied = loses_and_fails started 3 ∷ started
 sends_under_legal : (T : List Step) (key nonce datagram : ℕ) (base : Option ℕ) → key_of rotating T 2 ≡ key → is_up T 2 ≡ true → CountsFrom rotating T 2 base → nonce ≡ number base + 1 → key < 256 → nonce < 2 ^ 63 → IsOnePart (database rotating T 2) → datagram ≡ length (bag rotating T)
     → Legal rotating T (sends_under T key nonce datagram)
 sends_under_legal T key nonce datagram base is up counted next small low whole place = record {
-  faults = omega arith;
+  faults = λ other. omega arith;
   obedient = refl;
   row = (
     refl,
@@ -165,7 +165,7 @@ takes_under_legal : (T before : List Step) (k key nonce datagram : ℕ) (base : 
     → first_not_allowed three_keys (part_at (database rotating before 2) 0) ≡ None → IsBase (last_of (under key (got_from one)) (since_start rotating T 0)) (kept_at (shows T 0).kept (under key (got_from one))) base → IsBelow base nonce → datagram ≡ length (bag rotating T)
     → Legal rotating T (takes_under T k key nonce datagram)
 takes_under_legal T before k key nonce datagram base sent is known allowed counted below place = record {
-  faults = omega arith;
+  faults = λ other. omega arith;
   obedient = refl;
   row = record {
     item = register_item rotating before 2 0 0 nonce;
@@ -199,7 +199,7 @@ third_known e = absurd cc
 
 -- the router goes over to a key
 rotates_legal : (T : List Step) (key : ℕ) → is_up T 2 ≡ true → MayRotate rotating T 2 key → key ≢ key_of rotating T 2 → Legal rotating T (rotates T key)
-rotates_legal T key up may other = record { faults = omega arith; obedient = refl; row = record { acts = record { kind = refl; acts = refl; state = up }; names = refl; to = refl; may = may; other = other; loads = λ obeys clash. absurd cc; same = refl } }
+rotates_legal T key up may other = record { faults = λ other. omega arith; obedient = refl; row = record { acts = record { kind = refl; acts = refl; state = up }; names = refl; to = refl; may = may; other = other; loads = λ obeys clash. absurd cc; same = refl } }
 
 pub other_number : (n other : ℕ) → (n == other) ≡ false → n ≢ other
 other_number n other differ same = true≢false (sym ((Decides-eqb n other).1 same) ∙ differ)
@@ -246,9 +246,9 @@ heard_anew = passed _ _ (item_authentic (reply_under 2 new_secret))
 pub counted_anew_legal : LegalTrace rotating counted_anew
 unfolding cut cut_from written numbers_below
 counted_anew_legal = (
-  record { faults = omega arith; obedient = refl; row = record { item = reply_under 2 new_secret; sent = refl; there = refl; arrives = record { acts = record { kind = refl; acts = refl; state = refl }; same = refl; comes = inl (rw heard_anew refl) } } },
+  record { faults = λ other. omega arith; obedient = refl; row = record { item = reply_under 2 new_secret; sent = refl; there = refl; arrives = record { acts = record { kind = refl; acts = refl; state = refl }; same = refl; comes = inl (rw heard_anew refl) } } },
   (
-    record { faults = omega arith; obedient = refl; row = record { item = reply_under 1 secret; sent = refl; there = refl; arrives = record { acts = record { kind = refl; acts = refl; state = refl }; same = refl; comes = inl (rw heard_wrong refl) } } },
+    record { faults = λ other. omega arith; obedient = refl; row = record { item = reply_under 1 secret; sent = refl; there = refl; arrives = record { acts = record { kind = refl; acts = refl; state = refl }; same = refl; comes = inl (rw heard_wrong refl) } } },
     taken_late_legal,
   ),
 )
@@ -261,7 +261,7 @@ sent_back_legal = (
 )
 
 pub kept_key_legal : LegalTrace rotating kept_key
-kept_key_legal = (record { faults = omega arith; obedient = refl; row = (refl, record { kind = refl; acts = refl; state = refl }, record { known = first_known; unused = in_none 1 }, (refl, refl)) }, sent_back_legal)
+kept_key_legal = (record { faults = λ other. omega arith; obedient = refl; row = (refl, record { kind = refl; acts = refl; state = refl }, record { known = first_known; unused = in_none 1 }, (refl, refl)) }, sent_back_legal)
 
 -- it used the first two keys alone
 pub not_third : Contains {X = ℕ} (1 ∷ 2 ∷ 1 ∷ []) 3 → ⊥
@@ -274,7 +274,7 @@ pub sent_at_last_legal : LegalTrace rotating sent_at_last
 sent_at_last_legal = (
   sends_under_legal emptied 3 1 5 None refl refl (fresh_value (under 3 (sent_by one))) refl (omega arith) (omega arith) wide_whole refl,
   (
-    record { faults = omega arith; obedient = refl; row = record { lost = record { acts = refl; kind = refl; may = record { known = third_known; unused = not_third }; fits = tt; some = empty_full }; names = refl; to = refl } },
+    record { faults = λ other. omega arith; obedient = refl; row = record { lost = record { acts = refl; kind = refl; may = record { known = third_known; unused = not_third }; fits = tt; some = empty_full }; names = refl; to = refl } },
     kept_key_legal,
   ),
 )
@@ -285,10 +285,10 @@ not_started_under key differ (zero, lt, is) = differ is
 not_started_under key differ (suc k, lt, is) = absurd (omega (arith, lt))
 
 not_emptied_legal : LegalTrace rotating not_emptied
-not_emptied_legal = (record { faults = omega arith; obedient = refl; row = record { lost = record { acts = refl; kind = refl; may = record { known = third_known; unused = not_started_under 3 (other_number 1 3 refl) }; fits = tt; some = empty_full }; names = refl; cause = λ other. inl (omega arith) } }, started_legal)
+not_emptied_legal = (record { faults = λ other. omega arith; obedient = refl; row = record { lost = record { acts = refl; kind = refl; may = record { known = third_known; unused = not_started_under 3 (other_number 1 3 refl) }; fits = tt; some = empty_full }; names = refl; cause = λ other. inl (omega arith) } }, started_legal)
 
 pub down_at_a_rotation : LegalTrace rotating (step (events.Rotate 2 3 fates.Done) (lines.Down 2) 2 (shows not_emptied 2) ∷ not_emptied)
-down_at_a_rotation = (record { faults = omega arith; obedient = refl; row = (record { known = third_known; unused = not_started_under 3 (other_number 1 3 refl) }, record { acts = record { kind = refl; acts = refl; state = refl }; names = refl; same = refl }) }, not_emptied_legal)
+down_at_a_rotation = (record { faults = λ other. omega arith; obedient = refl; row = (record { known = third_known; unused = not_started_under 3 (other_number 1 3 refl) }, record { acts = record { kind = refl; acts = refl; state = refl }; names = refl; same = refl }) }, not_emptied_legal)
 
 abbrev pub started_at_last : List Step
 started_at_last = step (events.Restart 2 0 None) (lines.Restarted 2) 2 (shows not_emptied 2) ∷ not_emptied
@@ -296,7 +296,7 @@ started_at_last = step (events.Restart 2 0 None) (lines.Restarted 2) 2 (shows no
 pub sent_after_both : LegalTrace rotating (sends_under started_at_last 3 1 1 ∷ started_at_last)
 sent_after_both = (
   sends_under_legal started_at_last 3 1 1 None refl refl (fresh_value (under 3 (sent_by one))) refl (omega arith) (omega arith) wide_whole refl,
-  (record { faults = omega arith; obedient = refl; row = record { names = refl; acts = refl; kind = inr refl; fits = tt; narrows = stays empty empty_full; picks = λ obeys. absurd (true≢false (sym obeys)) } }, not_emptied_legal),
+  (record { faults = λ other. omega arith; obedient = refl; row = record { names = refl; acts = refl; kind = inr refl; fits = tt; narrows = stays empty empty_full; picks = λ obeys. absurd (true≢false (sym obeys)) } }, not_emptied_legal),
 )
 
 -- what its store keeps under the second key can't be loaded
@@ -304,4 +304,4 @@ abbrev pub not_loaded : Step
 not_loaded = step (events.Rotate 2 2 fates.LoadFails) (lines.Refused 2 (refusals.Rotate (rotate_faults.Store stores.Device))) 2 (failed (shows started 2))
 
 pub not_loaded_legal : LegalTrace rotating (not_loaded ∷ started)
-not_loaded_legal = (record { faults = omega arith; obedient = refl; row = (refl, record { kind = refl; acts = refl; state = refl }, record { known = second_known; unused = in_none 2 }, (other_number 2 1 refl, record { same = refl; cause = λ other. inl (omega arith); may = λ other obeys. refl })) }, started_legal)
+not_loaded_legal = (record { faults = λ other. omega arith; obedient = refl; row = (refl, record { kind = refl; acts = refl; state = refl }, record { known = second_known; unused = in_none 2 }, (other_number 2 1 refl, record { same = refl; cause = λ other. inl (omega arith); may = λ other obeys. refl })) }, started_legal)

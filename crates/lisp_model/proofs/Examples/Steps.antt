@@ -49,7 +49,7 @@ block_of_one nonce low = omega (arith, low)
 pub sends_legal : (T : List Step) (server nonce datagram : ℕ) (base : Option ℕ) → key_of opening T 2 ≡ 1 → is_up T 2 ≡ true → is_server network server ≡ true → is_listed network 2 server ≡ true → CountsFrom opening T 2 base → nonce ≡ number base + 1 → nonce < 2 ^ 63
     → IsOnePart (database opening T 2) → datagram ≡ length (bag opening T) → Legal opening T (sends T server nonce datagram)
 sends_legal T server nonce datagram base key up kind listed counted next low whole place = record {
-  faults = omega arith;
+  faults = λ other. omega arith;
   obedient = refl;
   row = (
     refl,
@@ -77,7 +77,7 @@ pub takes_legal : (T : List Step) (k server nonce datagram : ℕ) (i : Item) (db
     → i.message ≡ Registers (registers db nonce) → i.secret ≡ secret → first_not_allowed site db ≡ None
     → IsBase (last_of (got_from one) (since_start opening T server)) (kept_at (at T server).kept (got_from one)) base → IsBelow base nonce → datagram ≡ length (bag opening T) → Legal opening T (takes T k server nonce datagram)
 takes_legal T k server nonce datagram i db base sent there kind says key allowed counts below place = record {
-  faults = omega arith;
+  faults = λ other. omega arith;
   obedient = refl;
   row = record {
     item = i;
@@ -103,7 +103,7 @@ pub replays_legal : (T : List Step) (k server nonce saved : ℕ) (i : Item) (db 
     → i.message ≡ Registers (registers db nonce) → i.secret ≡ secret → first_not_allowed site db ≡ None
     → IsBase (last_of (got_from one) (since_start opening T server)) (kept_at (at T server).kept (got_from one)) (Some saved) → nonce ≤ saved → Legal opening T (replays T k server saved)
 replays_legal T k server nonce saved i db sent there kind says key allowed counts stale = record {
-  faults = omega arith;
+  faults = λ other. omega arith;
   obedient = refl;
   row = record {
     item = i;
@@ -134,7 +134,7 @@ not_above m n low = at (nat_le m n) refl
 pub counts_part_legal : (T : List Step) (k server part nonce : ℕ) (from : Addr) (records : List MapRecordValue) → key_of opening T 2 ≡ 1 → is_up T 2 ≡ true → slice_get (bag opening T) k ≡ Some (told from (local_at 21) nonce records)
     → server_from network 2 from ≡ Some server → nonce < first_notice → part_with nonce (latest_nonces T 2 server) ≡ Some part → Legal opening T (counts_part T k server part nonce)
 counts_part_legal T k server part nonce from records key up sent is low last = record {
-  faults = omega arith;
+  faults = λ other. omega arith;
   obedient = refl;
   row = record {
     item = told from (local_at 21) nonce records;
@@ -149,15 +149,15 @@ pub counts_legal : (T : List Step) (k server nonce : ℕ) (from : Addr) (records
 counts_legal T k server nonce = counts_part_legal T k server 0 nonce
 
 pub changes_legal : (T : List Step) (db : List MapRecordValue) → database_of db ≡ Ok db → is_up T 2 ≡ true → Legal opening T (changes T db)
-changes_legal T db fits up = record { faults = omega arith; obedient = refl; row = record { acts = record { kind = refl; acts = refl; state = up }; names = refl; fits = fits; count = refl; same = refl } }
+changes_legal T db fits up = record { faults = λ other. omega arith; obedient = refl; row = record { acts = record { kind = refl; acts = refl; state = up }; names = refl; fits = fits; count = refl; same = refl } }
 
 pub ticks_legal : (T : List Step) (ms now : ℕ) → now ≡ clock T + ms → now ≤ max_moment → Legal opening T (ticks T ms now)
-ticks_legal T ms now is low = record { faults = omega arith; obedient = refl; row = record { names = refl; clock = is; bound = low; idle = record { server = refl; router = refl; same = refl } } }
+ticks_legal T ms now is low = record { faults = λ other. omega arith; obedient = refl; row = record { names = refl; clock = is; bound = low; idle = record { server = refl; router = refl; same = refl } } }
 
 pub doubts_send_legal : (T : List Step) (server : ℕ) (base : Option ℕ) → key_of opening T 2 ≡ 1 → is_up T 2 ≡ true → is_server network server ≡ true → is_listed network 2 server ≡ true → 0 < part_count (database opening T 2) → CountsFrom opening T 2 base → number base < last_nonce → (at T 2).is_obedient ≡ false
     → Legal opening T (doubts_send T server (number base + 1))
 doubts_send_legal T server base key up kind listed there counted left unbound = record {
-  faults = omega arith;
+  faults = λ other. omega arith;
   obedient = refl;
   row = (refl, kind, record { kind = refl; acts = refl; state = up }, ((listed, there), record { base = base; counts = counted; left = left; fails = subst (λ (k : ℕ). SaveFails (context_of opening T (doubts_send T server (number base + 1))) (record (sent_by one) { key = k }) (block_end (number base + 1) 1) stores.Device) (sym key) (subst (λ (n : ℕ). SaveFails (context_of opening T (doubts_send T server (number base + 1))) (sent_by one) n stores.Device) (sym (block_of_one (number base + 1) (omega (arith, left)))) (in_doubt (context_of opening T (doubts_send T server (number base + 1))) (sent_by one) (number base + 1) unbound refl (omega arith))) }));
 }
@@ -166,7 +166,7 @@ pub doubts_take_legal : (T : List Step) (k server nonce : ℕ) (i : Item) (db : 
     → i.message ≡ Registers (registers db nonce) → i.secret ≡ secret → first_not_allowed site db ≡ None
     → IsBase (last_of (got_from one) (since_start opening T server)) (kept_at (at T server).kept (got_from one)) base → IsBelow base nonce → (at T server).is_obedient ≡ false → Legal opening T (doubts_take T k server nonce)
 doubts_take_legal T k server nonce i db base sent there kind says key allowed counts below unbound = record {
-  faults = omega arith;
+  faults = λ other. omega arith;
   obedient = refl;
   row = record {
     item = i;
@@ -187,7 +187,7 @@ doubts_take_legal T k server nonce i db base sent there kind says key allowed co
 pub fails_load_legal : (T : List Step) (k server nonce : ℕ) (i : Item) (db : List MapRecordValue) → slice_get (bag opening T) k ≡ Some i → node_at network i.to ≡ Some server → is_server network server ≡ true
     → i.message ≡ Registers (registers db nonce) → i.secret ≡ secret → first_not_allowed site db ≡ None → last_of (got_from one) (since_start opening T server) ≡ None → Legal opening T (fails_load T k server)
 fails_load_legal T k server nonce i db sent there kind says key allowed unknown = record {
-  faults = omega arith;
+  faults = λ other. omega arith;
   obedient = refl;
   row = record {
     item = i;
@@ -209,7 +209,7 @@ fails_load_legal T k server nonce i db sent there kind says key allowed unknown 
 pub refuses_record : (T : List Step) (k server nonce place : ℕ) (i : Item) (db : List MapRecordValue) → slice_get (bag opening T) k ≡ Some i → node_at network i.to ≡ Some server → is_server network server ≡ true
     → i.message ≡ Registers (registers db nonce) → i.secret ≡ secret → first_not_allowed site db ≡ Some place → Legal opening T (refuses T (events.Deliver k fates.Done) server (refusals.Receive (refuseds.NotAllowed place)))
 refuses_record T k server nonce place i db sent there kind says key bad = record {
-  faults = omega arith;
+  faults = λ other. omega arith;
   obedient = refl;
   row = record {
     item = i;
@@ -227,12 +227,12 @@ refuses_record T k server nonce place i db sent there kind says key bad = record
 }
 
 pub restarts_legal : (T : List Step) (node : ℕ) → ((is_server network node ≡ true) ⊎ (is_router network node ≡ true)) → IsFull (at T node).kept → (at T node).is_obedient ≡ false → Legal opening T (restarts T node)
-restarts_legal T node (inl server) full unbound = record { faults = omega arith; obedient = refl; row = record { names = refl; acts = refl; kind = inl (server, refl); fits = tt; narrows = stays (at T node).kept full; picks = λ obeys. absurd (true≢false (sym obeys ∙ unbound)) } }
-restarts_legal T node (inr router) full unbound = record { faults = omega arith; obedient = refl; row = record { names = refl; acts = refl; kind = inr router; fits = tt; narrows = stays (at T node).kept full; picks = λ obeys. absurd (true≢false (sym obeys ∙ unbound)) } }
+restarts_legal T node (inl server) full unbound = record { faults = λ other. omega arith; obedient = refl; row = record { names = refl; acts = refl; kind = inl (server, refl); fits = tt; narrows = stays (at T node).kept full; picks = λ obeys. absurd (true≢false (sym obeys ∙ unbound)) } }
+restarts_legal T node (inr router) full unbound = record { faults = λ other. omega arith; obedient = refl; row = record { names = refl; acts = refl; kind = inr router; fits = tt; narrows = stays (at T node).kept full; picks = λ obeys. absurd (true≢false (sym obeys ∙ unbound)) } }
 
 pub restarts_to_legal : (T : List Step) (node : ℕ) (pair : Pair) (v : Option ℕ) → ((is_server network node ≡ true) ⊎ (is_router network node ≡ true)) → Contains (kept_at (at T node).kept pair) v → IsFull (at T node).kept → (at T node).is_obedient ≡ false → Legal opening T (restarts_to T node pair v)
-restarts_to_legal T node pair v (inl server) has full unbound = record { faults = omega arith; obedient = refl; row = record { names = refl; acts = refl; kind = inl (server, refl); fits = tt; narrows = narrows (at T node).kept pair v has full; picks = λ obeys. absurd (true≢false (sym obeys ∙ unbound)) } }
-restarts_to_legal T node pair v (inr router) has full unbound = record { faults = omega arith; obedient = refl; row = record { names = refl; acts = refl; kind = inr router; fits = tt; narrows = narrows (at T node).kept pair v has full; picks = λ obeys. absurd (true≢false (sym obeys ∙ unbound)) } }
+restarts_to_legal T node pair v (inl server) has full unbound = record { faults = λ other. omega arith; obedient = refl; row = record { names = refl; acts = refl; kind = inl (server, refl); fits = tt; narrows = narrows (at T node).kept pair v has full; picks = λ obeys. absurd (true≢false (sym obeys ∙ unbound)) } }
+restarts_to_legal T node pair v (inr router) has full unbound = record { faults = λ other. omega arith; obedient = refl; row = record { names = refl; acts = refl; kind = inr router; fits = tt; narrows = narrows (at T node).kept pair v has full; picks = λ obeys. absurd (true≢false (sym obeys ∙ unbound)) } }
 
 -- the record of the first router, told
 wide_fits : fits_message (mapping wide 1440 ∷ []) ≡ true
@@ -245,7 +245,7 @@ wide_some e = absurd cc
 pub tells_legal : (T : List Step) (nonce datagram : ℕ) (last : Acceptance) (base : Option ℕ) → records_of (since_start opening T 0) one (clock T) ≡ mapping wide 1440 ∷ [] → heard_last one (since_start opening T 0) ≡ Some last → last.message.key_id ≡ 1
     → IsBase (last_notice T 0) (kept_at (at T 0).kept notice_pair) base → nonce ≡ nonce_after base → nonce < 2 ^ 64 → datagram ≡ length (bag opening T) → Legal opening T (tells T nonce datagram)
 tells_legal T nonce datagram last base held_row notify_at key counts next bound place = record {
-  faults = omega arith;
+  faults = λ other. omega arith;
   obedient = refl;
   row = (
     refl,
@@ -269,11 +269,11 @@ tells_legal T nonce datagram last base held_row notify_at key counts next bound 
 }
 
 pub repeats_legal : (T : List Step) (datagram : ℕ) → is_due (notice_to opening T 0 one) (clock T) ≡ true → datagram ≡ length (bag opening T) → Legal opening T (repeats T datagram)
-repeats_legal T datagram due place = record { faults = omega arith; obedient = refl; row = (refl, refl, record { acts = record { kind = refl; acts = refl }; kind = refl; due = due; place = place; same = refl }) }
+repeats_legal T datagram due place = record { faults = λ other. omega arith; obedient = refl; row = (refl, refl, record { acts = record { kind = refl; acts = refl }; kind = refl; due = due; place = place; same = refl }) }
 
 pub notices_legal : (T : List Step) (k nonce datagram : ℕ) (records : List MapRecordValue) → key_of opening T 2 ≡ 1 → is_up T 2 ≡ true → slice_get (bag opening T) k ≡ Some (told (local_at 11) (local_at 21) nonce records) → first_notice ≤ nonce → datagram ≡ length (bag opening T) → Legal opening T (notices T k nonce datagram)
 notices_legal T k nonce datagram records key up sent high place = record {
-  faults = omega arith;
+  faults = λ other. omega arith;
   obedient = refl;
   row = record {
     item = told (local_at 11) (local_at 21) nonce records;
@@ -286,7 +286,7 @@ notices_legal T k nonce datagram records key up sent high place = record {
 pub ends_legal : (T : List Step) (k nonce : ℕ) (records : List MapRecordValue) (n : Notice) → slice_get (bag opening T) k ≡ Some (answered nonce records)
     → awaiting (context_of opening T (ends T k nonce)) (local_at 21) (record { ack = true; nonce = nonce; key_id = 1; records = records }) ≡ Some n → n.router ≡ one → n.key ≡ 1 → nonce ≡ n.nonce → Legal opening T (ends T k nonce)
 ends_legal T k nonce records n sent stands router key number = record {
-  faults = omega arith;
+  faults = λ other. omega arith;
   obedient = refl;
   row = record {
     item = answered nonce records;

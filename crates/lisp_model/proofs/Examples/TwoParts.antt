@@ -30,7 +30,7 @@ module _ (db first second : List MapRecordValue) (cuts : cut db ≡ first ∷ se
   -- the second part is sent, with its records alone; there is no third one
   pub second_sent : database_of db ≡ Ok db → AreRecords second → Legal (of_database db) [] (sends_part [] 1 1 0)
   second_sent known records = record {
-    faults = omega arith;
+    faults = λ other. omega arith;
     obedient = refl;
     row = (
       refl,
@@ -58,7 +58,7 @@ module _ (db first second : List MapRecordValue) (cuts : cut db ≡ first ∷ se
   second_message = ap (λ (parts : List (List MapRecordValue)). Registers (registers (slice_index_or parts 1 []) 1)) cuts
 
   pub no_third : Legal (of_database db) [] (refuses [] (events.Send 2 0 2 fates.Done) 2 (refusals.Send send_faults.NoPart))
-  no_third = record { faults = omega arith; obedient = refl; row = (refl, refl, record { kind = refl; acts = refl; state = refl }, (refl, subst (λ (parts : List (List MapRecordValue)). length parts ≤ 2) (sym cuts) (omega arith), refl)) }
+  no_third = record { faults = λ other. omega arith; obedient = refl; row = (refl, refl, record { kind = refl; acts = refl; state = refl }, (refl, subst (λ (parts : List (List MapRecordValue)). length parts ≤ 2) (sym cuts) (omega arith), refl)) }
 
   -- once the first part was sent, the second one is due; and then none
   pub second_due : due_part (of_database db) one_sent 2 0 ≡ Some 1

@@ -10,6 +10,7 @@ use Rattle.lisp_nonces.specs.declared.pair.Pair.{Pair}
 use Rattle.lisp_messages.specs.Message.{MapRegisterValue}
 use Rattle.lisp_etr.specs.Sending.{block_end}
 use Rattle.lisp_etr.specs.declared.send_fault.SendFault.TheVariants as send_faults
+use Rattle.lisp_etr.specs.declared.start_fault.StartFault.TheVariants as start_faults
 use Rattle.lisp_admission.specs.Pairs.{notice_pair, pair_of}
 use Rattle.lisp_admission.specs.declared.refused.Refused.TheVariants as refuseds
 use Rattle.lisp_model.specs.Legal.{Legal, context_of}
@@ -128,9 +129,9 @@ doubt_of_a_message_without_memory l = adds_is_not_same blank (got_from one) 1 (l
 save_damaged : Legal opening [] (step (events.Send 2 0 0 fates.Doubt) (lines.Refused 2 (refusals.Send (send_faults.Store stores.Damaged))) 2 (doubts blank (sent_by one) 1)) → ⊥
 save_damaged l = l.row.3.1.fails.sound refl
 
--- a store counts fewer faults than before
-fewer_faults : Legal opening not_started (step (events.Restart 2 0 None) (lines.Restarted 2) 2 (at one_sent 2)) → ⊥
-fewer_faults l = let more : 1 ≤ 0 = l.faults in absurd (omega (arith, more))
+-- a store counts fewer faults than before, and nothing restarted
+fewer_faults : Legal opening not_started (step (events.Restart 2 0 None) (lines.Refused 2 (refusals.Start (start_faults.Store stores.Device))) 2 (at one_sent 2)) → ⊥
+fewer_faults l = let more : 1 ≤ 0 = l.faults refl in absurd (omega (arith, more))
 
 -- a store is another one after its call
 other_store : Legal obedient [] (step (events.Change 2 []) (lines.Changed 2 0) 2 blank) → ⊥

@@ -1,4 +1,4 @@
--- Time passes: each Map-Server drops its dead rows, and nothing else changes.
+-- Time passes: each Map-Server drops some of its dead rows, and nothing else changes.
 use Rattle.std.proofs.Common.{◌≡◌, ℕ, ◌+◌, ◌-◌, ◌≤◌, Bool, true, false, true≢false, List, ◌∷◌, length, append-nil, Option, Some, None, refl, sym, ap, subst, ◌∙◌, arith}
 use Rattle.std.specs.Prelude.{if◌then◌else◌, slice_get}
 use Rattle.std.specs.List.{find}
@@ -24,9 +24,10 @@ use Rattle.lisp_model.proofs.Locality.{leaves_others}
 use Rattle.lisp_refinement.specs.World.{ServerNodeState, RouterNodeState, WorldState}
 use Rattle.lisp_refinement.specs.Events.{ExpiresNode, NetworkTicks}
 use Rattle.lisp_refinement.specs.Stands.{Shows, StandsInSteps, StandsInBag, StandsForServer, Stands, StandsAfter}
-use Rattle.lisp_refinement.proofs.Gets.{none_is_some, get_within}
+use Rattle.lisp_refinement.proofs.Gets.{none_is_some, same_some, get_within}
 use Rattle.lisp_refinement.proofs.Going.{StandsForRows, server_rows, server_goes, router_stays}
 use Rattle.lisp_refinement.proofs.Acting.{server_is, router_is, router_number}
+use Rattle.lisp_refinement.specs.Passing.{PassesNode, NetworkPasses, PassingStands, TicksArePasses, IdlingPasses}
 
 -- what is alive later is alive now
 alive_before : (h : RowValue) (now later : ℕ) → now ≤ later → is_alive h later ≡ true → is_alive h now ≡ true
@@ -59,12 +60,12 @@ earlier_row now later le (Some h) g e = let alive : is_alive h later ≡ true = 
 held_before : (all : List Acceptance) (router : RouterId) (eid : PrefixValue) (now later : ℕ) (h : RowValue) → now ≤ later → held_row all router eid later ≡ Some h → held_row all router eid now ≡ Some h
 held_before all router eid now later h le is = earlier_row now later le _ h is
 
--- a server that drops its dead rows holds what is held then
-rows_expire : (n m : ServerNodeState) (all : List Acceptance) (now later : ℕ) → now ≤ later → ExpiresNode n m later → StandsForRows n all now → StandsForRows m all later
-rows_expire n m all now later le expires stand = record {
-  rows = λ router eid. ap (option_and_then (if_alive later)) (expires.rows router eid) ∙ alive_twice later later (omega arith) _ ∙ sym (alive_twice now later le (row_at n.core.rows router eid))
+-- a server that drops dead rows alone holds what is held then
+pub rows_pass : (n m : ServerNodeState) (all : List Acceptance) (now later : ℕ) → now ≤ later → PassesNode n m later → StandsForRows n all now → StandsForRows m all later
+rows_pass n m all now later le passes stand = record {
+  rows = λ router eid. passes.rows router eid ∙ sym (alive_twice now later le (row_at n.core.rows router eid))
       ∙ ap (option_and_then (if_alive later)) (stand.rows router eid) ∙ alive_twice now later le (find (is_row_of router eid) (accepted_rows all));
-  contacts = λ router eid h is. ap (λ (x : ServerNodeState). contact_at x.core.contacts router) expires.rest ∙ stand.contacts router eid h (held_before all router eid now later h le is);
+  contacts = λ router eid h is. ap (λ (x : ServerNodeState). contact_at x.core.contacts router) passes.rest ∙ stand.contacts router eid h (held_before all router eid now later h le is);
 }
 
 -- nobody acts: the number of all nodes
@@ -84,7 +85,7 @@ module _ (old : WorldState) (ms : ℕ) (bound : old.clock + ms ≤ max_moment) (
   -- it is legal
   tick_legal : Legal o T passed
   tick_legal = record {
-    faults = omega arith;
+    faults = λ other. omega arith;
     obedient = refl;
     row = record {
       names = refl;
@@ -111,67 +112,109 @@ module _ (old : WorldState) (ms : ℕ) (bound : old.clock + ms ≤ max_moment) (
   router_other k n there = tick_leaves.router (length o.config.servers + k) (ap (λ m. is_router o.config m) (sym (router_number old o T stand k)) ∙ router_is old o T stand k n there)
       (λ same. absurd (omega (arith, same, slice_get_within old.routers k n there, stand.steps.routers)))
 
--- each node of the new network is one of the old one, if it is a server without its dead rows
-module _ (old new : WorldState) (ms : ℕ) (line : Line) (ticks : NetworkTicks old new ms line) (o : Opening) (T : List Step) (stand : Stands old o T) where
+-- each node of the new network is one of the old one, if it is a server without some of its dead rows
+module _ (old new : WorldState) (ms : ℕ) (line : Line) (passes : NetworkPasses old new ms line) (o : Opening) (T : List Step) (stand : Stands old o T) where
   -- the trace with the step
   abbrev next : List Step
-  next = passed old ms ticks.bound o T stand ∷ T
+  next = passed old ms passes.bound o T stand ∷ T
 
-  -- a server is one of the old ones without its dead rows
-  server_was : (k : ℕ) (m : ServerNodeState) → slice_get new.servers k ≡ Some m → (n : ServerNodeState) × (slice_get old.servers k ≡ Some n) × ExpiresNode n m (old.clock + ms)
+  -- a server is one of the old ones without some of its dead rows
+  server_was : (k : ℕ) (m : ServerNodeState) → slice_get new.servers k ≡ Some m → (n : ServerNodeState) × (slice_get old.servers k ≡ Some n) × PassesNode n m (old.clock + ms)
   server_was k m there =
-      let was = get_within old.servers k (omega (arith, slice_get_within new.servers k m there, ticks.count)) in
-      (was.0, was.1, ticks.each k was.0 m was.1 there)
+      let was = get_within old.servers k (omega (arith, slice_get_within new.servers k m there, passes.count)) in
+      (was.0, was.1, passes.each k was.0 m was.1 there)
 
   -- a router is one of the old ones
   router_was : (k : ℕ) (n : RouterNodeState) → slice_get new.routers k ≡ Some n → slice_get old.routers k ≡ Some n
-  router_was k n there = ap (λ (w : WorldState). slice_get w.routers k) (sym ticks.left) ∙ there
+  router_was k n there = ap (λ (w : WorldState). slice_get w.routers k) (sym passes.left) ∙ there
 
   -- such a server stands
-  server_case : (k : ℕ) (n m : ServerNodeState) → slice_get old.servers k ≡ Some n → ExpiresNode n m (old.clock + ms) → StandsForServer o next k m
-  server_case k n m was expires =
-      let same = server_other old ms ticks.bound o T stand k n was in
+  server_case : (k : ℕ) (n m : ServerNodeState) → slice_get old.servers k ≡ Some n → PassesNode n m (old.clock + ms) → StandsForServer o next k m
+  server_case k n m was gone =
+      let same = server_other old ms passes.bound o T stand k n was in
       let moment : old.clock + ms ≡ clock T + ms = ap (λ a. a + ms) stand.bag.moment in
-      server_goes o T next k n (stand.servers k n was) same (tick_leaves old ms ticks.bound o T stand).sent m expires.rest
+      server_goes o T next k n (stand.servers k n was) same (tick_leaves old ms passes.bound o T stand).sent m gone.rest
       (subst (λ (all : List Acceptance). StandsForRows m all (clock T + ms)) (sym same.since)
-      (rows_expire n m (since_start o T k) (clock T) (clock T + ms) (omega arith) (subst (λ a. ExpiresNode n m a) moment expires) (server_rows o T next k n (stand.servers k n was) same (tick_leaves old ms ticks.bound o T stand).sent)))
+      (rows_pass n m (since_start o T k) (clock T) (clock T + ms) (omega arith) (subst (λ a. PassesNode n m a) moment gone) (server_rows o T next k n (stand.servers k n was) same (tick_leaves old ms passes.bound o T stand).sent)))
 
   -- its store shows what the trace says
-  store_case : (k : ℕ) (n m : ServerNodeState) → slice_get old.servers k ≡ Some n → ExpiresNode n m (old.clock + ms) → Shows m.store (shown_store o next k)
-  store_case k n m was expires = subst (λ (p : StoreState × ShownStore). Shows p.0 p.1)
-      (λ i. (ap (λ (x : ServerNodeState). x.store) (sym expires.rest) i, sym (server_other old ms ticks.bound o T stand k n was).shown i)) (stand.steps.server_stores k n was)
+  store_case : (k : ℕ) (n m : ServerNodeState) → slice_get old.servers k ≡ Some n → PassesNode n m (old.clock + ms) → Shows m.store (shown_store o next k)
+  store_case k n m was gone = subst (λ (p : StoreState × ShownStore). Shows p.0 p.1)
+      (λ i. (ap (λ (x : ServerNodeState). x.store) (sym gone.rest) i, sym (server_other old ms passes.bound o T stand k n was).shown i)) (stand.steps.server_stores k n was)
 
   -- steps and stores stand
-  steps_tick : StandsInSteps new o next
-  steps_tick = record {
-    sites = ap (λ (w : WorldState). w.sites) ticks.left ∙ stand.steps.sites;
-    addresses = ap (λ (w : WorldState). w.addresses) ticks.left ∙ stand.steps.addresses;
+  steps_pass : StandsInSteps new o next
+  steps_pass = record {
+    sites = ap (λ (w : WorldState). w.sites) passes.left ∙ stand.steps.sites;
+    addresses = ap (λ (w : WorldState). w.addresses) passes.left ∙ stand.steps.addresses;
     network = stand.steps.network;
-    legal = (tick_legal old ms ticks.bound o T stand, stand.steps.legal);
-    servers = ticks.count ∙ stand.steps.servers;
-    routers = ap (λ (w : WorldState). length w.routers) ticks.left ∙ stand.steps.routers;
+    legal = (tick_legal old ms passes.bound o T stand, stand.steps.legal);
+    servers = passes.count ∙ stand.steps.servers;
+    routers = ap (λ (w : WorldState). length w.routers) passes.left ∙ stand.steps.routers;
     server_stores = λ k m there. (let was = server_was k m there in store_case k was.0 m was.1 was.2);
-    router_stores = λ k n there. subst (λ (x : ShownStore). Shows n.store x) (sym (router_other old ms ticks.bound o T stand k n (router_was k n there)).shown) (stand.steps.router_stores k n (router_was k n there));
+    router_stores = λ k n there. subst (λ (x : ShownStore). Shows n.store x) (sym (router_other old ms passes.bound o T stand k n (router_was k n there)).shown) (stand.steps.router_stores k n (router_was k n there));
   }
 
   -- clock and bag stand
-  bag_tick : StandsInBag new o next
-  bag_tick = record {
-    moment = ap (λ (w : WorldState). w.clock) ticks.left ∙ ap (λ a. a + ms) stand.bag.moment;
-    bound = omega (arith, ticks.bound, stand.bag.moment);
-    count = ap (λ (w : WorldState). length w.bag) ticks.left ∙ stand.bag.count ∙ ap (λ (items : List Item). length items) (sym (append-nil (bag o T)));
-    each = λ k d i one other. stand.bag.each k d i (ap (λ (w : WorldState). slice_get w.bag k) (sym ticks.left) ∙ one) (ap (λ (items : List Item). slice_get items k) (sym (append-nil (bag o T))) ∙ other);
+  bag_pass : StandsInBag new o next
+  bag_pass = record {
+    moment = ap (λ (w : WorldState). w.clock) passes.left ∙ ap (λ a. a + ms) stand.bag.moment;
+    bound = omega (arith, passes.bound, stand.bag.moment);
+    count = ap (λ (w : WorldState). length w.bag) passes.left ∙ stand.bag.count ∙ ap (λ (items : List Item). length items) (sym (append-nil (bag o T)));
+    each = λ k d i one other. stand.bag.each k d i (ap (λ (w : WorldState). slice_get w.bag k) (sym passes.left) ∙ one) (ap (λ (items : List Item). slice_get items k) (sym (append-nil (bag o T))) ∙ other);
   }
 
   -- so all stands
-  tick_here : Stands new o next
-  tick_here = record {
-    steps = steps_tick;
-    bag = bag_tick;
+  pass_here : Stands new o next
+  pass_here = record {
+    steps = steps_pass;
+    bag = bag_pass;
     servers = λ k m there. (let was = server_was k m there in server_case k was.0 m was.1 was.2);
-    routers = λ k n there. router_stays o T next (length o.config.servers + k) (router_other old ms ticks.bound o T stand k n (router_was k n there)) n (stand.routers k n (router_was k n there));
+    routers = λ k n there. router_stays o T next (length o.config.servers + k) (router_other old ms passes.bound o T stand k n (router_was k n there)) n (stand.routers k n (router_was k n there));
   }
 
--- a network stands for a trace with a tick
+-- a network stands for a trace with a pass
+pub passing_stands : PassingStands
+passing_stands old new ms line passes o T stand = (nobody o, shown_store o T (nobody o), subst (λ (l : Line). Stands new o (tick o T ms l ∷ T)) (sym passes.said) (pass_here old new ms line passes o T stand))
+
+-- who drops all dead rows keeps the live ones
+pub expired_passes : (n m : ServerNodeState) (now : ℕ) → ExpiresNode n m now → PassesNode n m now
+expired_passes n m now expires = record {
+  rows = λ router eid. ap (option_and_then (if_alive now)) (expires.rows router eid) ∙ alive_twice now now (omega arith) (row_at n.core.rows router eid);
+  rest = expires.rest;
+}
+
+-- and so does who drops none
+pub idle_passes : (n : ServerNodeState) (now : ℕ) → PassesNode n n now
+idle_passes n now = record { rows = λ router eid. refl; rest = refl }
+
+-- the live rows of later stay, whatever went before
+pub pass_twice : (a b c : ServerNodeState) (now later : ℕ) → now ≤ later → PassesNode a b now → PassesNode b c later → PassesNode a c later
+pass_twice a b c now later le first second = record {
+  rows = λ router eid. second.rows router eid ∙ sym (alive_twice now later le (row_at b.core.rows router eid))
+      ∙ ap (option_and_then (if_alive later)) (first.rows router eid) ∙ alive_twice now later le (row_at a.core.rows router eid);
+  rest = second.rest ∙ ap (λ (x : ServerNodeState). record x { core = record x.core { rows = c.core.rows } }) first.rest;
+}
+
+-- in networks
+pub ticks_are_passes : TicksArePasses
+ticks_are_passes old new ms line ticks = record {
+  bound = ticks.bound;
+  count = ticks.count;
+  each = λ k n m was is. expired_passes n m (old.clock + ms) (ticks.each k n m was is);
+  left = ticks.left;
+  said = ticks.said;
+}
+
+pub idling_passes : IdlingPasses
+idling_passes w ms bound = record {
+  bound = bound;
+  count = refl;
+  each = λ k n m was is. subst (λ (x : ServerNodeState). PassesNode n x (w.clock + ms)) (same_some n m (sym was ∙ is)) (idle_passes n (w.clock + ms));
+  left = refl;
+  said = refl;
+}
+
+-- so a network stands for a trace with a tick
 pub tick_stands : (old new : WorldState) (ms : ℕ) (line : Line) → NetworkTicks old new ms line → StandsAfter old new (events.Tick ms) line
-tick_stands old new ms line ticks o T stand = (nobody o, shown_store o T (nobody o), subst (λ (l : Line). Stands new o (tick o T ms l ∷ T)) (sym ticks.said) (tick_here old new ms line ticks o T stand))
+tick_stands old new ms line ticks = passing_stands old new ms line (ticks_are_passes old new ms line ticks)
