@@ -77,10 +77,18 @@ impl<S: WorldStore, A: Memory + Copy> ServerNode<S, A> {
         ensures { result
             ≡ record { core = fresh_server sites; store = S.seen store; started = 0 } }
     {
+        ServerNode::start_at(alloc, sites, store, 0)
+    }
+
+    /// As `start`, at a moment, in ms. Takes no memory.
+    pub fn start_at(alloc: A, sites: Sites<A>, store: S, now: u64) -> ServerNode<S, A>
+        ensures { result
+            ≡ record { core = fresh_server sites; store = S.seen store; started = now } }
+    {
         ServerNode {
             core: Server::start(alloc, sites),
             store,
-            started: 0,
+            started: now,
         }
     }
 

@@ -1,5 +1,5 @@
--- Each node that begins over an honest store stands in a network at its opening: the other nodes begin over stores that keep
--- nothing.
+-- Each node that begins over an honest store with its network stands in that at its opening: the other nodes begin over stores that
+-- keep nothing.
 use Rattle.std.proofs.Common.{◌≡◌, inl, inr, ℕ, ◌+◌, ◌<◌, List, [], length, map, replicate, Some, refl, sym, ap, subst, ◌∙◌, arith}
 use Rattle.std.specs.Prelude.{◌≢◌, slice_get, slice_set, IsTrue}
 use Rattle.std.specs.Option.{option_map}
@@ -8,15 +8,15 @@ use Rattle.std.proofs.lemmas.Option.{slice_get-map, slice_get_within}
 use Rattle.lisp_policy.specs.Configuration.{ConfigValue}
 use Rattle.lisp_nonces.specs.Store.{StoreState}
 use Rattle.lisp_model.specs.Network.{IsNetwork}
-use Rattle.lisp_model.specs.Trace.{addresses, shown_store}
+use Rattle.lisp_model.specs.Trace.{Opening, addresses, shown_store}
 use Rattle.lisp_refinement.specs.World.{ServerNodeState, RouterNodeState, WorldState}
 use Rattle.lisp_refinement.specs.Stands.{Stands}
 use Rattle.lisp_refinement.proofs.Gets.{AtSet, get_set, get_mapped, get_replicate}
 use Rattle.lisp_world.specs.Making.{server_over, router_over, IsRouterOver, AreServers, AreRouters, HasStarted, HaveStarted}
 use Rattle.lisp_world.specs.Openings.{opening}
 use Rattle.lisp_world.proofs.Making.{made_stands}
-use Rattle.lisp_turns.specs.Beginning.{BeginningsOpen}
-use Rattle.lisp_turns.specs.Node.{Server, Router, HasNode}
+use Rattle.lisp_turns.specs.Beginning.{Begins}
+use Rattle.lisp_turns.specs.Node.{NodeState, Server, Router, HasNode}
 use Rattle.lisp_turns.proofs.Acting.{get_set_there}
 use Rattle.lisp_turns.proofs.BeginningStores.{get_set_other, blank, started_over, has_started, node_count, stores_with, stores_count, its_store, other_store, all_honest}
 
@@ -142,8 +142,18 @@ module _ (c : ConfigValue) (number : ℕ) (store : StoreState) where
     has_router : slice_get started_with place ≡ Some n
     has_router = get_set_there all_started place n (omega (arith, within, length-map c.routers (started_over c)))
 
--- so it is with each node that begins
-pub beginnings_open : BeginningsOpen
+-- a network at its opening, which has a node
+pub record IsOpening (c : ConfigValue) (number : ℕ) (store : StoreState) (node : NodeState) (w : WorldState) (o : Opening) : Type 0 where
+  pub stands : Stands w o []
+  pub config_is : o.config ≡ c
+  pub kept : (shown_store o [] number).kept ≡ store.kept
+  pub has : HasNode w number node
+  pub clock : w.clock ≡ 0
+  pub bag : w.bag ≡ []
+
+-- so it is with each node that begins with its network
+pub beginnings_open : (c : ConfigValue) (number : ℕ) (store : StoreState) (node : NodeState) → IsNetwork c → IsTrue store.is_honest → Begins c number store 0 node
+    → (w : WorldState) × (o : Opening) × IsOpening c number store node w o
 beginnings_open c number store (Server n) network honest (low, is) =
     let w : WorldState = network_of c number store (all_started c number store) in
     let stands : Stands w (opening c w) [] = opens c number store (all_down c number store) (all_started c number store) (from_server c number store low) network honest in

@@ -25,6 +25,7 @@ pub mod OwnActs
 pub mod Parts
 pub mod BeginningStores
 pub mod Beginnings
+pub mod BeginningLater
 pub mod Running
 pub mod Examples
 pub mod ExamplesOfActs

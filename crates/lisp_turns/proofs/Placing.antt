@@ -10,12 +10,12 @@ use Rattle.lisp_refinement.specs.World.{RouterNodeState}
 use Rattle.lisp_refinement.specs.Calls.{config_of}
 use Rattle.lisp_refinement.specs.Nodes.{up_in}
 use Rattle.lisp_refinement.proofs.Gets.{same_some}
-use Rattle.lisp_world.specs.Making.{IsRouterOver, HasStarted}
+use Rattle.lisp_world.specs.Making.{IsRouterOver, StartsAt}
 use Rattle.lisp_turns.specs.Beginning.{Begins}
 use Rattle.lisp_turns.specs.Node.{NodeState, Server, Router, HasRounds, IsPlaced}
 
 -- a router that started has rounds for each of its Map-Servers
-module _ (config : ConfigValue) (place : ℕ) (store : StoreState) (down n : RouterNodeState) (over : IsRouterOver config place store down) (started : HasStarted down n) where
+module _ (config : ConfigValue) (place : ℕ) (store : StoreState) (now : ℕ) (down n : RouterNodeState) (over : IsRouterOver config place store down) (started : StartsAt down n now) where
   its_list : n.servers ≡ over.0.servers
   its_list = started.servers ∙ ap (λ (r : RouterNodeState). r.servers) over.2
 
@@ -26,9 +26,9 @@ module _ (config : ConfigValue) (place : ℕ) (store : StoreState) (down n : Rou
   started_rounds etr up =
       let start = started.starts.starts in
       let its : start.etr ≡ etr = same_some start.etr etr (sym (ap up_in start.up) ∙ up) in
-      ap (λ (e : EtrState). length e.rounds) (sym its ∙ start.starts) ∙ length-replicate (length (config_of down.core).servers) (first_rounds 0) ∙ its_servers ∙ ap (λ (l : List ℕ). length l) (sym its_list)
+      ap (λ (e : EtrState). length e.rounds) (sym its ∙ start.starts) ∙ length-replicate (length (config_of down.core).servers) (first_rounds now) ∙ its_servers ∙ ap (λ (l : List ℕ). length l) (sym its_list)
 
-pub begins_placed : (config : ConfigValue) (number : ℕ) (store : StoreState) (node : NodeState) → Begins config number store node → IsPlaced config number node
-begins_placed config number store (Server n) begins = begins.0
-begins_placed config number store (Router n) begins =
-    (begins.0, begins.3.0, begins.1, begins.3.1, its_list config begins.0 store begins.2 n begins.3 begins.4, started_rounds config begins.0 store begins.2 n begins.3 begins.4)
+pub begins_placed : (config : ConfigValue) (number : ℕ) (store : StoreState) (now : ℕ) (node : NodeState) → Begins config number store now node → IsPlaced config number node
+begins_placed config number store now (Server n) begins = begins.0
+begins_placed config number store now (Router n) begins =
+    (begins.0, begins.3.0, begins.1, begins.3.1, its_list config begins.0 store now begins.2 n begins.3 begins.4, started_rounds config begins.0 store now begins.2 n begins.3 begins.4)

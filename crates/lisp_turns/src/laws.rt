@@ -1,6 +1,6 @@
 //! What turns come to, as laws: each function's contract is a law, and its body is empty.
 
-ghost use Rattle.lisp_turns.specs.Beginning.{BeginningsOpen};
+ghost use Rattle.lisp_turns.specs.Beginning.{BeginningsStand};
 ghost use Rattle.lisp_turns.specs.Order.{FaultsAgree};
 ghost use Rattle.lisp_turns.specs.Part.{TurnsAreParts};
 
@@ -13,10 +13,10 @@ pub fn turns_are_parts<A: Allocator>()
     ensures { TurnsAreParts A }
 {}
 
-/// Each node that begins over an honest store stands in a network at its opening, whose store of that node keeps what this
-/// store kept.
-pub fn beginnings_open()
-    ensures { BeginningsOpen }
+/// Each node that begins over a store as it may, at any moment, stands in a network, whose store of that node kept at the opening what
+/// this store keeps.
+pub fn beginnings_stand()
+    ensures { BeginningsStand }
 {}
 
 /// What keeps a node from being told something, by its own state, is the fault of each network that has it: of a node whose store is

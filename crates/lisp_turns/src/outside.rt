@@ -151,7 +151,8 @@ pub trait Requests: Outside {
 
 /// A node's clock.
 pub trait Clock: Outside {
-    /// How many ms it is since the node's start, at most 2^62, and no fewer than it said before.
+    /// How many ms it is since a moment that all nodes share (the start of 1970, of a node on sockets), at most 2^62, and no fewer than it
+    /// said before.
     fn now(&mut self) -> u64
         ensures { ReadsClock (Self.seen self.old) (Self.seen self.new) result };
 

@@ -19,7 +19,7 @@ use Rattle.lisp_refinement.proofs.Noticing.{notice_stands}
 use Rattle.lisp_refinement.proofs.Resending.{resend_stands}
 use Rattle.lisp_refinement.proofs.Rotating.{rotate_stands}
 use Rattle.lisp_refinement.proofs.Sending.{send_stands}
-use Rattle.lisp_refinement.proofs.Ticking.{tick_stands}
+use Rattle.lisp_refinement.proofs.Passing.{tick_stands}
 use Rattle.lisp_refinement.proofs.Taking.{delivers_stand, junk_stands, restarts_stand}
 use Rattle.lisp_world.specs.Faults.{datagram_fault, node_fault, pair_fault, refusal_of, restart_fault, router_fault, router_key_fault, tick_fault, used_before_loss, used_ever}
 use Rattle.lisp_world.specs.Taking.{TookEvent}

@@ -78,12 +78,16 @@ abbrev pub AreMade : {X : Type 0} → ConfigValue → (X → StoreState) → Lis
     → List RouterNodeState → Type 0
 AreMade c seen stores servers routers = AreNodes c (map seen stores) servers routers
 
--- a router started at the moment 0
-pub record HasStarted (old new : RouterNodeState) : Type 0 where
+-- a router started at a moment
+pub record StartsAt (old new : RouterNodeState) (now : ℕ) : Type 0 where
   pub me : new.me ≡ old.me
   pub servers : new.servers ≡ old.servers
   pub used : new.used ≡ old.used
-  pub starts : NodeStarts old new None 0 (Ok tt)
+  pub starts : NodeStarts old new None now (Ok tt)
+
+-- as its network begins
+abbrev pub HasStarted : RouterNodeState → RouterNodeState → Type 0
+HasStarted old new = StartsAt old new 0
 
 -- so did each router
 pub record HaveStarted (old new : List RouterNodeState) : Type 0 where

@@ -1,0 +1,182 @@
+-- A node that begins when its network is some time old: it began with the network, time passed, and it began again.
+use Rattle.std.proofs.Common.{◌≡◌, inl, inr, ℕ, ◌+◌, ◌<◌, false, List, [], ◌∷◌, length, None, Ok, refl, sym, ap, subst, true≢false, ◌∙◌, arith}
+use Rattle.std.specs.Prelude.{◌++◌, ◌≤◌, slice_set, IsTrue}
+use Rattle.std.specs.List.{Contains}
+use Rattle.std.proofs.lemmas.List.{append-nil}
+use Rattle.std.proofs.lemmas.Option.{slice_get_within}
+use Rattle.lisp_records.specs.Moment.{max_moment}
+use Rattle.lisp_policy.specs.Configuration.{ConfigValue}
+use Rattle.lisp_nonces.specs.Kept.{Kept, kept_at, KeepsSome}
+use Rattle.lisp_nonces.specs.Store.{StoreState}
+use Rattle.lisp_etr.specs.Etr.{etr_started}
+use Rattle.lisp_model.specs.declared.event.Event.TheVariants as events
+use Rattle.lisp_model.specs.declared.line.Line.TheVariants as lines
+use Rattle.lisp_model.specs.Network.{IsNetwork}
+use Rattle.lisp_model.specs.Trace.{Step, Opening}
+use Rattle.lisp_refinement.specs.World.{ServerNodeState, RouterNodeState, Up, WorldState}
+use Rattle.lisp_refinement.specs.Calls.{config_of, database_of, CoreAnswersStartOver}
+use Rattle.lisp_refinement.specs.Reopening.{StoreReopens}
+use Rattle.lisp_refinement.specs.Stands.{Stands, StandsAfter}
+use Rattle.lisp_refinement.proofs.Restarting.{reopen_server_stands, reopen_router_stands}
+use Rattle.lisp_refinement.proofs.Passing.{passing_stands, idling_passes}
+use Rattle.lisp_world.specs.Making.{server_over, IsRouterOver, StartsAt}
+use Rattle.lisp_turns.specs.Beginning.{Begins, IsBeginning, BeginningsStand}
+use Rattle.lisp_turns.specs.Node.{NodeState, Server, Router, HasNode}
+use Rattle.lisp_turns.proofs.Acting.{get_set_there}
+use Rattle.lisp_turns.proofs.Beginnings.{IsOpening, beginnings_open}
+
+-- a store that is opened as it was left
+as_left : (old new : StoreState) → KeepsSome new.kept → new.is_obedient ≡ false → new.kept ≡ old.kept → new.is_honest ≡ old.is_honest → new.is_obedient ≡ old.is_obedient → StoreReopens old new 0
+as_left old new some unscheduled kept honest obedient = record {
+  narrows = λ is q. record { some = some q; each = λ v has. subst (λ (k : Kept). Contains (kept_at k q) v) kept has };
+  picks = λ obeys. absurd (true≢false (sym obeys ∙ sym obedient ∙ unscheduled));
+  honest = honest;
+  obedient = obedient;
+}
+
+-- time passed in the network of a node that began with it
+module _ (c : ConfigValue) (number : ℕ) (store : StoreState) (now : ℕ) (bound : now ≤ max_moment) (first : NodeState) (w : WorldState) (o : Opening) (opens : IsOpening c number store first w o) where
+  abbrev waited : WorldState
+  waited = record w { clock = w.clock + now }
+
+  moment_is : w.clock + now ≡ now
+  moment_is = omega (arith, opens.clock)
+
+  waits : StandsAfter w waited (events.Tick now) (lines.Ticked now (w.clock + now))
+  waits = passing_stands w waited now (lines.Ticked now (w.clock + now)) (idling_passes w now (omega (arith, moment_is, bound)))
+
+  abbrev passed : Step
+  passed = (let after = waits o [] opens.stands in record { event = events.Tick now; line = lines.Ticked now (w.clock + now); actor = after.0; shown = after.1 })
+
+  waited_stands : Stands waited o (passed ∷ [])
+  waited_stands = (waits o [] opens.stands).2
+
+  -- it began again, and the network has it
+  module _ (node : NodeState) (left : WorldState) (begins : StandsAfter waited left (events.Restart number 0 None) (lines.Restarted number)) (has : HasNode left number node)
+      (clock : left.clock ≡ waited.clock) (bag : left.bag ≡ waited.bag ++ []) where
+    abbrev began : Step
+    began = (let after = begins o (passed ∷ []) waited_stands in record { event = events.Restart number 0 None; line = lines.Restarted number; actor = after.0; shown = after.1 })
+
+    begins_again : (v : WorldState) × (p : Opening) × (T : List Step) × IsBeginning c number store now node v p T
+    begins_again = (
+      left,
+      o,
+      began ∷ passed ∷ [],
+      record {
+        stands = (begins o (passed ∷ []) waited_stands).2;
+        begun = inr (began, passed, refl, refl, refl, refl);
+        config_is = opens.config_is;
+        kept = opens.kept;
+        has = has;
+        clock = clock ∙ moment_is;
+        bag = bag ∙ append-nil w.bag ∙ opens.bag;
+      },
+    )
+
+-- a Map-Server
+module _ (c : ConfigValue) (number : ℕ) (store : StoreState) (now : ℕ) (bound : now ≤ max_moment) (some : KeepsSome store.kept) (unscheduled : store.is_obedient ≡ false) (low : number < length c.servers)
+    (w : WorldState) (o : Opening) (opens : IsOpening c number store (Server (server_over c store)) w o) where
+  abbrev server_then : ServerNodeState
+  server_then = record (server_over c store) { started = now }
+
+  abbrev server_waited : WorldState
+  server_waited = waited c number store now bound (Server (server_over c store)) w o opens
+
+  abbrev with_server : WorldState
+  with_server = record server_waited { bag = server_waited.bag ++ []; servers = slice_set server_waited.servers number server_then }
+
+  server_begins : StandsAfter server_waited with_server (events.Restart number 0 None) (lines.Restarted number)
+  server_begins = reopen_server_stands server_waited with_server number 0 (lines.Restarted number) (record {
+    acts = record { before = server_over c store; after = server_then; was = opens.has; left = refl };
+    core = refl;
+    reopens = as_left store store some unscheduled refl refl refl;
+    started = sym (moment_is c number store now bound (Server (server_over c store)) w o opens);
+    said = refl;
+  })
+
+  server_later : (v : WorldState) × (p : Opening) × (T : List Step) × IsBeginning c number store now (Server server_then) v p T
+  server_later = begins_again c number store now bound (Server (server_over c store)) w o opens (Server server_then) with_server server_begins
+      (get_set_there w.servers number server_then (slice_get_within w.servers number (server_over c store) opens.has)) refl refl
+
+-- a router: it started with its network as it starts now
+module _ (c : ConfigValue) (number : ℕ) (store : StoreState) (now : ℕ) (bound : now ≤ max_moment) (some : KeepsSome store.kept) (unscheduled : store.is_obedient ≡ false) (honest : IsTrue store.is_honest)
+    (place : ℕ) (number_is : number ≡ length c.servers + place) (down n : RouterNodeState) (over : IsRouterOver c place store down) (starts : StartsAt down n now) where
+  over_store : down.store ≡ store
+  over_store = ap (λ (x : RouterNodeState). x.store) over.2
+
+  down_honest : IsTrue down.store.is_honest
+  down_honest = subst (λ (s : StoreState). IsTrue s.is_honest) (sym over_store) honest
+
+  abbrev router_first : RouterNodeState
+  router_first = record n { core = Up (etr_started (config_of down.core) (database_of down.core) starts.starts.starts.etr.last 0) }
+
+  starts_first : StartsAt down router_first 0
+  starts_first = record {
+    me = starts.me;
+    servers = starts.servers;
+    used = starts.used;
+    starts = record {
+      starts = record { etr = etr_started (config_of down.core) (database_of down.core) starts.starts.starts.etr.last 0; up = refl; starts = refl; last = starts.starts.starts.last };
+      same = starts.starts.same;
+      proceeds = starts.starts.proceeds;
+    };
+  }
+
+  module _ (w : WorldState) (o : Opening) (opens : IsOpening c number store (Router router_first) w o) where
+    abbrev router_waited : WorldState
+    router_waited = waited c number store now bound (Router router_first) w o opens
+
+    abbrev at : ℕ
+    at = opens.has.0
+
+    abbrev with_router : WorldState
+    with_router = record router_waited { bag = router_waited.bag ++ []; routers = slice_set router_waited.routers at n }
+
+    reopens : StoreReopens n.store down.store 0
+    reopens = as_left n.store down.store (subst (λ (s : StoreState). KeepsSome s.kept) (sym over_store) some) (ap (λ (s : StoreState). s.is_obedient) over_store ∙ unscheduled)
+        (sym (starts.starts.same down_honest)) (sym starts.starts.proceeds.honest) (sym starts.starts.proceeds.obedient)
+
+    router_begins : StandsAfter router_waited with_router (events.Restart number 0 None) (lines.Restarted number)
+    router_begins = reopen_router_stands router_waited with_router number 0 None (lines.Restarted number) tt (record {
+      acts = record { place = at; number = opens.has.1; before = router_first; after = n; was = opens.has.2; left = refl };
+      me = refl;
+      servers = refl;
+      used = refl;
+      opened = down.store;
+      reopens = reopens;
+      answer = Ok tt;
+      counts = tt;
+      starts = subst (λ m. CoreAnswersStartOver (config_of down.core) (database_of down.core) m down.store n.store n.core (Ok tt)) (sym (moment_is c number store now bound (Router router_first) w o opens)) starts.starts;
+      said = refl;
+    })
+
+    router_later : (v : WorldState) × (p : Opening) × (T : List Step) × IsBeginning c number store now (Router n) v p T
+    router_later = begins_again c number store now bound (Router router_first) w o opens (Router n) with_router router_begins
+        (at, opens.has.1, get_set_there w.routers at n (slice_get_within w.routers at router_first opens.has.2)) refl refl
+
+-- a node that begins with its network
+begins_with : (c : ConfigValue) (number : ℕ) (store : StoreState) (node : NodeState) → IsNetwork c → IsTrue store.is_honest → Begins c number store 0 node
+    → (w : WorldState) × (o : Opening) × (T : List Step) × IsBeginning c number store 0 node w o T
+begins_with c number store node network honest begins =
+    let first = beginnings_open c number store node network honest begins in
+    let opens = first.2 in
+    (first.0, first.1, [], record { stands = opens.stands; begun = inl (refl, refl); config_is = opens.config_is; kept = opens.kept; has = opens.has; clock = opens.clock; bag = opens.bag })
+
+-- or later
+begins_later : (c : ConfigValue) (number : ℕ) (store : StoreState) (now : ℕ) (node : NodeState) → IsNetwork c → IsTrue store.is_honest → KeepsSome store.kept → store.is_obedient ≡ false → now ≤ max_moment
+    → Begins c number store now node → (w : WorldState) × (o : Opening) × (T : List Step) × IsBeginning c number store now node w o T
+begins_later c number store now (Server n) network honest some unscheduled bound (low, is) =
+    let first = beginnings_open c number store (Server (server_over c store)) network honest (low, refl) in
+    subst (λ (m : ServerNodeState). (w : WorldState) × (o : Opening) × (T : List Step) × IsBeginning c number store now (Server m) w o T) (sym is)
+    (server_later c number store now bound some unscheduled low first.0 first.1 first.2)
+begins_later c number store now (Router n) network honest some unscheduled bound (place, number_is, down, over, starts) =
+    let again = starts_first c number store now bound some unscheduled honest place number_is down n over starts in
+    let first = beginnings_open c number store (Router (router_first c number store now bound some unscheduled honest place number_is down n over starts)) network honest (place, number_is, down, over, again) in
+    router_later c number store now bound some unscheduled honest place number_is down n over starts first.0 first.1 first.2
+
+-- so it is with each node that begins
+pub beginnings_stand : BeginningsStand
+beginnings_stand c number store now node network (honest, inl first) begins =
+    subst (λ m. (w : WorldState) × (o : Opening) × (T : List Step) × IsBeginning c number store m node w o T) (sym first)
+    (begins_with c number store node network honest (subst (λ m. Begins c number store m node) first begins))
+beginnings_stand c number store now node network (honest, inr (some, unscheduled, bound)) begins = begins_later c number store now node network honest some unscheduled bound begins
