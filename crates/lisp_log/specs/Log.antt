@@ -34,14 +34,14 @@ pub record LogState : Type 0 where
   pub replays : List Replay
   pub waiting : WaitingState
 
--- it says first how many pairs the node's store keeps
-abbrev pub begins : ConfigValue → List ℕ → List ℕ → ℕ → LogState
-begins config name servers pairs = record {
+-- at the moment at which it begins it says how many pairs the node's store keeps
+abbrev pub begins : ConfigValue → List ℕ → List ℕ → ℕ → ℕ → LogState
+begins config name servers pairs now = record {
   config = config;
   name = name;
   repeats = [];
   second = 0;
-  silences = never_heard servers;
+  silences = never_heard now servers;
   replays = [];
   waiting = put_line nothing_waits (started_text name pairs);
 }

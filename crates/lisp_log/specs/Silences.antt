@@ -10,9 +10,9 @@ patience = 180000
 abbrev pub again : ℕ
 again = 600000
 
--- none of them has acknowledged at the start
-abbrev pub never_heard : List ℕ → List Silence
-never_heard servers = map (λ server. record { server = server; acknowledged = 0; next_line = 0 }) servers
+-- none of them has acknowledged since a moment, at which their time begins
+abbrev pub never_heard : ℕ → List ℕ → List Silence
+never_heard now servers = map (λ server. record { server = server; acknowledged = now; next_line = now }) servers
 
 -- a Map-Server acknowledges at a moment
 abbrev pub heard : ℕ → ℕ → Silence → Silence

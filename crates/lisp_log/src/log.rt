@@ -50,19 +50,20 @@ impl<'a, A: Allocator> Model for Log<'a, A> {
 
 impl<'a, A: Memory + Copy> Log<'a, A> {
     /// That of a node with a name, which registers with the Map-Servers of these numbers, and whose store keeps so many
-    /// pairs: it says so in its first line. Takes the memory that it keeps; each line takes and gives back its own.
+    /// pairs: it says so in its first line. It begins at a moment, in ms. Takes the memory that it keeps; each line takes and gives back its own.
     pub fn start(
         alloc: A,
         config: &'a Config,
         name: &'a str,
         servers: &[usize],
         pairs: usize,
+        now: u64,
     ) -> Result<Log<'a, A>, AllocError>
-        ensures begins { IfOk result (λ l. l ≡ begins config.now name.now servers.now pairs) }
+        ensures begins { IfOk result (λ l. l ≡ begins config.now name.now servers.now pairs now) }
         ensures memory { OnErr result A.may_refuse }
     {
         let repeats = Repeats::new(alloc)?;
-        let silences = Silences::new(alloc, servers)?;
+        let silences = Silences::new(alloc, servers, now)?;
         let replays = Replays::new(alloc)?;
         let mut waiting = Waiting::new(alloc)?;
         let started = started_text(alloc, name, pairs)?;

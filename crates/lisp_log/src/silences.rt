@@ -20,7 +20,7 @@ pub(crate) const AGAIN_MS: u64 = 600_000;
 pub struct Silence {
     /// The Map-Server's number.
     pub server: usize,
-    /// When it acknowledged last, in ms; 0 before.
+    /// When it acknowledged last, in ms; before, when its time began.
     pub acknowledged: u64,
     /// From when on its silence may be told again, in ms.
     pub next_line: u64,
@@ -43,17 +43,17 @@ impl<A: Allocator> Model for Silences<A> {
 }
 
 impl<A: Memory + Copy> Silences<A> {
-    /// Those of the Map-Servers with these numbers, of which none has acknowledged at 0 ms.
-    pub fn new(alloc: A, servers: &[usize]) -> Result<Silences<A>, AllocError>
-        ensures all { IfOk result (λ s. s ≡ never_heard servers.now) }
+    /// Those of the Map-Servers with these numbers, of which none has acknowledged; their time begins at a moment, in ms.
+    pub fn new(alloc: A, servers: &[usize], now: u64) -> Result<Silences<A>, AllocError>
+        ensures all { IfOk result (λ s. s ≡ never_heard now servers.now) }
         ensures memory { OnErr result A.may_refuse }
     {
         let mut silences = Vec::new(alloc);
         for server in servers {
             silences.try_push(Silence {
                 server: *server,
-                acknowledged: 0,
-                next_line: 0,
+                acknowledged: now,
+                next_line: now,
             })?;
         }
         Ok(Silences { servers: silences })

@@ -1,3 +1,5 @@
+pub mod Growing
+pub mod LifeBegins
 pub mod LivesInOrder
 pub mod Written
 pub mod Places

@@ -4,7 +4,7 @@ use Rattle.lisp_policy.specs.Configuration.{ConfigValue}
 use Rattle.lisp_nonces.specs.Store.{StoreState}
 use Rattle.lisp_turns.specs.Beginning.{Begins}
 use Rattle.lisp_turns.specs.Node.{NodeState}
-use Rattle.lisp_turns.specs.Outside.{OutsideState}
+use Rattle.lisp_turns.specs.Outside.{OutsideState, ReadsClock}
 use Rattle.lisp_turns.specs.Stretch.{EndsTurns}
 use Rattle.lisp_turns.specs.declared.turn.Uncommitted.{Uncommitted}
 use Rattle.lisp_udp.specs.Running.{at_first, TakesItsTurns}
@@ -14,10 +14,13 @@ use Rattle.lisp_udp.specs.Lives.{SaysRestarted, LosesLife, LosesLives, Lives}
 
 -- a life that begins over the store, and ends
 pub record OneLife (A : Type 0) (config : ConfigValue) (number : ℕ) (store : StoreState) (places : ℕ) (answering : Answering) (turns : ℕ) (old new : OutsideState) (ended : Result (Unit {0}) Uncommitted) : Type 0 where
+  pub started : OutsideState
+  pub now : ℕ
+  pub reads : ReadsClock old started now
   pub begun : NodeState
   pub node : NodeState
-  pub begins : Begins config number store begun
-  pub ends : EndsTurns A config number places turns begun node (at_first answering) old new ended
+  pub begins : Begins config number store now begun
+  pub ends : EndsTurns A config number places turns begun node (at_first answering) started new ended
 
 -- lives that were lost, and one behind them
 pub record SoFar (A : Type 0) (config : ConfigValue) (number : ℕ) (store : StoreState) (places : ℕ) (answering : Answering) (turns : ℕ) (old new : OutsideState) (ended : Result (Unit {0}) Uncommitted) : Type 0 where
@@ -26,6 +29,12 @@ pub record SoFar (A : Type 0) (config : ConfigValue) (number : ℕ) (store : Sto
   pub between : OutsideState
   pub lost : LosesLives A config number store places answering turns left count old between
   pub life : OneLife A config number store places answering left between new ended
+
+-- so is one that took its turns from the moment on that the clock told
+one_life : (A : Type 0) (config : ConfigValue) (number : ℕ) (store : StoreState) (places : ℕ) (answering : Answering) (turns : ℕ) (F : Type 0) {O : Type 0} (seen : O → OutsideState) (before : O) (life : Life O)
+    → TakesItsTurns {F = F} A seen config number store places answering turns (Ok before) (Ok life) → OneLife A config number store places answering turns (seen before) (seen life.outside) life.ended
+one_life A config number store places answering turns F seen before life took =
+    record { started = took.0; now = took.1; reads = took.2; begun = took.3; node = took.4; begins = took.5; ends = took.6 }
 
 -- how many turns are left, and one more; none where the last life took all
 abbrev pub left_of : Result (Unit {0}) Uncommitted → ℕ
@@ -36,7 +45,7 @@ left_of (Err lost) = suc lost.turns_left
 lost_life : {A : Type 0} {config : ConfigValue} {number : ℕ} {store : StoreState} {places : ℕ} {answering : Answering} {left : ℕ} {lost : Uncommitted} {between over new : OutsideState}
     → OneLife A config number store places answering left between over (Err lost) → SaysRestarted number over new → LosesLife A config number store places answering left lost.turns_left between new
 lost_life {A} {config} {number} {store} {places} {answering} {left} {lost} {between} {over} life says =
-    record { begun = life.begun; begins = life.begins; lost = over; loses = life.ends; says = says }
+    record { started = life.started; now = life.now; reads = life.reads; begun = life.begun; begins = life.begins; lost = over; loses = life.ends; says = says }
 
 module _ {A : Type 0} {config : ConfigValue} {number : ℕ} {store : StoreState} {places : ℕ} {answering : Answering} {turns : ℕ} {old : OutsideState} where
   pub first : {new : OutsideState} {ended : Result (Unit {0}) Uncommitted} → OneLife A config number store places answering turns old new ended → SoFar A config number store places answering turns old new ended
@@ -59,7 +68,15 @@ module _ {A : Type 0} {config : ConfigValue} {number : ℕ} {store : StoreState}
     left = so_far.left;
     between = so_far.between;
     lost = so_far.lost;
-    last = inl (record { begun = so_far.life.begun; begins = so_far.life.begins; node = so_far.life.node; takes = so_far.life.ends });
+    last = inl (record {
+      started = so_far.life.started;
+      now = so_far.life.now;
+      reads = so_far.life.reads;
+      begun = so_far.life.begun;
+      begins = so_far.life.begins;
+      node = so_far.life.node;
+      takes = so_far.life.ends;
+    });
   }
 
   pub cut_off : {lost : Uncommitted} {over new : OutsideState} → SoFar A config number store places answering turns old over (Err lost) → SaysRestarted number over new
@@ -81,22 +98,22 @@ fewer (Err lost) life = let counted = life.ends.counted in omega (arith, counted
 pub lives_fewer : (A : Type 0) (config : ConfigValue) (number : ℕ) (store : StoreState) (places : ℕ) (answering : Answering) {O : Type 0} (seen : O → OutsideState) (rested : O) (life : Life O)
     {ended : Result (Unit {0}) Uncommitted} {lost : Uncommitted} → ended ≡ Err lost
     → TakesItsTurns {F = Unit {0}} A seen config number store places answering lost.turns_left (Ok rested) (Ok life) → left_of life.ended < left_of ended
-lives_fewer A config number store places answering seen rested life is took =
-    rw is (fewer life.ended (record { begun = took.0; node = took.1; begins = took.2; ends = took.3 }))
+lives_fewer A config number store places answering seen rested life {ended} {lost} is took =
+    rw is (fewer life.ended (one_life A config number store places answering lost.turns_left (Unit {0}) seen rested life took))
 
 -- In what follows `seen` is what is known of what is outside, and it was given at the start, unless it failed.
 module _ (A : Type 0) (config : ConfigValue) (number : ℕ) (store : StoreState) (places : ℕ) (answering : Answering) (turns : ℕ) {O F : Type 0} (seen : O → OutsideState) where
   pub starts_lives : (life : Life O) (outside : Result O F) → TakesItsTurns A seen config number store places answering turns outside (Ok life)
       → IfOk outside (λ before. SoFar A config number store places answering turns (seen before) (seen life.outside) life.ended)
-  starts_lives life (Ok before) took = first (record { begun = took.0; node = took.1; begins = took.2; ends = took.3 })
+  starts_lives life (Ok before) took = first (one_life A config number store places answering turns F seen before life took)
   starts_lives life (Err fault) took = tt
 
   pub lives_on : (rested : O) (life : Life O) {ended : Result (Unit {0}) Uncommitted} {lost : Uncommitted} {over : OutsideState} (outside : Result O F)
       → IfOk outside (λ before. SoFar A config number store places answering turns (seen before) over ended) → ended ≡ Err lost → SaysRestarted number over (seen rested)
       → (seen rested).is_cut ≡ false → TakesItsTurns {F = F} A seen config number store places answering lost.turns_left (Ok rested) (Ok life)
       → IfOk outside (λ before. SoFar A config number store places answering turns (seen before) (seen life.outside) life.ended)
-  lives_on rested life (Ok before) so_far is says uncut took =
-      one_more (rw is at so_far) says uncut (record { begun = took.0; node = took.1; begins = took.2; ends = took.3 })
+  lives_on rested life {ended} {lost} (Ok before) so_far is says uncut took =
+      one_more (rw is at so_far) says uncut (one_life A config number store places answering lost.turns_left F seen rested life took)
   lives_on rested life (Err fault) so_far is says uncut took = tt
 
   pub ends_cut : {ended : Result (Unit {0}) Uncommitted} {lost : Uncommitted} {over : OutsideState} {rested : O} (outside : Result O F)

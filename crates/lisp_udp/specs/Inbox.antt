@@ -1,10 +1,11 @@
 -- The datagrams of a node that wait, of which no source takes more than its share while others wait; Map-Requests may wait apart.
-use Rattle.std.specs.Prelude.{◌≡◌, ℕ, nat_lt, Bool, true, false, List, [], length, Option, Some, None, unwrap_or, if◌then◌else◌}
+use Rattle.std.specs.Prelude.{◌≡◌, ℕ, nat_lt, Bool, true, false, List, [], ◌++◌, length, Option, Some, None, unwrap_or, if◌then◌else◌}
 use Rattle.std.specs.Option.{option_map}
 use Rattle.lisp_policy.specs.Configuration.{ConfigValue}
 use Rattle.lisp_records.specs.declared.address.Addr.{Addr}
 use Rattle.lisp_records.specs.Address.{PrefixValue}
-use Rattle.lisp_queue.specs.Queue.{QueueState, taken_after}
+use Rattle.lisp_queue.specs.Queue.{QueueState, WaitingValue, taken_after, TakesInto}
+use Rattle.lisp_queue.specs.declared.incoming.Incoming.{Incoming}
 use Rattle.lisp_queue.specs.declared.kind.Kind.{Kind}
 use Rattle.lisp_queue.specs.declared.kind.Kind.TheVariants as kinds
 use Rattle.lisp_sites.specs.Numbers.{NodeValue, node_at}
@@ -32,6 +33,38 @@ abbrev pub SharesAsked : Option QueueState → Option QueueState → Option Requ
 SharesAsked (Some old) (Some new) request = new.taken ≡ sources_with old request
 SharesAsked None None request = request ≡ None
 SharesAsked _ _ _ = ⊥
+
+-- a Map-Request is taken into a buffer, as the queue of those gives the next one: from the address and the UDP port from which it came
+abbrev pub incoming_of : Request → Incoming
+incoming_of request = record { from = request.from; port = request.port; count = request.count }
+
+abbrev pub TakesAsked : Option QueueState → Option QueueState → List ℕ → Option Request → Type 0
+TakesAsked (Some old) (Some new) buffer request = TakesInto old new buffer (option_map incoming_of request)
+TakesAsked None None buffer request = request ≡ None
+TakesAsked _ _ _ _ = ⊥
+
+-- so is a datagram that the core hears, whatever port it came from
+abbrev pub TakesHeard : QueueState → QueueState → List ℕ → Received → Type 0
+TakesHeard old new buffer (received.Datagram from count) = (port : ℕ) × TakesInto old new buffer (Some (record { from = from; port = port; count = count }))
+TakesHeard old new buffer received.Nothing = TakesInto old new buffer None
+TakesHeard old new buffer received.Failed = ⊥
+
+-- datagrams came, and wait behind the others
+pub record Grows (old new : QueueState) : Type 0 where
+  pub came : List WaitingValue
+  pub is : new ≡ record old { waiting = old.waiting ++ came }
+
+-- the first datagram of a turn is taken, once others came; where the socket failed, none waits
+abbrev pub TakesFirst : QueueState → QueueState → List ℕ → Received → Type 0
+TakesFirst old new buffer received.Failed = TakesInto old new buffer None
+TakesFirst old new buffer received = TakesHeard old new buffer received
+
+abbrev pub HearsGrown : QueueState → QueueState → List ℕ → Received → Type 0
+HearsGrown old new buffer received = (grown : QueueState) × Grows old grown × TakesFirst grown new buffer received
+
+-- as a group begins
+abbrev pub HearsFirst : QueueState → QueueState → List ℕ → Received → Type 0
+HearsFirst old new buffer received = HearsGrown (record old { taken = [] }) new buffer received
 
 -- the core hears all that comes, or what is no Map-Request
 abbrev pub heard_kind : Bool → Kind

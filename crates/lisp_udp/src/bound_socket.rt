@@ -32,7 +32,7 @@ pub(crate) struct BoundSocket<'a> {
     folder: &'a str,
     listener: UnixListener,
     file: FileId,
-    // From this moment on its place is looked at again, in ms.
+    // From this moment on its place is looked at again, in ms; 0 before the first time.
     look_at: u64,
     // Whether a warning said that nobody can connect any more.
     is_warned: bool,
@@ -51,7 +51,7 @@ impl<'a> BoundSocket<'a> {
             folder,
             listener,
             file,
-            look_at: LOOK_MS,
+            look_at: 0,
             is_warned: false,
         })
     }

@@ -61,6 +61,8 @@ pub(crate) struct Devices<'a, R, T, P> {
     // When the last Map-Request was taken.
     asked_at: Option<Instant>,
     stopwatch: Stopwatch,
+    // Whether the clock was read, for the node's start.
+    is_read: bool,
     statistics: Statistics,
     saves: &'a SaveTimes<'a, R>,
     printer: P,
@@ -73,7 +75,7 @@ impl<'a, R: Net + std::time::Clock + AllocGlobal, T: SystemTable, P: Printer + D
     P,
 > {
     /// Those of a node at an address, whose turns take what waits in the `inbox` and are committed to the `database`, where there are
-    /// these; it is 0 ms now. Fault: 92.
+    /// these; the node starts now. Fault: 92.
     pub(crate) fn open(
         rt: &'a R,
         address: &Addr,
@@ -93,6 +95,7 @@ impl<'a, R: Net + std::time::Clock + AllocGlobal, T: SystemTable, P: Printer + D
             works_since: None,
             asked_at: None,
             stopwatch: Stopwatch::start(rt)?,
+            is_read: false,
             statistics: Statistics::start(rt.alloc()),
             saves,
             printer,
@@ -199,7 +202,7 @@ impl<R: std::time::Clock, T: SystemTable, P: Printer> Endpoint for Devices<'_, R
     fn poll(&mut self, buffer: &mut [u8]) -> Received {
         match &mut self.inbox {
             None => self.socket.poll(buffer),
-            Some(inbox) => inbox.poll(&mut self.socket, buffer),
+            Some(inbox) => inbox.poll(buffer),
         }
     }
 
@@ -277,8 +280,13 @@ impl<R: std::time::Clock, T, P: Printer> Control for Devices<'_, R, T, P> {
 }
 
 impl<R: std::time::Clock, T, P: Printer> Clock for Devices<'_, R, T, P> {
+    /// The first reading is for the node's start, and the printer isn't told of it: no line goes out where the node doesn't start.
     fn now(&mut self) -> u64 {
         let now = self.stopwatch.now(self.rt);
+        if !self.is_read {
+            self.is_read = true;
+            return now;
+        }
         self.printer.pass(now);
         now
     }

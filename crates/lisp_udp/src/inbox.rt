@@ -3,7 +3,7 @@
 ghost use Rattle.std.specs.Prelude.{◌≡◌, ◌≤◌, [], length, IfOk, IfSome, OnErr};
 ghost use Rattle.lisp_sites.specs.Numbers.{IsNode};
 ghost use Rattle.lisp_turns.specs.Outside.{FitsBuffer, IsApart, reception};
-ghost use Rattle.lisp_udp.specs.Inbox.{answers_requests, first_sources, SharesAsked, heard_kind, keeps_apart, leaves_requests, sources_after};
+ghost use Rattle.lisp_udp.specs.Inbox.{answers_requests, first_sources, Grows, HearsFirst, HearsGrown, SharesAsked, heard_kind, keeps_apart, leaves_requests, sources_after, TakesAsked, TakesHeard};
 
 use crate::entry::entry_at;
 use crate::socket::NodeSocket;
@@ -13,11 +13,8 @@ use lisp_sites::Config;
 use lisp_turns::{Received, Request};
 use std::alloc::{AllocError, Global};
 
-/// The most datagrams that are taken from a socket as a turn begins.
-const MOST_AT_FIRST: usize = 1_024;
-
-/// The most that are taken each time the turn asks for another one: in a flood a turn of 64 datagrams takes at most as many again.
-const MOST_AT_ONCE: usize = 16;
+/// The most datagrams that are taken from a socket at once, as a turn begins.
+const MOST_AT_FIRST: usize = 2_048;
 
 /// The datagrams of a node that wait, in the order in which its turns take them.
 #[derive(Drop)]
@@ -68,7 +65,9 @@ impl Inbox {
     }
 
     /// A turn begins: the first datagram that its core hears, taken into `buffer`. Where nothing waits, the socket waits for a datagram.
+    /// What waits in the socket by then waits here.
     pub(crate) fn receive(&mut self, socket: &mut NodeSocket, buffer: &mut [u8]) -> Received
+        ensures takes { HearsFirst self.old.heard self.new.heard buffer.new result }
         ensures shares { self.new.heard.taken ≡ first_sources self.old.heard result }
         ensures places { self.new.heard.places ≡ self.old.heard.places }
         ensures kind { self.new.heard.kind ≡ self.old.heard.kind }
@@ -78,7 +77,7 @@ impl Inbox {
         ensures room { length buffer.new ≡ length buffer.old }
     {
         self.begin();
-        let is_failed = self.fill(socket, buffer, MOST_AT_FIRST);
+        let is_failed = self.fill(socket, buffer);
         let is_asked = self.is_asked();
         match self.next(buffer) {
             Received::Nothing if is_failed => Received::Failed,
@@ -87,8 +86,9 @@ impl Inbox {
         }
     }
 
-    /// The next datagram of the turn, taken into `buffer`; `Nothing` where none waits.
-    pub(crate) fn poll(&mut self, socket: &mut NodeSocket, buffer: &mut [u8]) -> Received
+    /// The next datagram of the turn, taken into `buffer`; `Nothing` where none waits here.
+    pub(crate) fn poll(&mut self, buffer: &mut [u8]) -> Received
+        ensures takes { TakesHeard self.old.heard self.new.heard buffer.new result }
         ensures shares { self.new.heard.taken ≡ sources_after self.old.heard result }
         ensures places { self.new.heard.places ≡ self.old.heard.places }
         ensures kind { self.new.heard.kind ≡ self.old.heard.kind }
@@ -97,12 +97,13 @@ impl Inbox {
         ensures within { FitsBuffer result buffer.new }
         ensures room { length buffer.new ≡ length buffer.old }
     {
-        self.fill(socket, buffer, MOST_AT_ONCE);
+        // Nothing more is taken from the socket: the turn read its clock since `receive`, and what it hears was sent before.
         self.next(buffer)
     }
 
     /// The next Map-Request of the turn, taken into `buffer`, if one waits.
     pub(crate) fn next_request(&mut self, buffer: &mut [u8]) -> Option<Request>
+        ensures takes { TakesAsked self.old.asked self.new.asked buffer.new result }
         ensures shares { SharesAsked self.old.asked self.new.asked result }
         ensures heard { self.new.heard ≡ self.old.heard }
         ensures within { IfSome result (λ request. request.count ≤ length buffer.new) }
@@ -130,14 +131,15 @@ impl Inbox {
         }
     }
 
-    // What waits in the socket, so many datagrams at most, waits here then, as far as there is room. Whether the socket failed.
-    fn fill(&mut self, socket: &mut NodeSocket, buffer: &mut [u8], most: usize) -> bool
+    // What waits in the socket waits here then, as far as there is room. Whether the socket failed.
+    fn fill(&mut self, socket: &mut NodeSocket, buffer: &mut [u8]) -> bool
+        ensures grows { Grows self.old.heard self.new.heard }
         ensures shares { self.new.heard.taken ≡ self.old.heard.taken }
         ensures places { self.new.heard.places ≡ self.old.heard.places }
         ensures kind { self.new.heard.kind ≡ self.old.heard.kind }
         ensures room { length buffer.new ≡ length buffer.old }
     {
-        for _ in 0..most {
+        for _ in 0..MOST_AT_FIRST {
             match socket.take(buffer, None) {
                 Ok(Some(incoming)) => self.offer(&incoming, buffer),
                 Ok(None) => return false,
@@ -150,6 +152,7 @@ impl Inbox {
     // A datagram in a buffer waits where it belongs, if there is room.
     fn offer(&mut self, incoming: &Incoming, buffer: &[u8])
         requires { incoming.now.count ≤ length buffer.now }
+        ensures grows { Grows self.old.heard self.new.heard }
         ensures shares { self.new.heard.taken ≡ self.old.heard.taken }
         ensures places { self.new.heard.places ≡ self.old.heard.places }
         ensures kind { self.new.heard.kind ≡ self.old.heard.kind }
@@ -163,6 +166,7 @@ impl Inbox {
 
     // The next datagram that the core hears.
     fn next(&mut self, buffer: &mut [u8]) -> Received
+        ensures takes { TakesHeard self.old.heard self.new.heard buffer.new result }
         ensures shares { self.new.heard.taken ≡ sources_after self.old.heard result }
         ensures places { self.new.heard.places ≡ self.old.heard.places }
         ensures kind { self.new.heard.kind ≡ self.old.heard.kind }
@@ -177,8 +181,10 @@ impl Inbox {
         }
     }
 
-    // The next datagram that comes to the socket, in its time limit.
+    // Where nothing waits, the next datagram that comes to the socket, in its time limit; what waits there by then waits here.
     fn wait(&mut self, socket: &mut NodeSocket, buffer: &mut [u8]) -> Received
+        requires { self.old.heard.waiting ≡ [] }
+        ensures takes { HearsGrown self.old.heard self.new.heard buffer.new result }
         ensures shares { self.new.heard.taken ≡ sources_after self.old.heard result }
         ensures places { self.new.heard.places ≡ self.old.heard.places }
         ensures kind { self.new.heard.kind ≡ self.old.heard.kind }
@@ -190,6 +196,7 @@ impl Inbox {
         match socket.take_in_time(buffer) {
             Ok(Some(incoming)) => {
                 self.offer(&incoming, buffer);
+                self.fill(socket, buffer);
                 self.next(buffer)
             }
             Ok(None) => Received::Nothing,

@@ -30,21 +30,22 @@ pub(crate) struct Journal<'a> {
 
 impl<'a> Journal<'a> {
     /// That of the node with a name, which registers with the Map-Servers of these numbers, and whose store keeps so many pairs. It
-    /// writes nothing yet. Fault: 97.
+    /// begins at a moment, in ms, and writes nothing yet. Fault: 97.
     pub(crate) fn open<R: Files<File = File> + AllocGlobal>(
         rt: &R,
         config: &'a Config,
         name: &'a str,
         servers: &[usize],
         pairs: usize,
+        now: u64,
         store_failure: &'a Cell<Option<ErrorKind>>,
     ) -> Result<Journal<'a>, RunFault>
         ensures { IfOk result (λ journal. journal.log
-            ≡ begins config.now name.now servers.now pairs) }
+            ≡ begins config.now name.now servers.now pairs now) }
     {
         Ok(Journal {
             alloc: rt.alloc(),
-            log: Log::start(rt.alloc(), config, name, servers, pairs)?,
+            log: Log::start(rt.alloc(), config, name, servers, pairs, now)?,
             output: StandardOutput::open(rt),
             store_failure,
         })

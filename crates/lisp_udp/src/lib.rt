@@ -22,6 +22,8 @@
 //! - A node whose socket can't be made runs without it, with a warning: a long path is no reason to stop a Map-Server.
 //! - In `loop` the stores obey the disk and not the script: `doubt`, `loadfails` and the value that a restart picks have no
 //!   effect.
+//! - A node's clock tells ms since 1970, so that the nodes of a machine read one clock; but from the start on it goes by the monotonic
+//!   clock, so that setting the date does nothing to rows and timers.
 //! - Each life of a node has a budget of its own for what it sends for Map-Requests: the second of rest between two lives keeps what
 //!   both send out of one second.
 //! - Without `--database` a folder that has `nonces.db` is refused, whatever is in it: even an empty one was meant to be the

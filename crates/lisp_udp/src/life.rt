@@ -5,7 +5,7 @@ ghost use Rattle.lisp_nonces.specs.Store.{StoreState};
 ghost use Rattle.lisp_turns.specs.Beginning.{Begins};
 ghost use Rattle.lisp_turns.specs.Node.{IsPlaced};
 ghost use Rattle.lisp_sites.specs.Numbers.{IsNode};
-ghost use Rattle.lisp_udp.specs.Running.{RunsOver, TakesItsTurns};
+ghost use Rattle.lisp_udp.specs.Running.{BeginsOver, ReadsFirst, RunsFrom, RunsOver, TakesItsTurns, TakesTurnsFrom};
 
 use crate::resolving::{Answering, resolving};
 use crate::router::start_router;
@@ -29,7 +29,8 @@ pub(crate) struct Life<O> {
 }
 
 /// Runs the node with a number over its store, in so many turns of so many datagrams: a Map-Server that holds nothing, or a router
-/// that starts at 0 ms. Faults: those of the start, then that of what is outside, then 97.
+/// that starts. Its life begins at the moment that its clock tells then. Faults: those of the start, then that of what is outside, then
+/// 97.
 pub(crate) fn run_over<
     S: WorldStore + Drop,
     O: Endpoint + Requests + Clock + Commit + Lines + Control + Drop,
@@ -49,20 +50,32 @@ pub(crate) fn run_over<
         (S.seen store) places answering turns outside result }
     ensures device { IfErr outside (λ fault. IsErr result) }
 {
+    let mut outside = outside;
+    let now = moment(&mut outside);
     if config.is_server(number) {
-        let server = start_server(alloc, config, number, store);
+        let server = start_server(alloc, config, number, store, now);
         run_at(
             alloc, config, number, server, places, answering, turns, outside,
         )
     } else {
-        let router = start_router(alloc, config, number, store);
+        let router = start_router(alloc, config, number, store, now);
         run_at(
             alloc, config, number, router, places, answering, turns, outside,
         )
     }
 }
 
-/// Runs the node with a number, if it starts. Faults: as those of `run_over`.
+// The moment that the clock tells; 0 where what is outside failed.
+fn moment<O: Clock>(outside: &mut Result<O, RunFault>) -> u64
+    ensures { ReadsFirst O.seen outside.old outside.new result }
+{
+    match outside {
+        Ok(outside) => outside.now(),
+        Err(_) => 0,
+    }
+}
+
+/// Runs the node with a number, if it started at the moment that the clock told last. Faults: as those of `run_over`.
 pub(crate) fn run_at<
     N: Node + Drop,
     O: Endpoint + Requests + Clock + Commit + Lines + Control + Drop,
@@ -78,11 +91,12 @@ pub(crate) fn run_at<
 ) -> Result<Life<O>, RunFault>
     requires { IfOk node (λ n. IsPlaced config.now number (N.state n)) }
     ensures part { (store : StoreState)
-        → IfOk node (λ n. Begins config.now number store (N.state n))
-        → RunsOver O.seen config.now number store outside result }
+        → IfOk node (λ n. BeginsOver O.seen config.now number store outside (N.state n))
+        → RunsFrom O.seen config.now number store outside result }
     ensures turns { (store : StoreState)
-        → IfOk node (λ n. Begins config.now number store (N.state n))
-        → TakesItsTurns Global O.seen config.now number store places answering turns outside result }
+        → IfOk node (λ n. BeginsOver O.seen config.now number store outside (N.state n))
+        → TakesTurnsFrom Global O.seen config.now number store places answering turns outside
+        result }
     ensures start { IfErr node (λ fault. result ≡ Err fault) }
     ensures device { OnOk node (IfErr outside (λ fault. result ≡ Err fault)) }
     ensures memory { OnOk node (OnOk outside (OnErr result ⟦<Global as Memory>⟧.may_refuse)) }

@@ -5,9 +5,8 @@ ghost use Rattle.lisp_database_store.specs.Keeper.{shared_store};
 ghost use Rattle.lisp_udp.specs.Lives.{Lives, SaysRestarted};
 ghost use Rattle.lisp_sites.specs.Numbers.{IsMapServer};
 
-use crate::life::run_at;
+use crate::life::run_over;
 use crate::resolving::Answering;
-use crate::server::start_server;
 use lisp_database_store::{SharedDatabase, SystemTable};
 use lisp_model::Line;
 use lisp_script::RunFault;
@@ -20,7 +19,8 @@ const REST_MS: u64 = 1_000;
 
 /// Runs the Map-Server with a number over a store in the database, in so many turns of so many datagrams. Where a turn couldn't be
 /// committed, it says that it restarted, rests, and begins anew over a store in that database, with the turns that are left: as a
-/// crash would have it. What is outside is given back. Faults: those of the start, then that of what is outside, then 97; at a later start 97.
+/// crash would have it. Each life begins at the moment that the clock tells then. What is outside is given back. Faults: those of the
+/// start, then that of what is outside, then 97; at a later start 97.
 pub(crate) fn live<
     T: SystemTable,
     O: Endpoint + Requests + Clock + Commit + Lines + Control + Drop,
@@ -40,9 +40,8 @@ pub(crate) fn live<
         (O.seen after))) }
 {
     let store = database.store();
-    let server = start_server(alloc, config, number, store);
-    let mut life = run_at(
-        alloc, config, number, server, places, answering, turns, outside,
+    let mut life = run_over(
+        alloc, config, number, store, places, answering, turns, outside,
     )?;
     while let Err(Uncommitted { turns_left }) = life.ended {
         let mut outside = life.outside;
@@ -51,12 +50,11 @@ pub(crate) fn live<
             return Ok(outside);
         }
         let store = database.store();
-        let server = start_server(alloc, config, number, store);
-        life = run_at(
+        life = run_over(
             alloc,
             config,
             number,
-            server,
+            store,
             places,
             answering,
             turns_left,

@@ -15,6 +15,7 @@ use crate::lives::live;
 use crate::printer::Printer;
 use crate::resolving::Answering;
 use crate::save_times::{SaveTimes, TimedStore};
+use crate::stopwatch::ms_since_1970;
 use crate::storage::{NodeStore, Storage};
 use lisp_database_store::{DatabaseStore, SharedDatabase, SystemTable};
 use lisp_files::Ending;
@@ -87,7 +88,8 @@ pub(crate) fn keep_running<T: SystemTable>(
     let pairs = folder.pairs(rt, &mut store, is_known)?;
     let servers = config.servers_of(number);
     let control = folder.control(rt, node.control, asked_node(rt, config, number, name));
-    let journal = Journal::open(rt, config, name, servers, pairs, &failure)?;
+    let now = ms_since_1970(rt);
+    let journal = Journal::open(rt, config, name, servers, pairs, now, &failure)?;
     run_in_store(
         rt,
         config,

@@ -4,7 +4,7 @@ ghost use Rattle.std.specs.Prelude.{◌≤◌, ◌<◌, IfOk, length};
 ghost use Rattle.lisp_turns.specs.Beginning.{Begins};
 ghost use Rattle.lisp_turns.specs.Node.{Router};
 ghost use Rattle.lisp_sites.specs.Numbers.{node_count};
-ghost use Rattle.lisp_world.specs.Making.{HasStarted};
+ghost use Rattle.lisp_world.specs.Making.{StartsAt};
 
 use crate::resolving::Answering;
 use crate::storage::Storage;
@@ -72,31 +72,33 @@ pub fn keep_router_running<T: SystemTable>(
     Ok(())
 }
 
-/// The router with a number over its store, started at 0 ms. Faults: 35, 36, 97.
+/// The router with a number over its store, started at a moment, in ms. Faults: 35, 36, 97.
 pub(crate) fn start_router<S: WorldStore + Drop>(
     alloc: Global,
     config: &Config,
     number: usize,
     store: S,
+    now: u64,
 ) -> Result<RouterNode<S>, RunFault>
     requires { (length config.now.servers ≤ number) × (number < node_count config.now) }
-    ensures { IfOk result (λ n. Begins config.now number (S.seen store) (Router n)) }
+    ensures { IfOk result (λ n. Begins config.now number (S.seen store) now (Router n)) }
 {
     let place = number - config.servers().len();
     let router = router_node(alloc, config, place, store)?;
-    start(alloc, router)
+    start(alloc, router, now)
 }
 
-// The router, started at 0 ms. Faults: 35, 36.
+// The router, started at a moment. Faults: 35, 36.
 fn start<S: WorldStore + Drop>(
     alloc: Global,
     router: RouterNode<S>,
+    now: u64,
 ) -> Result<RouterNode<S>, RunFault>
-    ensures { IfOk result (λ n. HasStarted router n) }
+    ensures { IfOk result (λ n. StartsAt router n now) }
 {
     let start = Start {
         alloc,
-        now: 0,
+        now,
         db: None,
     };
     let (router, answer) = router.start(start);

@@ -73,16 +73,17 @@ pub fn keep_server_running<T: SystemTable>(
     Ok(())
 }
 
-/// The Map-Server with a number, which holds nothing, over its store. Fault: 97.
+/// The Map-Server with a number, which holds nothing, over its store; its life begins at a moment, in ms. Fault: 97.
 pub(crate) fn start_server<S: WorldStore + Drop>(
     alloc: Global,
     config: &Config,
     number: usize,
     store: S,
+    now: u64,
 ) -> Result<ServerNode<S>, RunFault>
     requires { number < length config.now.servers }
-    ensures { IfOk result (λ n. Begins config.now number (S.seen store) (Server n)) }
+    ensures { IfOk result (λ n. Begins config.now number (S.seen store) now (Server n)) }
 {
     let sites = config.sites().copy(alloc)?;
-    Ok(ServerNode::start(alloc, sites, store))
+    Ok(ServerNode::start_at(alloc, sites, store, now))
 }

@@ -4,15 +4,15 @@ use Rattle.lisp_udp.proofs.LivesInOrder.{starts_lives, lives_on, lives_fewer, en
 use Rattle.lisp_udp.proofs.lives.live.Goals as goal
 
 pub loop-life-init : goal.loop-life-init
-loop-life-init g c = starts_lives Global c.args.config.now c.args.number shared_store c.args.places c.args.answering c.args.turns g.O.Outside.seen c.in_ok-life.life c.args.outside (c.in_ok-life.ensures.turns shared_store (rw c.store-store.ensures at c.start_server-server.ensures))
+loop-life-init g c = starts_lives Global c.args.config.now c.args.number shared_store c.args.places c.args.answering c.args.turns g.O.Outside.seen c.in_ok-life.life c.args.outside (rw c.store-store.ensures at c.in_ok-life.ensures.turns)
 
 pub loop-life-preserved : goal.loop-life-preserved
 loop-life-preserved g c =
-    lives_on Global c.args.config.now c.args.number shared_store c.args.places c.args.answering c.args.turns g.O.Outside.seen _ c.in_ok-life-2.life c.args.outside c.loop-life.invariant c.in-Err.is c.rest.ensures (sym c.if-is_cut.ensures) (rw c.in-Err.is at c.in_ok-life-2.ensures.turns shared_store (rw c.store-store-in-Err.ensures at c.start_server-server-in-Err.ensures))
+    lives_on Global c.args.config.now c.args.number shared_store c.args.places c.args.answering c.args.turns g.O.Outside.seen _ c.in_ok-life-2.life c.args.outside c.loop-life.invariant c.in-Err.is c.rest.ensures (sym c.if-is_cut.ensures) (rw (c.in-Err.is, c.store-store-in-Err.ensures) at c.in_ok-life-2.ensures.turns)
 
 pub loop-life-smaller : goal.loop-life-smaller
 loop-life-smaller g c =
-    lives_fewer Global c.args.config.now c.args.number shared_store c.args.places c.args.answering g.O.Outside.seen _ c.in_ok-life-2.life c.in-Err.is (rw c.in-Err.is at c.in_ok-life-2.ensures.turns shared_store (rw c.store-store-in-Err.ensures at c.start_server-server-in-Err.ensures))
+    lives_fewer Global c.args.config.now c.args.number shared_store c.args.places c.args.answering g.O.Outside.seen _ c.in_ok-life-2.life c.in-Err.is (rw (c.in-Err.is, c.store-store-in-Err.ensures) at c.in_ok-life-2.ensures.turns)
 
 pub returns-then-is_cut : goal.returns-then-is_cut
 returns-then-is_cut g c =
