@@ -27,7 +27,7 @@ module _ (A : Type 0) (config : ConfigValue) where
     stands = turn_stands A config number calls old new takes w o T stand;
   }
   one_deed (Life number told) old new begins w o T stand =
-      let goes = lives_stand A config number told old new begins.life begins.configured begins.counts w o T stand in
+      let goes = lives_stand A config number told old new begins.life begins.configured w o T stand in
       record { steps = goes.steps; left = goes.left; is_of = goes.life; stands = goes.stands }
 
   -- and by deeds

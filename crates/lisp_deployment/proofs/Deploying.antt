@@ -160,15 +160,15 @@ module _ (A : Type 0) (config : ConfigValue) (number : ℕ) (asked : List Call) 
       by false is = let differs : (k ≢ number) = λ e. absurd (true≢false (sym ((Decides-eqb k number).1 e) ∙ is)) in
           subst (λ (x : TurnState). HasNode turned.left k x.node) (sym (takes.others k differs)) (turned.others k (old.nodes k).node differs (stand.nodes k known))
 
-  more_sent : IsAmong new.sent turned.left.bag
-  more_sent = subst (λ (p : List DatagramValue × List DatagramValue). IsAmong p.0 p.1) {x = (old.sent ++ sent_by config number asked, w.bag ++ sent_by config number asked)} {y = (new.sent, turned.left.bag)}
-      (λ i. (sym takes.sent i, sym bag_is i)) (among_more old.sent w.bag (sent_by config number asked) stand.sent)
+  pub turn_bag : turned.left.bag ≡ w.bag ++ sent_by config number asked
+  turn_bag = its_part.sent ∙ ap (λ (a : Addr). w.bag ++ map (datagram_from a) (reverse (sent_of asked))) address
     where
       address : address_of w number ≡ address_at config number
       address = address_is w o T stand.stands number ∙ ap (λ (c : ConfigValue). address_at c number) stand.config_is
 
-      bag_is : turned.left.bag ≡ w.bag ++ sent_by config number asked
-      bag_is = its_part.sent ∙ ap (λ (a : Addr). w.bag ++ map (datagram_from a) (reverse (sent_of asked))) address
+  more_sent : IsAmong new.sent turned.left.bag
+  more_sent = subst (λ (p : List DatagramValue × List DatagramValue). IsAmong p.0 p.1) {x = (old.sent ++ sent_by config number asked, w.bag ++ sent_by config number asked)} {y = (new.sent, turned.left.bag)}
+      (λ i. (sym takes.sent i, sym turn_bag i)) (among_more old.sent w.bag (sent_by config number asked) stand.sent)
 
   pub turn_stands : DeploymentStands config new turned.left o (turned.steps ++ T)
   turn_stands = record {

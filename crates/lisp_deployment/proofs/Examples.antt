@@ -1,6 +1,6 @@
 -- Examples: a turn and a life of a deployment, and near misses, each but for one thing: what the definitions don't allow.
-use Rattle.std.proofs.Common.{Ok, Err, length, map, true≢false, ◌≡◌, inl, inr, ℕ, zero, suc, ◌<◌, ◌≤◌, Bool, true, false, List, [], ◌∷◌, ◌++◌, Option, Some, None, refl, sym, ap, subst, ◌∙◌, arith}
-use Rattle.std.specs.Prelude.{◌≢◌, ◌==◌, if◌then◌else◌}
+use Rattle.std.proofs.Common.{Ok, Err, length, true≢false, ◌≡◌, inl, inr, ℕ, zero, suc, ◌<◌, ◌≤◌, Bool, true, false, List, [], ◌∷◌, ◌++◌, Option, Some, None, refl, sym, ap, subst, ◌∙◌, arith}
+use Rattle.std.specs.Prelude.{◌≢◌, ◌⊎◌, ◌==◌, if◌then◌else◌, IsTrue}
 use Rattle.std.specs.FinMap.{empty}
 use Rattle.std.specs.List.{Contains}
 use Rattle.std.specs.Option.{option_and_then}
@@ -10,26 +10,30 @@ use Rattle.lisp_records.specs.Row.{RowValue, is_alive}
 use Rattle.lisp_policy.specs.Configuration.{ConfigValue}
 use Rattle.lisp_nonces.specs.declared.fate.Fate.TheVariants.{Done}
 use Rattle.lisp_nonces.specs.declared.pair.Pair.{Pair}
-use Rattle.lisp_nonces.specs.Kept.{kept_at}
+use Rattle.lisp_nonces.specs.Kept.{kept_at, KeepsSome}
 use Rattle.lisp_nonces.specs.Store.{StoreState}
 use Rattle.lisp_nonces.proofs.Kept.{kept_at-empty}
-use Rattle.lisp_lookup.specs.Table.{row_at, if_alive}
+use Rattle.lisp_lookup.specs.Table.{row_at, if_alive, IsHeld}
 use Rattle.lisp_model.proofs.Locality.{other_number}
-use Rattle.lisp_refinement.specs.World.{ServerNodeState}
+use Rattle.lisp_refinement.specs.Calls.{config_of, database_of}
+use Rattle.lisp_refinement.specs.World.{ServerNodeState, RouterNodeState}
+use Rattle.lisp_nodes.specs.Cores.{first_used}
 use Rattle.lisp_turns.specs.Acts.{TurnAct}
 use Rattle.lisp_turns.specs.Beginning.{Begins}
+use Rattle.lisp_turns.specs.Due.{IsDuty, IsRefused}
 use Rattle.lisp_turns.specs.Node.{NodeState, Server, Router}
 use Rattle.lisp_turns.specs.Outside.{Call}
 use Rattle.lisp_turns.specs.Turn.{TurnState, IsTurn}
 use Rattle.lisp_deployment.specs.Deployment.{DeploymentState, node_count, calls_in, sent_by, TakesTurn, IsAmong}
-use Rattle.lisp_deployment.specs.Lives.{Survives, BeginsAt, BeginsLife}
-use Rattle.lisp_deployment.specs.Passing.{PassesNode}
-use Rattle.lisp_deployment.specs.Deeds.{Turn, Life}
+use Rattle.lisp_deployment.specs.Lives.{Survives, IsCut, BeginsLife, EndsAsConfigured}
+use Rattle.lisp_deployment.specs.Opening.{DeploymentBegins, DeploymentsBegin}
+use Rattle.lisp_refinement.specs.Passing.{PassesNode}
+use Rattle.lisp_deployment.specs.Deeds.{Deed, Turn, Life, DoesDeed, DoDeeds}
 use Rattle.lisp_deployment.specs.Printed.{all_lines, accepted_nonces}
 use Rattle.lisp_model.specs.declared.event.Event.TheVariants as events
 use Rattle.lisp_model.specs.declared.line.Line.TheVariants as lines
 use Rattle.lisp_records.specs.declared.address.Addr.TheVariants.{V4}
-use Rattle.lisp_turns.specs.Act.{line_act}
+use Rattle.lisp_turns.specs.Act.{line_act, numbered}
 use Rattle.lisp_turns.specs.Part.{lines_of}
 use Rattle.std.specs.Prelude.{Result}
 use Rattle.lisp_records.specs.declared.address.Addr.{Addr}
@@ -39,12 +43,12 @@ use Rattle.lisp_messages.specs.Message.{MessageValue}
 use Rattle.lisp_messages.specs.Reading.{message_at}
 use Rattle.lisp_model.specs.declared.line.Line.{Line}
 use Rattle.lisp_model.specs.Keys.{KnowsKey}
-use Rattle.lisp_model.specs.Trace.{address_at, router_at, secret_at, is_server}
+use Rattle.lisp_model.specs.Network.{IsNetwork}
+use Rattle.lisp_model.specs.Trace.{Step, Opening, address_at, etr_config_of, router_at, secret_at, is_server}
 use Rattle.lisp_refinement.specs.World.{DatagramValue}
-use Rattle.lisp_deployment.specs.Deeds.{DoesDeed}
 use Rattle.lisp_deployment.specs.Lives.{arrived_in}
-use Rattle.lisp_deployment.specs.Received.{received_in, MayHold, IsUnforged}
-use Rattle.lisp_deployment.specs.Told.{swallowed_in, IsTold, Holds}
+use Rattle.lisp_deployment.specs.Received.{received_in, MayHold, IsUnforged, ReceivesUnforged}
+use Rattle.lisp_deployment.specs.Told.{Holds, AnswersShowHeld, RowWasSent, HeldRowsWereSent, CountedLinesWereAccepted}
 
 -- a live row isn't dropped, and a dead one may stay
 live_row : (old new : ServerNodeState) (now : ℕ) (router : RouterId) (eid : PrefixValue) (h : RowValue) → PassesNode old new now → row_at old.core.rows router eid ≡ Some h → is_alive h now ≡ true
@@ -140,15 +144,48 @@ forgotten last next pair nonce saved lost survives =
     only (zero, within, is) = absurd (let clash : ◌≡◌ {A = Option ℕ} (Some nonce) None = is in cc)
     only (suc i, within, is) = omega (arith, within)
 
--- a life that begins at the moment 0 is one that begins as a program does
-begins_first : (config : ConfigValue) (number : ℕ) (store : StoreState) (node : NodeState) → Begins config number store node → BeginsAt config number store 0 node
-begins_first config number store (Server n) (known, is) = (known, is)
-begins_first config number store (Router n) (place, number_is, down, over, starts) =
-    (place, number_is, down, over, record { me = starts.me; servers = starts.servers; used = starts.used; starts = starts.starts })
-
--- and a Map-Server doesn't begin with rows, nor at another moment
-other_start : (config : ConfigValue) (number now : ℕ) (store : StoreState) (n : ServerNodeState) → n.started ≢ now → BeginsAt config number store now (Server n) → ⊥
+-- a Map-Server doesn't begin at another moment
+other_start : (config : ConfigValue) (number now : ℕ) (store : StoreState) (n : ServerNodeState) → n.started ≢ now → Begins config number store now (Server n) → ⊥
 other_start config number now store n differs begins = differs (ap (λ (x : ServerNodeState). x.started) begins.1)
+
+-- nor is an act that was told one of which nobody was told, if it wasn't due
+untold_act : (A : Type 0) (config : ConfigValue) (number : ℕ) (old last : NodeState) (now : ℕ) (act : TurnAct) → act.told ≡ false → (IsDuty number act.event → ⊥)
+    → IsCut A config number old last now [] (act ∷ []) → ⊥
+untold_act A config number old last now act untold undue cut = by cut.are_told.0
+  where
+    by : (act.told ≡ true) ⊎ (IsDuty number act.event × IsRefused act.act.line) → ⊥
+    by (inl told) = absurd (true≢false (sym told ∙ untold))
+    by (inr (due, refused)) = undue due
+
+-- a router that went over to another key, used another one, or was given another database doesn't end as it is configured
+module _ (config : ConfigValue) (number : ℕ) (n : RouterNodeState) (ends : EndsAsConfigured config number (Router n)) where
+  under_its_key : config_of n.core ≡ etr_config_of config (router_at config number)
+  under_its_key = ends.settings
+
+  used_its_key : n.used ≡ first_used (router_at config number).key_id
+  used_its_key = ends.used
+
+  has_its_database : database_of n.core ≡ (router_at config number).database
+  has_its_database = ends.database
+
+-- a deployment begins at moment 0, each of its nodes over its own honest store, and nothing was sent
+module _ (config : ConfigValue) (stores : ℕ → StoreState) (d : DeploymentState) where
+  late_server : (k : ℕ) (n : ServerNodeState) → k < node_count config → (d.nodes k).node ≡ Server n → n.started ≢ 0 → DeploymentBegins config stores d → ⊥
+  late_server k n known is late begins = other_start config k 0 (stores k) n late (subst (λ (x : NodeState). Begins config k (stores k) 0 x) is (begins.nodes k known))
+
+  any_store : (k : ℕ) → k < node_count config → (IsTrue (stores k).is_honest → ⊥) → DeploymentBegins config stores d → ⊥
+  any_store k known lies begins = lies (begins.honest k known)
+
+  late_start : d.moment ≢ 0 → DeploymentBegins config stores d → ⊥
+  late_start late begins = late begins.moment
+
+  sent_early : d.sent ≢ [] → DeploymentBegins config stores d → ⊥
+  sent_early some begins = some begins.unsent
+
+-- one begins over the very stores that are given
+over_stores : (all : DeploymentsBegin) (config : ConfigValue) (stores : ℕ → StoreState) (fit : (k : ℕ) → k < node_count config → IsTrue (stores k).is_honest × KeepsSome (stores k).kept)
+    → DeploymentBegins config stores (all config stores fit).0
+over_stores all config stores fit = (all config stores fit).1
 
 -- a line counts for its own Map-Server, router and key
 abbrev me : RouterId
@@ -189,25 +226,37 @@ other_secret : (config : ConfigValue) (number : ℕ) (secret : List ℕ) → is_
 other_secret config number secret router differs (inl (server, has)) = absurd (true≢false (sym server ∙ router))
 other_secret config number secret router differs (inr (kind, key, under, is)) = differs key is
 
--- what a crash cut off was received, and its line was swallowed; what was told wasn't
+-- what a crash cut off was received, too
 module _ (A : Type 0) (config : ConfigValue) (number : ℕ) (old new : DeploymentState) (begins : DoesDeed A config (Life number []) old new) (cut_off : begins.life.untold ≡ heard ∷ []) where
   received_too : received_in A config (Life number []) old new begins ≡ (V4 [], []) ∷ []
   received_too = ap (λ (acts : List TurnAct). arrived_in (acts ++ [])) cut_off
 
-  line_swallowed : swallowed_in A config (Life number []) old new begins ≡ lines.Accepted 0 me 1 7 None ∷ []
-  line_swallowed = ap (λ (acts : List TurnAct). map (λ (a : TurnAct). a.act.line) acts) cut_off
+-- of a row that is held both lines were printed: no crash swallowed one
+module _ (o : Opening) (T : List Step) (printed : List Line) (server : ℕ) (row : RowValue) (sent : RowWasSent o T printed server row) where
+  swallowed_send : (Contains printed (numbered 0 sent.was.sending.line) → ⊥) → ⊥
+  swallowed_send unprinted = unprinted sent.sent
 
-not_swallowed : (A : Type 0) (config : ConfigValue) (number : ℕ) (old new : DeploymentState) (begins : DoesDeed A config (Life number (heard ∷ [])) old new) → begins.life.untold ≡ []
-    → swallowed_in A config (Life number (heard ∷ [])) old new begins ≡ []
-not_swallowed A config number old new begins none = ap (λ (acts : List TurnAct). map (λ (a : TurnAct). a.act.line) acts) none
+  swallowed_acceptance : (Contains printed (numbered 0 sent.was.accepting.line) → ⊥) → ⊥
+  swallowed_acceptance unprinted = unprinted sent.accepted
 
--- of a message that was accepted the line isn't missing
-missing_line : (printed swallowed : List Line) → (Contains printed (lines.Accepted 0 me 1 7 None) → ⊥) → (Contains swallowed (lines.Accepted 0 me 1 7 None) → ⊥) → IsTold printed swallowed (lines.Accepted 0 me 1 7 None) → ⊥
-missing_line printed swallowed unprinted kept (inl quiet) = quiet
-missing_line printed swallowed unprinted kept (inr (inl (node, is))) = absurd cc
-missing_line printed swallowed unprinted kept (inr (inr (inl has))) = unprinted has
-missing_line printed swallowed unprinted kept (inr (inr (inr has))) = kept has
+-- they are among what the nodes printed
+are_printed : (A : Type 0) (all : HeldRowsWereSent A) (config : ConfigValue) (stores : ℕ → StoreState) (begun d : DeploymentState) (deeds : List Deed) → IsNetwork config → DeploymentBegins config stores begun
+    → (did : DoDeeds A config deeds begun d) → ReceivesUnforged A config deeds begun d did → (server : ℕ) (held : List RowValue) → Holds config d server held → (row : RowValue) → Contains held row
+    → (o : Opening) × (T : List Step) × RowWasSent o T (all_lines deeds) server row
+are_printed A all config stores begun d deeds network begins did unforged server held holds row has =
+    let run = all config stores begun d deeds network begins did unforged in (run.1, run.3.has.trace, run.4 server held holds row has)
+
+-- so is the line of an acceptance that a router counted
+counted_printed : (A : Type 0) (all : CountedLinesWereAccepted A) (config : ConfigValue) (stores : ℕ → StoreState) (begun d : DeploymentState) (deeds : List Deed) → IsNetwork config → DeploymentBegins config stores begun
+    → (did : DoDeeds A config deeds begun d) → ReceivesUnforged A config deeds begun d did → (node server part key nonce : ℕ) → Contains (all_lines deeds) (lines.Counted node server part key nonce)
+    → (reply : Option ℕ) × Contains (all_lines deeds) (lines.Accepted server (router_at config node).me key nonce reply)
+counted_printed A all config stores begun d deeds network begins did unforged node server part key nonce has = all config stores begun d deeds network begins did unforged node server part key nonce has
 
 -- a router holds no rows of a Map-Server's
 no_server : (config : ConfigValue) (d : DeploymentState) (held : List RowValue) → Holds config d (length config.servers) held → ⊥
 no_server config d held holds = omega (arith, holds.known)
+
+-- what is shown is of the core between what was taken in and what was due, and is held at the turn's end
+shown_between : (A : Type 0) (all : AnswersShowHeld A) (config : ConfigValue) (server : ℕ) (calls : List Call) (old new : DeploymentState) (takes : TakesTurn A config server calls old new) → server < length config.servers
+    → (shown : ServerNodeState) (held : List RowValue) → takes.turn.between ≡ Server shown → IsHeld shown.core.rows takes.turn.now held → Holds config new server held
+shown_between A all config server calls old new takes known shown held is rows = all config server calls old new takes known shown held is rows

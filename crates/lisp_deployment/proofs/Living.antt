@@ -8,22 +8,24 @@ use Rattle.std.proofs.lemmas.Option.{slice_get_within, get_or_from_slice_get}
 use Rattle.lisp_records.specs.declared.address.Addr.{Addr}
 use Rattle.lisp_records.specs.Moment.{max_moment}
 use Rattle.lisp_policy.specs.Configuration.{ConfigValue, RouterEntryValue}
-use Rattle.lisp_nonces.specs.Store.{StoreState, Proceeds}
+use Rattle.lisp_nonces.specs.Store.{StoreState}
 use Rattle.lisp_model.specs.declared.event.Event.TheVariants as events
 use Rattle.lisp_model.specs.declared.line.Line.TheVariants as lines
 use Rattle.lisp_model.specs.Trace.{EventValue, router_at, etr_config_of, ShownStore, Step, Opening, address_at}
 use Rattle.lisp_refinement.specs.World.{ServerNodeState, RouterNodeState, DatagramValue, WorldState}
-use Rattle.lisp_refinement.specs.Calls.{StoreRestarts, CoreAnswersStartOver, config_of, database_of, NodeRestarts}
-use Rattle.lisp_refinement.specs.Events.{address_of, NetworkRestartsServer, NetworkRestartsRouter}
+use Rattle.lisp_refinement.specs.Calls.{CoreAnswersStartOver, config_of, database_of}
+use Rattle.lisp_refinement.specs.Events.{address_of}
+use Rattle.lisp_refinement.specs.Reopening.{StoreReopens, ServerReopens, RouterReopens}
 use Rattle.lisp_refinement.specs.Nodes.{fresh_server}
 use Rattle.lisp_refinement.specs.Stands.{StandsForRouter, Stands, StandsAfter}
 use Rattle.lisp_refinement.proofs.Acting.{address_is}
-use Rattle.lisp_refinement.proofs.Restarting.{restart_server_stands, restart_router_stands}
+use Rattle.lisp_refinement.proofs.Restarting.{reopen_server_stands, reopen_router_stands}
 use Rattle.lisp_etr.specs.Config.{EtrConfigValue}
 use Rattle.lisp_records.specs.Record.{MapRecordValue}
 use Rattle.lisp_nodes.specs.Cores.{first_used}
-use Rattle.lisp_world.specs.Making.{router_over}
+use Rattle.lisp_world.specs.Making.{router_over, StartsAt}
 use Rattle.lisp_turns.specs.Acts.{TurnAct, DoesAll, send_calls, printed_of, act_calls, acts_calls}
+use Rattle.lisp_turns.specs.Beginning.{Begins}
 use Rattle.lisp_turns.specs.Outside.{Prints}
 use Rattle.lisp_turns.proofs.Calls.{lines_append}
 use Rattle.lisp_turns.specs.Node.{NodeState, Server, Router, HasNode, Passes}
@@ -35,8 +37,8 @@ use Rattle.lisp_turns.proofs.OwnActs.{heard_own, taken_own, taken_did}
 use Rattle.lisp_turns.proofs.Reaching.{Reaches, goes_further}
 use Rattle.lisp_turns.proofs.Ticking.{tick_reaches}
 use Rattle.lisp_deployment.specs.Deployment.{DeploymentState, node_count, sent_by, IsAmong, DeploymentStands}
-use Rattle.lisp_deployment.specs.Lives.{store_of, BeginsAt, BeginsLife, StartsAt, IsAsConfigured, EndsAsConfigured, arrived_in, IsLife, LifeGoesOn, LostTurnsAreCuts, LivesStand}
-use Rattle.lisp_deployment.proofs.Passing.{passing_stands, idling_passes}
+use Rattle.lisp_deployment.specs.Lives.{store_of, BeginsLife, IsAsConfigured, EndsAsConfigured, arrived_in, IsLife, LifeGoesOn, LostTurnsAreCuts, LivesStand}
+use Rattle.lisp_refinement.proofs.Passing.{passing_stands, idling_passes}
 use Rattle.lisp_deployment.proofs.OthersStand.{others_kept, others_stand, has_it, has_others}
 use Rattle.lisp_deployment.proofs.Deploying.{among_more, kept_clock, kept_bag}
 
@@ -179,7 +181,14 @@ module _ (w : WorldState) (now : ℕ) (o : Opening) (T : List Step) (stand : Sta
     clock = moment_is;
   }
 
-module _ (A : Type 0) (config : ConfigValue) (number : ℕ) (told : List TurnAct) (old new : DeploymentState) (life : BeginsLife A config number told old new) (counts : Proceeds (store_of life.last) life.store) (w : WorldState) (o : Opening) (T : List Step) (stand : DeploymentStands config old w o T) where
+-- a life that begins, and the network by the time that all was told which was told of the last one
+pub record LifeIsTold (config : ConfigValue) (number : ℕ) (untold told : List TurnAct) (new : DeploymentState) (w : WorldState) (o : Opening) (T : List Step) : Type 0 where
+  pub goes : LifeGoesOn config number untold told new o T
+  pub left : WorldState
+  pub stands : Stands left o (goes.life.first ++ T)
+  pub bag : left.bag ≡ w.bag ++ sent_by config number (acts_calls told)
+
+module _ (A : Type 0) (config : ConfigValue) (number : ℕ) (told : List TurnAct) (old new : DeploymentState) (life : BeginsLife A config number told old new) (w : WorldState) (o : Opening) (T : List Step) (stand : DeploymentStands config old w o T) where
   -- what it did until it ended
   abbrev Ended : NodeState → Type 0
   Ended node = Reaches number [] [] [] node life.ended w o T
@@ -262,25 +271,28 @@ module _ (A : Type 0) (config : ConfigValue) (number : ℕ) (told : List TurnAct
   start_moment = moment_is at_end new.moment o until_end end_stands end_early life.bound
 
   -- where it begins with a restart, the deployment is a network
-  crashes : StoreRestarts (store_of life.last) life.store 0
-  crashes = record {
+  reopens : StoreReopens (store_of life.last) life.store 0
+  reopens = record {
     narrows = λ honest. life.survives.narrows;
     picks = λ obeys. absurd (true≢false (sym obeys ∙ life.survives.unscheduled.0));
-    proceeds = counts;
+    honest = life.survives.honest.1 ∙ sym life.survives.honest.0;
+    obedient = life.survives.unscheduled.1 ∙ sym life.survives.unscheduled.0;
   }
 
   -- the network has what was told, and more
   abbrev more : List DatagramValue
   more = map (datagram_from (address_of at_told number)) (reverse (sent_of (acts_calls (all_told life.untold))))
 
+  told_bag : until_told.left.bag ≡ w.bag ++ sent_by config number (acts_calls told)
+  told_bag = until_told.bag ∙ ap (λ (l : List (Addr × List ℕ)). w.bag ++ map (datagram_from (address_of w number)) (reverse l)) (append-nil (sent_of (acts_calls told)))
+      ∙ ap (λ (a : Addr). w.bag ++ map (datagram_from a) (reverse (sent_of (acts_calls told)))) (address_is w o T stand.stands number ∙ ap (λ (c : ConfigValue). address_at c number) stand.config_is)
+
   at_start_bag : at_start.bag ++ [] ≡ (w.bag ++ sent_by config number (acts_calls told)) ++ more
   at_start_bag = append-nil at_start.bag ∙ kept_bag at_told untold_reaches.left number life.last ∙ untold_reaches.bag
-      ∙ ap (λ (l : List DatagramValue). l ++ more) (kept_bag w until_told.left number split.0 ∙ until_told.bag
-      ∙ ap (λ (l : List (Addr × List ℕ)). w.bag ++ map (datagram_from (address_of w number)) (reverse l)) (append-nil (sent_of (acts_calls told)))
-      ∙ ap (λ (a : Addr). w.bag ++ map (datagram_from a) (reverse (sent_of (acts_calls told)))) (address_is w o T stand.stands number ∙ ap (λ (c : ConfigValue). address_at c number) stand.config_is))
+      ∙ ap (λ (l : List DatagramValue). l ++ more) (kept_bag w until_told.left number split.0 ∙ told_bag)
 
   abbrev Goes : Type 0
-  Goes = LifeGoesOn config number life.untold told new o T
+  Goes = LifeIsTold config number life.untold told new w o T
 
   module _ (left : WorldState) (s : Step) (event_is : s.event ≡ events.Restart number 0 None) (line_is : s.line ≡ lines.Restarted number) (stands : Stands left o (s ∷ until_start)) (bag : left.bag ≡ at_start.bag ++ [])
       (clock : left.clock ≡ at_start.clock) (has : HasNode left number (new.nodes number).node) (others : (k : ℕ) (other : NodeState) → k ≢ number → HasNode at_end k other → HasNode left k other) where
@@ -319,18 +331,23 @@ module _ (A : Type 0) (config : ConfigValue) (number : ℕ) (told : List TurnAct
     goes_on : Goes
     unfolding life_steps
     goes_on = record {
-      steps = s ∷ waits ∷ untold_reaches.steps ++ until_told.steps;
-      left = left;
-      life = life_steps;
-      heard = what_arrived;
-      swallowed = inl (tt, subst (ArePrinted untold_reaches.steps) (all_told_lines life.untold) untold_reaches.are_printed);
-      stands = record {
-        stands = subst (λ (l : List Step). Stands left o (s ∷ waits ∷ l)) (sym (append_assoc untold_reaches.steps until_told.steps T)) stands;
-        config_is = stand.config_is;
-        nodes = nodes_are;
-        clock = clock ∙ start_moment;
-        sent = sent_is;
+      goes = record {
+        steps = s ∷ waits ∷ untold_reaches.steps ++ until_told.steps;
+        left = left;
+        life = life_steps;
+        heard = what_arrived;
+        swallowed = inl (tt, subst (ArePrinted untold_reaches.steps) (all_told_lines life.untold) untold_reaches.are_printed);
+        stands = record {
+          stands = subst (λ (l : List Step). Stands left o (s ∷ waits ∷ l)) (sym (append_assoc untold_reaches.steps until_told.steps T)) stands;
+          config_is = stand.config_is;
+          nodes = nodes_are;
+          clock = clock ∙ start_moment;
+          sent = sent_is;
+        };
       };
+      left = until_told.left;
+      stands = until_told.stands;
+      bag = told_bag;
     }
 
   -- of a Map-Server
@@ -338,8 +355,8 @@ module _ (A : Type 0) (config : ConfigValue) (number : ℕ) (told : List TurnAct
     was : slice_get at_start.servers number ≡ Some last
     was = subst (λ (n : NodeState). HasNode at_end number n) last_is end_has
 
-    begins : BeginsAt config number life.store new.moment (Server begun)
-    begins = subst (λ (n : NodeState). BeginsAt config number life.store new.moment n) begun_is life.begins
+    begins : Begins config number life.store new.moment (Server begun)
+    begins = subst (λ (n : NodeState). Begins config number life.store new.moment n) begun_is life.begins
 
     sites : last.core.sites ≡ config.sites
     sites = (start_stands.servers number last was).sites ∙ ap (λ (c : ConfigValue). c.sites) stand.config_is
@@ -347,18 +364,18 @@ module _ (A : Type 0) (config : ConfigValue) (number : ℕ) (told : List TurnAct
     abbrev with_server : WorldState
     with_server = record at_start { bag = at_start.bag ++ []; servers = slice_set at_start.servers number begun }
 
-    server_restarts : NetworkRestartsServer at_start with_server number 0 (lines.Restarted number)
+    server_restarts : ServerReopens at_start with_server number 0 (lines.Restarted number)
     server_restarts = record {
       acts = record { before = last; after = begun; was = was; left = refl };
       core = ap (λ (n : ServerNodeState). n.core) begins.1 ∙ ap fresh_server (sym sites);
-      crashes = subst (λ (p : StoreState × StoreState). StoreRestarts p.0 p.1 0) {x = (store_of life.last, life.store)} {y = (last.store, begun.store)}
-          (λ i. (store_of (last_is i), sym (ap (λ (n : ServerNodeState). n.store) begins.1) i)) crashes;
+      reopens = subst (λ (p : StoreState × StoreState). StoreReopens p.0 p.1 0) {x = (store_of life.last, life.store)} {y = (last.store, begun.store)}
+          (λ i. (store_of (last_is i), sym (ap (λ (n : ServerNodeState). n.store) begins.1) i)) reopens;
       started = ap (λ (n : ServerNodeState). n.started) begins.1 ∙ sym start_moment;
       said = refl;
     }
 
     abbrev server_restarted : (actor : ℕ) × (s : ShownStore) × Stands with_server o (record { event = events.Restart number 0 None; line = lines.Restarted number; actor = actor; shown = s } ∷ until_start)
-    server_restarted = restart_server_stands at_start with_server number 0 (lines.Restarted number) server_restarts o until_start start_stands
+    server_restarted = reopen_server_stands at_start with_server number 0 (lines.Restarted number) server_restarts o until_start start_stands
 
     beside_server : (k : ℕ) (other : NodeState) → k ≢ number → HasNode at_end k other → HasNode with_server k other
     beside_server k (Server m) differs there = get_set_other at_end.servers number k begun m differs there
@@ -383,16 +400,23 @@ module _ (A : Type 0) (config : ConfigValue) (number : ℕ) (told : List TurnAct
     last_stands : StandsForRouter o until_start (length o.config.servers + place) last
     last_stands = start_stands.routers place last was
 
-    restarts : NodeRestarts last begun 0 None at_start.clock (Ok tt)
-    restarts = record {
+    abbrev with_router : WorldState
+    with_router = record at_start { bag = at_start.bag ++ []; routers = slice_set at_start.routers place begun }
+
+    router_restarts : RouterReopens at_start with_router number 0 None (lines.Restarted number)
+    router_restarts = record {
+      acts = record { place = place; number = number_is; before = last; after = begun; was = was; left = refl };
       me = starts.me ∙ ap (λ (n : RouterNodeState). n.me) down_is ∙ ap (λ (r : RouterEntryValue). r.me) entry_is ∙ sym (last_stands.me ∙ ap (λ (r : RouterEntryValue). r.me) in_model);
       servers = starts.servers ∙ ap (λ (n : RouterNodeState). n.servers) down_is ∙ ap (λ (r : RouterEntryValue). r.servers) entry_is ∙ sym (last_stands.servers ∙ ap (λ (r : RouterEntryValue). r.servers) in_model);
       used = starts.used ∙ ap (λ (n : RouterNodeState). n.used) down_is ∙ ap (λ (r : RouterEntryValue). first_used r.key_id) entry_is ∙ sym configured.used;
-      crashed = life.store;
-      crashes = subst (λ (s : StoreState). StoreRestarts s life.store 0) (λ i. store_of (last_is i)) crashes;
+      opened = life.store;
+      reopens = subst (λ (s : StoreState). StoreReopens s life.store 0) (λ i. store_of (last_is i)) reopens;
+      answer = Ok tt;
+      counts = tt;
       starts = subst (λ (p : EtrConfigValue × List MapRecordValue × ℕ × StoreState). CoreAnswersStartOver p.0 p.1 p.2 p.3 begun.store begun.core (Ok tt))
           {x = (config_of down.core, database_of down.core, new.moment, down.store)} {y = (config_of last.core, database_of last.core, at_start.clock, life.store)}
           (λ i. (settings i, same_database i, sym start_moment i, ap (λ (n : RouterNodeState). n.store) down_is i)) starts.starts;
+      said = refl;
     }
       where
         settings : config_of down.core ≡ config_of last.core
@@ -401,19 +425,8 @@ module _ (A : Type 0) (config : ConfigValue) (number : ℕ) (told : List TurnAct
         same_database : database_of down.core ≡ database_of last.core
         same_database = ap (λ (n : RouterNodeState). database_of n.core) down_is ∙ ap (λ (r : RouterEntryValue). r.database) entry_is ∙ sym configured.database
 
-    abbrev with_router : WorldState
-    with_router = record at_start { bag = at_start.bag ++ []; routers = slice_set at_start.routers place begun }
-
-    router_restarts : NetworkRestartsRouter at_start with_router number 0 None (lines.Restarted number)
-    router_restarts = record {
-      acts = record { place = place; number = number_is; before = last; after = begun; was = was; left = refl };
-      answer = Ok tt;
-      restarts = restarts;
-      said = refl;
-    }
-
     abbrev router_restarted : (actor : ℕ) × (s : ShownStore) × Stands with_router o (record { event = events.Restart number 0 None; line = lines.Restarted number; actor = actor; shown = s } ∷ until_start)
-    router_restarted = restart_router_stands at_start with_router number 0 None (lines.Restarted number) tt router_restarts o until_start start_stands
+    router_restarted = reopen_router_stands at_start with_router number 0 None (lines.Restarted number) tt router_restarts o until_start start_stands
 
     beside_router : (k : ℕ) (other : NodeState) → k ≢ number → HasNode at_end k other → HasNode with_router k other
     beside_router k (Server m) differs has = has
@@ -427,13 +440,17 @@ module _ (A : Type 0) (config : ConfigValue) (number : ℕ) (told : List TurnAct
   same_count : length at_end.servers ≡ length config.servers
   same_count = end_stands.steps.servers ∙ ap (λ (c : ConfigValue). length c.servers) stand.config_is
 
-  by_kind : (last begun : NodeState) → life.last ≡ last → (new.nodes number).node ≡ begun → EndsAsConfigured config number last → HasNode at_end number last → BeginsAt config number life.store new.moment begun → Goes
+  by_kind : (last begun : NodeState) → life.last ≡ last → (new.nodes number).node ≡ begun → EndsAsConfigured config number last → HasNode at_end number last → Begins config number life.store new.moment begun → Goes
   by_kind (Server last) (Server begun) last_is begun_is configured has begins = server_goes_on last begun last_is begun_is
   by_kind (Server last) (Router begun) last_is begun_is configured has (place, number_is, down, over, starts) = absurd (omega (arith, number_is, slice_get_within at_end.servers number last has, same_count))
   by_kind (Router last) (Server begun) last_is begun_is configured (place, number_is, was) begins = absurd (omega (arith, number_is, begins.0, same_count))
   by_kind (Router last) (Router begun) last_is begun_is configured (place, number_is, was) (entry_place, entry_number, down, (entry, there, down_is), starts) =
       router_goes_on last begun last_is begun_is configured place number_is was entry_place entry_number down entry there down_is starts
 
+pub lives_are_told : (A : Type 0) (config : ConfigValue) (number : ℕ) (told : List TurnAct) (old new : DeploymentState) (life : BeginsLife A config number told old new) → EndsAsConfigured config number life.last
+    → (w : WorldState) (o : Opening) (T : List Step) → DeploymentStands config old w o T → LifeIsTold config number life.untold told new w o T
+lives_are_told A config number told old new life configured w o T stand =
+    by_kind A config number told old new life w o T stand life.last (new.nodes number).node refl refl configured (end_has A config number told old new life w o T stand) life.begins
+
 pub lives_stand : (A : Type 0) → LivesStand A
-lives_stand A config number told old new life configured counts w o T stand =
-    by_kind A config number told old new life counts w o T stand life.last (new.nodes number).node refl refl configured (end_has A config number told old new life counts w o T stand) life.begins
+lives_stand A config number told old new life configured w o T stand = (lives_are_told A config number told old new life configured w o T stand).goes

@@ -24,7 +24,7 @@ use Rattle.lisp_turns.specs.Node.{NodeState, Server, Router, HasNode, with_node}
 use Rattle.lisp_turns.specs.Part.{IsOwn}
 use Rattle.lisp_turns.proofs.Acting.{get_set_there}
 use Rattle.lisp_turns.proofs.BeginningStores.{get_set_other}
-use Rattle.lisp_deployment.proofs.Passing.{rows_pass, idle_passes}
+use Rattle.lisp_refinement.proofs.Passing.{rows_pass, idle_passes}
 
 -- in an event of its own a node acts, or none does
 own_actor : (t : Context) (number : ℕ) (event : EventValue) (line : Line) → IsOwn number event → MayCome t event line → (t.node ≡ number) ⊎ IsAtNoNode t

@@ -1,7 +1,7 @@
 -- What becomes of a deployment, one deed after another: its nodes take turns, crash, and begin again.
 use Rattle.std.specs.Prelude.{◌≡◌, ℕ, List, [], ◌∷◌, ◌++◌}
 use Rattle.lisp_policy.specs.Configuration.{ConfigValue}
-use Rattle.lisp_nonces.specs.Store.{StoreState, Proceeds}
+use Rattle.lisp_nonces.specs.Store.{StoreState}
 use Rattle.lisp_model.specs.Network.{IsNetwork}
 use Rattle.lisp_model.specs.Trace.{Step, Opening}
 use Rattle.lisp_refinement.specs.World.{WorldState}
@@ -10,7 +10,7 @@ use Rattle.lisp_turns.specs.Acts.{TurnAct}
 use Rattle.lisp_turns.specs.Outside.{Call}
 use Rattle.lisp_turns.specs.Part.{IsPart}
 use Rattle.lisp_deployment.specs.Deployment.{DeploymentState, TakesTurn, DeploymentStands}
-use Rattle.lisp_deployment.specs.Lives.{store_of, BeginsLife, EndsAsConfigured, IsLife}
+use Rattle.lisp_deployment.specs.Lives.{BeginsLife, EndsAsConfigured, IsLife}
 use Rattle.lisp_deployment.specs.Opening.{DeploymentBegins, DeploymentOpens}
 
 -- the node with a number took a turn, in which it asked this of what is outside; or it crashed once it had told this of its last turn,
@@ -19,12 +19,11 @@ pub data Deed : Type 0 where
   Turn : ℕ → List Call → Deed
   Life : ℕ → List TurnAct → Deed
 
--- a node begins again: a router that is as it is configured, or a Map-Server; and no count of failures of its store fell
+-- a node begins again: a router that is as it is configured, or a Map-Server
 pub record BeginsAgain (A : Type 0) (config : ConfigValue) (number : ℕ) (told : List TurnAct) (old new : DeploymentState)
     : Type 0 where
   pub life : BeginsLife A config number told old new
   pub configured : EndsAsConfigured config number life.last
-  pub counts : Proceeds (store_of life.last) life.store
 
 abbrev pub DoesDeed : Type 0 → ConfigValue → Deed → DeploymentState → DeploymentState → Type 0
 DoesDeed A config (Turn number calls) old new = TakesTurn A config number calls old new

@@ -1,5 +1,4 @@
 pub mod Budgeted
-pub mod Passing
 pub mod Late
 pub mod Deployment
 pub mod Opening

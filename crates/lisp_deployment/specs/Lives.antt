@@ -1,19 +1,19 @@
 -- The lives of a node in a deployment: it starts, takes turns, and stops, perhaps in the middle of one.
-use Rattle.std.specs.Prelude.{◌≡◌, ◌≢◌, ◌⊎◌, ℕ, ◌+◌, ◌<◌, ◌≤◌, IsTrue, true, false, List, [], ◌∷◌, ◌++◌, length, map, None, Ok}
+use Rattle.std.specs.Prelude.{◌≡◌, ◌≢◌, ◌⊎◌, ℕ, ◌<◌, ◌≤◌, IsTrue, true, false, List, [], ◌∷◌, ◌++◌, map, None}
 use Rattle.std.specs.List.{AllByRecursion}
 use Rattle.lisp_records.specs.declared.address.Addr.{Addr}
 use Rattle.lisp_records.specs.Moment.{max_moment}
 use Rattle.lisp_policy.specs.Configuration.{ConfigValue}
 use Rattle.lisp_nonces.specs.Kept.{NarrowsEach}
-use Rattle.lisp_nonces.specs.Store.{StoreState, Proceeds}
+use Rattle.lisp_nonces.specs.Store.{StoreState}
 use Rattle.lisp_model.specs.declared.event.Event.TheVariants as events
 use Rattle.lisp_model.specs.declared.line.Line.TheVariants as lines
 use Rattle.lisp_model.specs.Trace.{router_at, etr_config_of, Step, Opening}
-use Rattle.lisp_refinement.specs.Calls.{NodeStarts, config_of, database_of}
+use Rattle.lisp_refinement.specs.Calls.{config_of, database_of}
 use Rattle.lisp_refinement.specs.World.{RouterNodeState, WorldState}
 use Rattle.lisp_nodes.specs.Cores.{first_used}
-use Rattle.lisp_world.specs.Making.{server_over, IsRouterOver}
 use Rattle.lisp_turns.specs.Acts.{TurnAct, DoesAll, acts_calls}
+use Rattle.lisp_turns.specs.Beginning.{Begins}
 use Rattle.lisp_turns.specs.Due.{IsDuty, IsRefused}
 use Rattle.lisp_turns.specs.Node.{NodeState, Server, Router, Passes}
 use Rattle.lisp_turns.specs.Part.{IsOwn, ArePrinted, arrival, arrivals, lines_of}
@@ -32,19 +32,6 @@ pub record Survives (last next : StoreState) : Type 0 where
 abbrev pub store_of : NodeState → StoreState
 store_of (Server n) = n.store
 store_of (Router n) = n.store
-
--- a router started at a moment
-pub record StartsAt (old new : RouterNodeState) (now : ℕ) : Type 0 where
-  pub me : new.me ≡ old.me
-  pub servers : new.servers ≡ old.servers
-  pub used : new.used ≡ old.used
-  pub starts : NodeStarts old new None now (Ok tt)
-
--- the node with a number at the start of a life that begins at a moment, over a store: a Map-Server that holds nothing, or a router
-abbrev pub BeginsAt : ConfigValue → ℕ → StoreState → ℕ → NodeState → Type 0
-BeginsAt config number store now (Server n) = (number < length config.servers) × (n ≡ record (server_over config store) { started = now })
-BeginsAt config number store now (Router n) = (place : ℕ) × (number ≡ length config.servers + place)
-    × (down : RouterNodeState) × IsRouterOver config place store down × StartsAt down n now
 
 -- What is left of a turn that a crash cut off at a moment, the newest act first. The older acts were told, unless they were due and
 -- refused, and their messages sent; of those behind them the store keeps what they saved, and nobody was told.
@@ -74,7 +61,7 @@ pub record BeginsLife (A : Type 0) (config : ConfigValue) (number : ℕ) (told :
   pub survives : Survives (store_of last) store
   pub later : (old.moment ≤ ended) × (ended ≤ new.moment)
   pub bound : new.moment ≤ max_moment
-  pub begins : BeginsAt config number store new.moment (new.nodes number).node
+  pub begins : Begins config number store new.moment (new.nodes number).node
   pub fresh : new.nodes number ≡ beginning (new.nodes number).node (new.nodes number).resolving (new.nodes number).outside
   pub others : (k : ℕ) → k ≢ number → new.nodes k ≡ old.nodes k
   pub sent : new.sent ≡ old.sent ++ sent_by config number (acts_calls told)
@@ -117,9 +104,9 @@ pub record LifeGoesOn (config : ConfigValue) (number : ℕ) (untold told : List 
   pub swallowed : ArePrinted life.untold (map (λ a. a.act.line) untold)
   pub stands : DeploymentStands config new left o (steps ++ T)
 
--- A node's next life is a restart, where a router ended as it is configured, and no count of failures of the node's store fell.
+-- A node's next life is a restart, where a router ended as it is configured.
 abbrev pub LivesStand : Type 0 → Type 0
 LivesStand A = (config : ConfigValue) (number : ℕ) (told : List TurnAct) (old new : DeploymentState)
-    → (life : BeginsLife A config number told old new) → EndsAsConfigured config number life.last → Proceeds (store_of life.last) life.store
+    → (life : BeginsLife A config number told old new) → EndsAsConfigured config number life.last
     → (w : WorldState) (o : Opening) (T : List Step) → DeploymentStands config old w o T
     → LifeGoesOn config number life.untold told new o T

@@ -5,11 +5,10 @@ ghost use Rattle.lisp_deployment.specs.Deeds.{DeploymentsHaveTraces};
 ghost use Rattle.lisp_deployment.specs.Deployment.{TurnsAreOneTrace};
 ghost use Rattle.lisp_deployment.specs.Late.{LateTurnsAreParts};
 ghost use Rattle.lisp_deployment.specs.Lives.{LivesStand, LostTurnsAreCuts};
-ghost use Rattle.lisp_deployment.specs.Opening.{DeploymentsAreNetworks};
+ghost use Rattle.lisp_deployment.specs.Opening.{DeploymentsAreNetworks, DeploymentsBegin};
 ghost use Rattle.lisp_deployment.specs.Printed.{KilledServersAcceptNoReplays, PrintedNoncesRise};
 ghost use Rattle.lisp_deployment.specs.Received.{UnforgedDeploymentsAreClean};
-ghost use Rattle.lisp_deployment.specs.Told.{CountedLinesWereAccepted, HeldRowsAgree, HeldRowsWereSent};
-ghost use Rattle.lisp_deployment.specs.Passing.{IdlingPasses, PassingStands, TicksArePasses};
+ghost use Rattle.lisp_deployment.specs.Told.{AnswersShowHeld, CountedLinesWereAccepted, HeldRowsAgree, HeldRowsWereSent};
 
 use std::alloc::Allocator;
 
@@ -17,22 +16,6 @@ use std::alloc::Allocator;
 /// budget allows: to one destination, or to all of them. What the socket then refused counts too.
 pub fn replies_keep_the_budget<A: Allocator>()
     ensures { RepliesKeepTheBudget A }
-{}
-
-/// A network that matches a trace, and in which time passes, matches the trace followed by a tick, whichever dead rows its
-/// Map-Servers drop.
-pub fn passing_stands()
-    ensures { PassingStands }
-{}
-
-/// Where each Map-Server drops all its dead rows, as a tick makes them do, time passes.
-pub fn ticks_are_passes()
-    ensures { TicksArePasses }
-{}
-
-/// Where no node drops any row, time passes too, up to the greatest moment.
-pub fn idling_passes()
-    ensures { IdlingPasses }
 {}
 
 /// Turns of a node are a legal trace's part of it, also in a network whose clock is behind the one of the node.
@@ -45,6 +28,11 @@ pub fn late_turns_are_parts<A: Allocator>()
 /// lines that a node printed are those of its steps, and the network has each datagram that was sent.
 pub fn turns_are_one_trace<A: Allocator>()
     ensures { TurnsAreOneTrace A }
+{}
+
+/// For all honest stores that keep something for each pair there is a deployment that begins over them: until its first life a node idles.
+pub fn deployments_begin()
+    ensures { DeploymentsBegin }
 {}
 
 /// All that the nodes of a configuration do from their start on, each over an honest store of its own, is one network's: it has
@@ -92,9 +80,14 @@ pub fn killed_servers_accept_no_replays<A: Allocator>()
 }
 
 /// Where nothing that was received was forged, each row that a Map-Server holds is of a Map-Register that it accepted and a router sent,
-/// whose database had the row's record then; both lines were printed, or a crash swallowed them (RFC 9301 sections 5.6 and 8.2).
+/// whose database had the row's record then; both lines were printed, whoever crashed since (RFC 9301 sections 5.6 and 8.2).
 pub fn held_rows_were_sent<A: Allocator>()
     ensures { HeldRowsWereSent A }
+{}
+
+/// What a user of a Map-Server is shown in a turn it holds at the turn's end.
+pub fn answers_show_held<A: Allocator>()
+    ensures { AnswersShowHeld A }
 {}
 
 /// Where nothing that was received was forged, two Map-Servers that hold rows of one router and prefix, sent with no change of its
@@ -103,8 +96,8 @@ pub fn held_rows_agree<A: Allocator>()
     ensures { HeldRowsAgree A }
 {}
 
-/// Where nothing that was received was forged, a router that printed that it counted a nonce has a Map-Server that accepted it: the
-/// line was printed, or a crash swallowed it (RFC 9301 section 5.7).
+/// Where nothing that was received was forged, a router that printed that it counted a nonce has a Map-Server that accepted it, and
+/// printed that, whoever crashed since (RFC 9301 section 5.7).
 pub fn counted_lines_were_accepted<A: Allocator>()
     ensures { CountedLinesWereAccepted A }
 {}

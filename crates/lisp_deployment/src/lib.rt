@@ -3,9 +3,12 @@
 //!
 //! # Decisions
 //!
-//! - Where time passes a node may drop its dead rows or keep them: a program drops them in its own turns, and not whenever
-//!   another node acts. No promise speaks of a dead row.
+//! - Where time passes a node may drop its dead rows or keep them (`passing_stands` of `lisp_refinement`): a program drops them in its
+//!   own turns, and not whenever another node acts. No promise speaks of a dead row.
 //! - A deployment has one moment: of two turns the later one reads its clock no earlier. So all clocks are taken to be one.
+//! - A node that starts later than its network idles until then, as if it had begun with it, and then begins again: so each life
+//!   of a program is a restart.
+//! - A store that another process opens counts its failures anew. So a restart may lower that count; no promise speaks of it.
 //! - The network has all that the nodes sent, and perhaps more: a node that crashed may have saved the nonce of a message that it
 //!   didn't send any more. Nobody receives such a message.
 //! - To the trace all that a node receives comes from outside; what another node sent is an echo of it there. That nobody

@@ -1,5 +1,0 @@
-use Rattle.lisp_deployment.proofs.Passing.{idling_passes}
-use Rattle.lisp_deployment.proofs.laws.idling_passes.Goals as goal
-
-pub returns : goal.returns
-returns c = idling_passes

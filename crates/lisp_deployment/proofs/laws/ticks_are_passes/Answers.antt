@@ -1,5 +1,0 @@
-use Rattle.lisp_deployment.proofs.Passing.{ticks_are_passes}
-use Rattle.lisp_deployment.proofs.laws.ticks_are_passes.Goals as goal
-
-pub returns : goal.returns
-returns c = ticks_are_passes
