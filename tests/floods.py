@@ -26,13 +26,15 @@ RATE, FLOOD, SECONDS = 1_000, 100_000, 4
 # Which part of a processor's time a node may need for them: where it needs more, as a program that isn't optimised does, or on a slow machine,
 # all comes more slowly.
 BUSY = 0.6
-# How often it is measured again where a wait is too long, or has no end, since the system's buffer of the socket is full while others have the
-# processor: the longest of some thousands is one that the machine makes, too. Where all comes
-# more than so many times as slowly they are too few, and aren't compared.
-TRIES, SLOWEST = 5, 4
-# Where a machine has no other work each processor is idle for more than this part of the time, and a node and this program wait for one for less
-# than that.
-IDLE, WAITING = 0.15, 0.02
+# Each of these has a processor of its own, where there are so many: who watches for the answers to a flood, who sends it, who asks beside it, and
+# the node.
+PARTIES = WATCHER, SENDER, ASKER, NODE = range(4)
+# For how many seconds at a time the last three may wait for a processor in a try that is compared; and what comes in how many has room in the
+# buffer of a socket.
+KEPT, ROOM = 0.001, 0.01
+# How many tries there are, since the longest of some thousands of waits is one that the machine makes, too; and how many have to be compared before
+# it fails. Where all comes more than so many times as slowly the waits are too few, and aren't compared.
+TRIES, ENOUGH, SLOWEST = 10, 3, 4
 # From how many addresses a flood comes, and how many ITR-RLOCs ask beside one.
 SOURCES, ITRS = 20_000, 64
 # Where there is a disk in memory the folders are there.
@@ -50,17 +52,29 @@ def note(text):
 # ---- beside a flood
 
 
-class Beside:
-    """A function that runs in a process of its own, and what it returns."""
+def keep_apart(process, party):
+    """Gives a party its processor, where there is one for each, and the first turn there, where the system lets us (sched(7))."""
+    processors = sorted(os.sched_getaffinity(0))
+    if len(processors) >= len(PARTIES):
+        os.sched_setaffinity(process, {processors[party]})
+        with contextlib.suppress(PermissionError):
+            os.sched_setscheduler(process, os.SCHED_FIFO, os.sched_param(1))
 
-    def __init__(self, function, *arguments):
+
+class Beside:
+    """A function that runs in a process of its own, as a party, and what it returns."""
+
+    def __init__(self, party, function, *arguments):
         self.ours, its = FORKED.Pipe()
-        self.process = FORKED.Process(target=self.run, args=(its, function, arguments))
+        self.process = FORKED.Process(target=self.run, args=(its, party, function, arguments))
         self.process.start()
         its.close()
+        self.ours.recv()
 
-    def run(self, its, function, arguments):
+    def run(self, its, party, function, arguments):
         self.ours.close()
+        keep_apart(os.getpid(), party)
+        its.send("begun")
         its.send(function(its, *arguments))
 
     def result(self):
@@ -95,9 +109,30 @@ def flood(told, server, datagrams, count):
     return sent
 
 
-def waits(send, receive, it, count):
-    """How long each of so many messages, which are sent evenly over SECONDS, waits for its answer; and those that get none in two seconds."""
-    begun, sent, found, number = time.monotonic(), {}, [], 0
+class Kept:
+    """For how many seconds at a time some processes waited for a processor at most. The system has sums: what all waited between two looks is taken
+    as one wait."""
+
+    def __init__(self, processes):
+        # (They are closed as this process ends.)
+        self.files = [os.open(f"/proc/{process}/schedstat", os.O_RDONLY) for process in processes]
+        self.sum, self.longest = self.waited(), 0.0
+
+    def waited(self):
+        return sum(int(os.pread(file, 100, 0).split()[1]) for file in self.files) / 1e9
+
+    def look(self):
+        last, self.sum = self.sum, self.waited()
+        self.longest = max(self.longest, self.sum - last)
+
+
+# How long messages waited for their answers, in seconds; which of them got none in two; and for how long at a time somebody waited for a processor.
+Waits = collections.namedtuple("Waits", "seconds missing kept")
+
+
+def waits(_told, send, receive, it, count, others):
+    """The waits of so many messages, which are sent evenly over SECONDS; of this process and others it is seen how they wait for a processor."""
+    begun, sent, found, number, kept = time.monotonic(), {}, [], 0, Kept([os.getpid(), *others])
     gap = SECONDS / count
     while number < count or sent and time.monotonic() < begun + SECONDS + 2:
         while number < count and number * gap <= time.monotonic() - begun:
@@ -109,7 +144,8 @@ def waits(send, receive, it, count):
             got = receive()
             if got in sent:
                 found.append(time.monotonic() - sent.pop(got))
-    return found, sorted(sent)
+            kept.look()
+    return Waits(found, sorted(sent), kept.longest)
 
 
 class Registrar:
@@ -122,36 +158,14 @@ class Registrar:
         self.nonce += count
         return [registration(nonce, registered("10.1.7.0/24")) for nonce in range(self.nonce - count, self.nonce)]
 
-    def waits(self, count):
-        first, messages = self.nonce, self.messages(count)
-        return waits(lambda number: self.it.sendto(messages[number], (self.here.s1, PORT)), lambda: nonce_in(self.it.recv(65535)) - first,
-                     self.it, count)
+    def waits(self, messages, *others):
+        first = nonce_in(messages[0])
+        return Beside(ASKER, waits, lambda number: self.it.sendto(messages[number], (self.here.s1, PORT)),
+                      lambda: nonce_in(self.it.recv(65535)) - first, self.it, len(messages), others).result()
 
 
 def processor_seconds(process):
     return int(Path(f"/proc/{process.pid}/schedstat").read_text().split()[0]) / 1e9
-
-
-class Machine:
-    """What the processors do, and how long a node and this program wait for one, since it was made."""
-
-    def __init__(self, process):
-        self.process, self.begun = process, time.monotonic()
-        self.first = self.look()
-
-    def look(self):
-        """For how long each processor was idle, and how long both waited, in seconds."""
-        idle = int(Path("/proc/stat").read_text().split(maxsplit=5)[4]) / os.sysconf("SC_CLK_TCK") / os.cpu_count()
-        return idle, sum(int(Path(f"/proc/{pid}/schedstat").read_text().split()[1]) for pid in (self.process.pid, os.getpid())) / 1e9
-
-    def is_busy(self):
-        """Whether it has other work, so that what takes long says nothing of the node: that is told."""
-        took = time.monotonic() - self.begun
-        idle, waited = ((now - first) / took for first, now in zip(self.first, self.look()))
-        busy = idle < IDLE or waited > WAITING
-        if busy:
-            print(f"floods.py: {now.test}: this machine has other work, and how long it takes is not compared", flush=True)
-        return busy
 
 
 def times_as_slow(here, process, registrar, datagrams):
@@ -176,9 +190,10 @@ def times_as_slow(here, process, registrar, datagrams):
 
 
 def in_ms(found):
-    """The median of some seconds, what 99 in a hundred are below, and the longest, in ms."""
-    found = sorted(found) or [0]
-    parts = ("median", found[len(found) // 2]), ("of 99 in a hundred", found[len(found) * 99 // 100]), ("longest", found[-1])
+    """The median wait, what 99 in a hundred are below, the longest, and for how long a processor was waited for, in ms."""
+    seconds = sorted(found.seconds) or [0]
+    parts = (("median", seconds[len(seconds) // 2]), ("of 99 in a hundred", seconds[len(seconds) * 99 // 100]), ("longest", seconds[-1]),
+             ("kept", found.kept))
     return ", ".join(f"{name} {it * 1000:.2f} ms" for name, it in parts)
 
 
@@ -209,6 +224,7 @@ def a_network(here):
     """Map-Server s1 with a row by proxy and one of a router that replies by itself, and the sockets of both routers."""
     resolves(here, "s1", prefixes=[".".join(here.front.split(".")[:2]) + ".0.0/16"])
     process = a_server(here, stdout=subprocess.DEVNULL)
+    keep_apart(process.pid, NODE)
     with peer(here.r1) as r1, stamped(peer(here.r2)) as r2:
         register(here, r1, 1, registered("10.1.4.0/24"))
         register(here, r2, 1, registered("10.1.2.0/24"), proxy=False, xtr=XTR + 1)
@@ -222,39 +238,51 @@ def a_free_port():
         return it.port
 
 
-def beside_a_flood(here, process, datagrams, count, port, r2, function, *arguments):
-    """What a function returns beside a flood of so many datagrams. What goes out meanwhile is within the budget."""
-    machine, watcher, sender = Machine(process), Beside(watch, port), Beside(flood, here.s1, datagrams, count)
+def beside_a_flood(here, process, datagrams, size, port, r2, registrar, messages):
+    """The waits of Map-Registers beside a flood of so many datagrams, of which nine tenths at least are sent where nobody waits long for a processor.
+    What goes out meanwhile is within the budget."""
+    watcher, sender = Beside(WATCHER, watch, port), Beside(SENDER, flood, here.s1, datagrams, size)
     begun, at_first = time.monotonic(), processor_seconds(process)
-    found = function(*arguments)
+    found = registrar.waits(messages, process.pid, sender.process.pid)
     busy = (processor_seconds(process) - at_first) / (time.monotonic() - begun)
     sent, came = sender.result(), watcher.result()
     on = arrivals(r2)
     most, to_all = check_budget("what goes out", came + on)
     check("some goes out", (len(came) > 10, len(on) > 10), (True, True))
-    if count - sent <= count // 10 or not machine.is_busy():
-        check_below("what is left of the flood", count - sent, count // 10)
+    if found.kept <= KEPT:
+        check_below("what is left of the flood", size - sent, size // 10)
     note(f"{sent} sent, {len(came)} Map-Replies, {len(on)} went on; within a second {most} bytes to one, {to_all} to all; busy {busy:.0%}")
     return found
 
 
+def tell_busy(what):
+    print(f"floods.py: {now.test}: this machine has other work, and so nothing is said of {what}", flush=True)
+
+
 def registrations_beside(here, datagrams_of):
-    """Each Map-Register is answered beside a flood of Map-Requests, and none waits longer than twice the longest that one waits without it."""
-    port = a_free_port()
+    """Each Map-Register is answered beside a flood of Map-Requests, and none waits longer than twice the longest that one waits without it: in one
+    of TRIES tries at least. Only those are compared in which, with the flood and without, nobody waited for a processor for longer than KEPT at a
+    time. Where it is so in none of these, and they are fewer than ENOUGH, that is told, and nothing fails."""
+    port, compared = a_free_port(), []
     with a_network(here) as (process, r1, r2):
         registrar = Registrar(here, r1)
         datagrams = datagrams_of(here, port)
         slow = times_as_slow(here, process, registrar, datagrams)
-        machine = Machine(process)
+        count = int(RATE * SECONDS / slow)
         for _ in range(TRIES):
-            count = int(RATE * SECONDS / slow)
-            alone, unanswered = registrar.waits(count)
-            beside, missing = beside_a_flood(here, process, datagrams, int(FLOOD / slow), port, r2, registrar.waits, count)
-            note(f"alone {in_ms(alone)}; beside it {in_ms(beside)}, and {len(missing)} without an answer")
-            if not unanswered + missing and (slow > SLOWEST or max(beside) <= 2 * max(alone)):
+            alone = registrar.waits(registrar.messages(count), process.pid)
+            beside = beside_a_flood(here, process, datagrams, int(FLOOD / slow), port, r2, registrar, registrar.messages(count))
+            missing, is_sound = len(alone.missing + beside.missing), max(alone.kept, beside.kept) <= KEPT
+            text = f"alone {in_ms(alone)}; beside it {in_ms(beside)}; {missing} without an answer"
+            note(text)
+            if not missing and (slow > SLOWEST or is_sound and max(beside.seconds) <= 2 * max(alone.seconds)):
                 return
-        if not machine.is_busy():
-            check(f"the longest wait, {TRIES} times", (len(missing), in_ms(beside)), (0, f"at most twice that of {in_ms(alone)}"))
+            if is_sound:
+                compared.append(text)
+        if len(compared) >= ENOUGH:
+            check("waits", compared, "none without an answer, and the longest at most twice that alone, once")
+        else:
+            tell_busy("how long they wait")
 
 
 def registrations_beside_one_itr(here):
@@ -277,13 +305,15 @@ def requests_beside_a_flood(here):
         forged = [(source, map_register(7, b"other")) for source in invented(here, SOURCES // 10)]
         asked = [asking(nonce, "10.1.4.1", text_of(addresses[nonce % ITRS]), itrs.port) for nonce in range(count)]
         for name, datagrams in (("nothing", []), ("good ones", good), ("forged ones", forged)):
-            sender = Beside(flood, here.s1, datagrams, int(FLOOD / slow) if datagrams else 0)
-            machine = Machine(process)
-            found, missing = waits(lambda number: itrs.send(addresses[number % ITRS], asked[number], here.s1),
-                                   lambda: nonce_in(itrs.socket.recv(65535)), itrs.socket, count)
-            if len(missing) <= count // 100 or not machine.is_busy():
-                check_below(f"those without an answer, beside {name}", len(missing), count // 100)
-            note(f"{len(found)} of {count} answered beside {sender.result()} {name}, {in_ms(found)}")
+            sender = Beside(SENDER, flood, here.s1, datagrams, int(FLOOD / slow) if datagrams else 0)
+            asker = Beside(ASKER, waits, lambda number: itrs.send(addresses[number % ITRS], asked[number], here.s1),
+                           lambda: nonce_in(itrs.socket.recv(65535)), itrs.socket, count, [process.pid])
+            found, most = asker.result(), count // 100
+            if len(found.missing) > most and found.kept > ROOM:
+                tell_busy(f"those without an answer, beside {name}")
+            else:
+                check_below(f"those without an answer, beside {name}", len(found.missing), most)
+            note(f"{len(found.seconds)} of {count} answered beside {sender.result()} {name}, {in_ms(found)}")
 
 
 # ---- what waits
