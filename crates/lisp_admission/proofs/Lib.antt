@@ -1,3 +1,5 @@
 pub mod Other
 mod Searching
+pub mod Secrets
 pub mod Turned
+pub mod Unlimited

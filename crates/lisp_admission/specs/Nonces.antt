@@ -8,7 +8,7 @@ use Rattle.lisp_nonces.specs.Kept.{kept_at, number, with_value, InDoubt}
 use Rattle.lisp_nonces.specs.Store.{StoreState, MayLoad, MayFailSave}
 use Rattle.lisp_nonces.specs.Promises.{KeepsListsIfHonest, IsOfDevice, LoadFailsAsArmed}
 use Rattle.lisp_admission.specs.declared.refused.Refused.{Refused}
-use Rattle.lisp_admission.specs.declared.refused.Refused.TheVariants.{StoreLoad, Replay, StoreSave}
+use Rattle.lisp_admission.specs.declared.refused.Refused.TheVariants.{StoreLoad, Replay, Jump, StoreSave}
 use Rattle.lisp_admission.specs.declared.notice_fault.NoticeFault.{NoticeFault}
 use Rattle.lisp_admission.specs.declared.notice_fault.NoticeFault.TheVariants as notices
 use Rattle.lisp_admission.specs.Pairs.{notice_pair}
@@ -28,13 +28,25 @@ abbrev pub IsBelow : Option ℕ → ℕ → Type 0
 IsBelow None nonce = Unit {0}
 IsBelow (Some base) nonce = base < nonce
 
--- the nonce is above its base
-abbrev pub IsFresh : Option ℕ → StoreState → Pair → ℕ → Type 0
-IsFresh last store pair nonce = (base : Option ℕ) × IsBase last store pair base × IsBelow base nonce
+-- the nonce is no further above its base than it may jump
+abbrev pub IsNear : Option ℕ → Option ℕ → ℕ → Type 0
+IsNear (Some jump) (Some base) nonce = nonce ≤ base + jump
+IsNear _ _ nonce = Unit {0}
 
--- the nonce is not above its base
-abbrev pub IsReplay : Option ℕ → ℕ → Refused → Type 0
-IsReplay base nonce refused = (saved : ℕ) × (base ≡ Some saved) × (nonce ≤ saved) × (refused ≡ Replay saved)
+-- the nonce is above its base, and near it
+abbrev pub IsFresh : Option ℕ → Option ℕ → StoreState → Pair → ℕ → Type 0
+IsFresh jump last store pair nonce = (base : Option ℕ) × IsBase last store pair base × IsBelow base nonce × IsNear jump base nonce
+
+-- the nonce is further above a base than it may jump
+abbrev pub IsFar : Option ℕ → ℕ → ℕ → Type 0
+IsFar (Some jump) base nonce = base + jump < nonce
+IsFar None base nonce = ⊥
+
+-- why a nonce isn't let through over its base: it is not above it, or too far
+abbrev pub IsAmiss : Option ℕ → Option ℕ → ℕ → Refused → Type 0
+IsAmiss jump base nonce (Replay saved) = (base ≡ Some saved) × (nonce ≤ saved)
+IsAmiss jump base nonce (Jump saved) = (base ≡ Some saved) × IsFar jump saved nonce
+IsAmiss jump base nonce _ = ⊥
 
 -- no list of an honest store changed
 abbrev pub KeepsLists : StoreState → StoreState → Type 0
@@ -65,15 +77,16 @@ FailsToSave fault before after pair nonce = fault ≢ faults.OutOfMemory → Dou
 abbrev pub Unknown : Option ℕ → StoreState → StoreState → StoreFault → Type 0
 Unknown last before after fault = (last ≡ None) × HasCause fault before after × (fault ≡ faults.OutOfMemory → after ≡ before) × FailsToLoad fault before
 
--- why a nonce is not let through: its base can't be loaded, or is not below it
-abbrev pub Stops : Option ℕ → StoreState → StoreState → Pair → ℕ → Refused → Type 0
-Stops last before after pair nonce (StoreLoad fault) = Unknown last before after fault
-Stops last before after pair nonce (Replay saved) = IsBase last before pair (Some saved) × (nonce ≤ saved)
-Stops last before after pair nonce _ = ⊥
+-- why a nonce is not let through: its base can't be loaded, is not below it, or is too far below
+abbrev pub Stops : Option ℕ → Option ℕ → StoreState → StoreState → Pair → ℕ → Refused → Type 0
+Stops jump last before after pair nonce (StoreLoad fault) = Unknown last before after fault
+Stops jump last before after pair nonce (Replay saved) = IsBase last before pair (Some saved) × (nonce ≤ saved)
+Stops jump last before after pair nonce (Jump saved) = IsBase last before pair (Some saved) × IsFar jump saved nonce
+Stops jump last before after pair nonce _ = ⊥
 
 -- an answer that is a refusal is one of these
-abbrev pub StopsNonce : {X : Type 0} → Option ℕ → StoreState → StoreState → Pair → ℕ → Result X Refused → Type 0
-StopsNonce last before after pair nonce answer = IfErr answer (Stops last before after pair nonce)
+abbrev pub StopsNonce : {X : Type 0} → Option ℕ → Option ℕ → StoreState → StoreState → Pair → ℕ → Result X Refused → Type 0
+StopsNonce jump last before after pair nonce answer = IfErr answer (Stops jump last before after pair nonce)
 
 -- a nonce isn't saved, and what may be kept of it
 abbrev pub Unsaved : StoreState → StoreState → Pair → ℕ → StoreFault → Type 0

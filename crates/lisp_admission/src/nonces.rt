@@ -1,9 +1,9 @@
 //! Nonces that are checked against the store, and saved in it.
 
-ghost use Rattle.std.specs.Prelude.{◌≡◌, IfOk, IfErr, IsErrOf, OnOk};
+ghost use Rattle.std.specs.Prelude.{◌≡◌, ◌↔◌, IfOk, IfErr, IsErrOf, IsTrue, OnOk};
 ghost use Rattle.lisp_nonces.specs.declared.fault.StoreFault.{StoreFault};
 ghost use Rattle.lisp_nonces.specs.Store.{Proceeds, MaySave};
-ghost use Rattle.lisp_admission.specs.Nonces.{Follows, FollowsNone, NoticeNotKept, IsBase, IsBelow, IsFresh, IsReplay, IsUnspent, KeepsLists, nonce_after, Unasked, Unknown, NotKept, StopsNonce, IsSpent};
+ghost use Rattle.lisp_admission.specs.Nonces.{Follows, FollowsNone, NoticeNotKept, IsAmiss, IsBase, IsBelow, IsFar, IsFresh, IsNear, IsUnspent, KeepsLists, nonce_after, Unasked, Unknown, NotKept, StopsNonce, IsSpent};
 ghost use Rattle.lisp_admission.specs.Pairs.{notice_pair};
 ghost use Rattle.lisp_admission.specs.declared.refused.Refused.{Refused};
 ghost use Rattle.lisp_admission.specs.declared.notice_fault.NoticeFault.{NoticeFault};
@@ -35,16 +35,18 @@ fn last_nonce<S: NonceStore>(
     }
 }
 
-/// Whether a nonce is above the last one of its pair, which is in memory or else in the store. `StoreLoad`,
-/// `Replay`.
+/// Whether a nonce is above the last one of its pair, which is in memory or else in the store, and by `most_jump` at most where
+/// that is given. `StoreLoad`, `Replay`, `Jump`.
 pub fn check_nonce<S: NonceStore>(
     store: &mut S,
     pair: &Pair,
     last: Option<u64>,
     nonce: u64,
+    most_jump: Option<u64>,
 ) -> Result<(), Refused>
-    ensures fresh { OnOk result (IsFresh last (S.seen store.old) pair.now nonce) }
-    ensures refused { StopsNonce last (S.seen store.old) (S.seen store.new) pair.now nonce result }
+    ensures fresh { OnOk result (IsFresh most_jump last (S.seen store.old) pair.now nonce) }
+    ensures refused { StopsNonce most_jump last (S.seen store.old) (S.seen store.new) pair.now
+        nonce result }
     ensures unasked { Unasked last (S.seen store.old) (S.seen store.new) }
     ensures same { KeepsLists (S.seen store.old) (S.seen store.new) }
     ensures plain { ¬ (IsErrOf result Refused.OutOfMemory) }
@@ -52,17 +54,29 @@ pub fn check_nonce<S: NonceStore>(
     ensures proceeds { Proceeds (S.seen store.old) (S.seen store.new) }
 {
     let base = last_nonce(store, pair, last).map_err(Refused::StoreLoad)?;
-    above(base, nonce)
+    follows(base, nonce, most_jump)
 }
 
-// Whether a nonce is above its base; `Replay`.
-fn above(base: Option<u64>, nonce: u64) -> Result<(), Refused>
+// Whether a nonce is above its base, and by `most_jump` at most; `Replay`, `Jump`.
+fn follows(base: Option<u64>, nonce: u64, most_jump: Option<u64>) -> Result<(), Refused>
     ensures fresh { OnOk result (IsBelow base nonce) }
-    ensures refused { IfErr result (λ refused. IsReplay base nonce refused) }
+    ensures near { OnOk result (IsNear most_jump base nonce) }
+    ensures refused { IfErr result (λ refused. IsAmiss most_jump base nonce refused) }
 {
     match base {
         Some(saved) if nonce <= saved => Err(Refused::Replay { saved }),
+        Some(saved) if is_far(most_jump, saved, nonce) => Err(Refused::Jump { saved }),
         _ => Ok(()),
+    }
+}
+
+// Whether a nonce is further above its base than it may jump.
+fn is_far(most_jump: Option<u64>, base: u64, nonce: u64) -> bool
+    ensures { IsTrue result ↔ IsFar most_jump base nonce }
+{
+    match most_jump {
+        Some(most_jump) => nonce.saturating_sub(base) > most_jump,
+        None => false,
     }
 }
 

@@ -4,12 +4,14 @@ ghost use Rattle.std.specs.Prelude.{◌≡◌};
 ghost use Rattle.lisp_admission.specs.Refused.{refused_number, refused_of_read};
 ghost use Rattle.lisp_admission.specs.declared.refused.Refused.TheVariants.{OutOfMemory};
 
+use crate::limit::Limit;
 use lisp_messages::ReadFault;
 use lisp_nonces::StoreFault;
 use std::alloc::{AllocError, AllocFailed};
 use thiserror::Error;
 
-/// The first check that a message fails, in the order of the checks (RFC 9301 section 8.2).
+/// The first check that a message fails, in the order of the checks (RFC 9301 section 8.2). Of the limits `Router` and
+/// `Source` are checked before bit a, `Ttl` after the prefixes.
 #[derive(Clone, Copy, Debug, PartialEq, Eq, Error)]
 pub enum Refused {
     /// The bytes spell no message.
@@ -34,12 +36,21 @@ pub enum Refused {
     /// The place, from 0 on, of the first record whose prefix the site may not register.
     #[error("record {0} is not allowed")]
     NotAllowed(usize),
+    /// The Map-Register is beyond a limit of the site.
+    #[error("beyond a limit of the site: {0}")]
+    Limited(Limit),
     /// The last nonce of the router under that key can't be loaded from the store.
     #[error("the last nonce can't be loaded: {0}")]
     StoreLoad(StoreFault),
     /// The nonce isn't above the last one of the router under that key.
     #[error("the nonce is not above {saved}")]
     Replay {
+        /// That last nonce.
+        saved: u64,
+    },
+    /// The nonce is further above the last one of the router under that key than the site lets it jump.
+    #[error("the nonce is too far above {saved}")]
+    Jump {
         /// That last nonce.
         saved: u64,
     },
@@ -57,7 +68,7 @@ pub enum Refused {
 impl Refused {
     /// The number that operators see: `Read` 50, `UnknownSite` 51, `UnknownKey` 52, `BadAuth` 53,
     /// `MergeAsked` 54, `NotAllowed` 55, `StoreLoad` 56, `Replay` 57, `OutOfMemory` 58, `StoreSave` 59,
-    /// `NoNotice` 60, `NotMine` 61.
+    /// `NoNotice` 60, `NotMine` 61, `Jump` 138; of `Limited` that of the limit.
     pub const fn number(&self) -> u16
         ensures { result ≡ refused_number self.now }
     {
@@ -68,8 +79,10 @@ impl Refused {
             Refused::BadAuth => 53,
             Refused::MergeAsked => 54,
             Refused::NotAllowed(_) => 55,
+            Refused::Limited(limit) => limit.number(),
             Refused::StoreLoad(_) => 56,
             Refused::Replay { .. } => 57,
+            Refused::Jump { .. } => 138,
             Refused::OutOfMemory => 58,
             Refused::StoreSave(_) => 59,
             Refused::NoNotice => 60,

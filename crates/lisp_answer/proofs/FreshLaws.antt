@@ -29,7 +29,7 @@ use Rattle.lisp_server.specs.declared.took.Took.TheVariants.{Accepted, NoticeDon
 use Rattle.lisp_admission.specs.declared.refused.Refused.{Refused}
 use Rattle.lisp_admission.specs.declared.refused.Refused.TheVariants as refusals
 use Rattle.lisp_server.specs.Server.{ServerState}
-use Rattle.lisp_answer.specs.Fresh.{fresh_server, fresh_memory}
+use Rattle.lisp_answer.specs.Fresh.{fresh_server, fresh_memory, source}
 use Rattle.lisp_answer.specs.Answer.{answer_to, read_answer, answer_of, RanOut}
 
 abbrev fresh_store : StoreState
@@ -73,17 +73,19 @@ ack_refused sites from bytes m refusals.UnknownSite never = absurd never
 ack_refused sites from bytes m refusals.UnknownKey never = absurd never
 ack_refused sites from bytes m refusals.MergeAsked never = absurd never
 ack_refused sites from bytes m (refusals.NotAllowed _) never = absurd never
+ack_refused sites from bytes m (refusals.Limited _) never = absurd never
 ack_refused sites from bytes m (refusals.StoreLoad _) never = absurd never
 ack_refused sites from bytes m (refusals.Replay _) never = absurd never
+ack_refused sites from bytes m (refusals.Jump _) never = absurd never
 ack_refused sites from bytes m refusals.OutOfMemory never = absurd never
 ack_refused sites from bytes m (refusals.StoreSave _) never = absurd never
 
-pub taken : {A : Type 0} (sites : List SiteValue) (said : Result MessageValue ReadFault) (from : Addr) (bytes : List ℕ) (new : ServerState) (after : StoreState) (took : Took A) → ServerTakes said from bytes (fresh_server sites) new fresh_store after 0 took → read_answer sites bytes said ≡ Ok (reply_in took)
-taken sites (Ok (Registers m)) from bytes new after (Accepted router key nonce reply) a = ap answer_to a.checks ∙ ap (λ t. Ok (reply_in t)) (sym a.answer)
-taken sites (Ok (Registers m)) from bytes new after (NoticeDone router nonce) never = absurd never
-taken sites (Ok (Notifies m)) from bytes new after (Accepted router key nonce reply) never = absurd never
-taken sites (Ok (Notifies m)) from bytes new after (NoticeDone router nonce) e = absurd (none_stands e.notice.router e.notice e.acknowledges.awaiting.stands)
-taken sites (Err fault) from bytes new after took never = absurd never
+pub taken : {A : Type 0} (sites : List SiteValue) (said : Result MessageValue ReadFault) (bytes : List ℕ) (new : ServerState) (after : StoreState) (took : Took A) → ServerTakes said source bytes (fresh_server sites) new fresh_store after 0 took → read_answer sites bytes said ≡ Ok (reply_in took)
+taken sites (Ok (Registers m)) bytes new after (Accepted router key nonce reply) a = ap answer_to a.checks ∙ ap (λ t. Ok (reply_in t)) (sym a.answer)
+taken sites (Ok (Registers m)) bytes new after (NoticeDone router nonce) never = absurd never
+taken sites (Ok (Notifies m)) bytes new after (Accepted router key nonce reply) never = absurd never
+taken sites (Ok (Notifies m)) bytes new after (NoticeDone router nonce) e = absurd (none_stands e.notice.router e.notice e.acknowledges.awaiting.stands)
+taken sites (Err fault) bytes new after took never = absurd never
 
 -- what a refusal that is out of memory shows, of the server's own or of its store
 pub record Excuse (T : Type 0) (may : Type 0) (bytes : List ℕ) (why : Refused) : Type 0 where
@@ -91,7 +93,7 @@ pub record Excuse (T : Type 0) (may : Type 0) (bytes : List ℕ) (why : Refused)
   pub load : IsErrOf {T = T} (Err why) (refusals.StoreLoad faults.OutOfMemory) → may
   pub save : IsErrOf {T = T} (Err why) (refusals.StoreSave faults.OutOfMemory) → may
 
-register_refused : {T : Type 0} (may : Type 0) (sites : List SiteValue) (bytes : List ℕ) (m : MapRegisterValue) (after : StoreState) (why : Refused) → message_at bytes ≡ Ok (Registers m) → Excuse T may bytes why → Proceeds fresh_store after → RefusesRegister (register_checked sites bytes m) (fresh_server sites) fresh_store after why → (may × RanOut sites bytes why) ⊎ (answer_to (register_checked sites bytes m) ≡ Err why)
+register_refused : {T : Type 0} (may : Type 0) (sites : List SiteValue) (bytes : List ℕ) (m : MapRegisterValue) (after : StoreState) (why : Refused) → message_at bytes ≡ Ok (Registers m) → Excuse T may bytes why → Proceeds fresh_store after → RefusesRegister (register_checked sites source bytes m) (fresh_server sites) fresh_store after why → (may × RanOut sites bytes why) ⊎ (answer_to (register_checked sites source bytes m) ≡ Err why)
 register_refused may sites bytes m after (refusals.StoreLoad fault) read out went r =
     let ran = only_memory after fault went r.cause in
     inl (out.load (ap (λ (f : StoreFault). Err (refusals.StoreLoad f)) ran), (ran, (m, r.passed, read, r.checks)))
@@ -100,6 +102,7 @@ register_refused may sites bytes m after (refusals.StoreSave fault) read out wen
     inl (out.save (ap (λ (f : StoreFault). Err (refusals.StoreSave f)) ran), (ran, (m, r.passed, read, r.checks)))
 register_refused may sites bytes m after refusals.OutOfMemory read out went r = inl (out.own refl)
 register_refused may sites bytes m after (refusals.Replay saved) read out went r = absurd (no_base (pair_of r.passed.message) saved r.base)
+register_refused may sites bytes m after (refusals.Jump saved) read out went r = absurd (no_base (pair_of r.passed.message) saved r.base)
 register_refused may sites bytes m after (refusals.Read _) read out went r = inr (ap answer_to r.0)
 register_refused may sites bytes m after refusals.NotMine read out went r = inr (ap answer_to r.0)
 register_refused may sites bytes m after refusals.UnknownSite read out went r = inr (ap answer_to r.0)
@@ -107,23 +110,26 @@ register_refused may sites bytes m after refusals.UnknownKey read out went r = i
 register_refused may sites bytes m after refusals.BadAuth read out went r = inr (ap answer_to r.0)
 register_refused may sites bytes m after refusals.MergeAsked read out went r = inr (ap answer_to r.0)
 register_refused may sites bytes m after (refusals.NotAllowed _) read out went r = inr (ap answer_to r.0)
+register_refused may sites bytes m after (refusals.Limited _) read out went r = inr (ap answer_to r.0)
 register_refused may sites bytes m after refusals.NoNotice read out went r = inr (ap answer_to r.0)
 
-read_refused : {T : Type 0} (may : Type 0) (sites : List SiteValue) (said : Result MessageValue ReadFault) (from : Addr) (bytes : List ℕ) (after : StoreState) (why : Refused) → message_at bytes ≡ said → Excuse T may bytes why → Proceeds fresh_store after → RefusesRead said from bytes (fresh_server sites) fresh_store after why → (may × RanOut sites bytes why) ⊎ (read_answer sites bytes said ≡ Err why)
-read_refused may sites (Ok (Registers m)) from bytes after why read out went r = register_refused may sites bytes m after why read out went r
-read_refused may sites (Ok (Notifies m)) from bytes after why read out went r = inr (ap Err (ack_refused sites from bytes m why r.0))
-read_refused may sites (Err fault) from bytes after why read out went r = inr (ap Err (sym r.0))
+read_refused : {T : Type 0} (may : Type 0) (sites : List SiteValue) (said : Result MessageValue ReadFault) (bytes : List ℕ) (after : StoreState) (why : Refused) → message_at bytes ≡ said → Excuse T may bytes why → Proceeds fresh_store after → RefusesRead said source bytes (fresh_server sites) fresh_store after why → (may × RanOut sites bytes why) ⊎ (read_answer sites bytes said ≡ Err why)
+read_refused may sites (Ok (Registers m)) bytes after why read out went r = register_refused may sites bytes m after why read out went r
+read_refused may sites (Ok (Notifies m)) bytes after why read out went r = inr (ap Err (ack_refused sites source bytes m why r.0))
+read_refused may sites (Err fault) bytes after why read out went r = inr (ap Err (sym r.0))
 
-pub refused : {T : Type 0} (may : Type 0) (sites : List SiteValue) (from : Addr) (bytes : List ℕ) (after : StoreState) (why : Refused) → Excuse T may bytes why → Proceeds fresh_store after → ServerRefuses (message_at bytes) from bytes (fresh_server sites) fresh_store after why → (may × RanOut sites bytes why) ⊎ (answer_of sites bytes ≡ Err why)
-refused may sites from bytes after refusals.OutOfMemory out went r = inl (out.own refl)
-refused may sites from bytes after (refusals.StoreLoad x) out went r = read_refused may sites (message_at bytes) from bytes after (refusals.StoreLoad x) refl out went r
-refused may sites from bytes after (refusals.StoreSave x) out went r = read_refused may sites (message_at bytes) from bytes after (refusals.StoreSave x) refl out went r
-refused may sites from bytes after (refusals.Replay x) out went r = read_refused may sites (message_at bytes) from bytes after (refusals.Replay x) refl out went r
-refused may sites from bytes after (refusals.Read x) out went r = read_refused may sites (message_at bytes) from bytes after (refusals.Read x) refl out went r
-refused may sites from bytes after refusals.NotMine out went r = read_refused may sites (message_at bytes) from bytes after refusals.NotMine refl out went r
-refused may sites from bytes after refusals.UnknownSite out went r = read_refused may sites (message_at bytes) from bytes after refusals.UnknownSite refl out went r
-refused may sites from bytes after refusals.UnknownKey out went r = read_refused may sites (message_at bytes) from bytes after refusals.UnknownKey refl out went r
-refused may sites from bytes after refusals.BadAuth out went r = read_refused may sites (message_at bytes) from bytes after refusals.BadAuth refl out went r
-refused may sites from bytes after refusals.MergeAsked out went r = read_refused may sites (message_at bytes) from bytes after refusals.MergeAsked refl out went r
-refused may sites from bytes after (refusals.NotAllowed x) out went r = read_refused may sites (message_at bytes) from bytes after (refusals.NotAllowed x) refl out went r
-refused may sites from bytes after refusals.NoNotice out went r = read_refused may sites (message_at bytes) from bytes after refusals.NoNotice refl out went r
+pub refused : {T : Type 0} (may : Type 0) (sites : List SiteValue) (bytes : List ℕ) (after : StoreState) (why : Refused) → Excuse T may bytes why → Proceeds fresh_store after → ServerRefuses (message_at bytes) source bytes (fresh_server sites) fresh_store after why → (may × RanOut sites bytes why) ⊎ (answer_of sites bytes ≡ Err why)
+refused may sites bytes after refusals.OutOfMemory out went r = inl (out.own refl)
+refused may sites bytes after (refusals.StoreLoad x) out went r = read_refused may sites (message_at bytes) bytes after (refusals.StoreLoad x) refl out went r
+refused may sites bytes after (refusals.StoreSave x) out went r = read_refused may sites (message_at bytes) bytes after (refusals.StoreSave x) refl out went r
+refused may sites bytes after (refusals.Replay x) out went r = read_refused may sites (message_at bytes) bytes after (refusals.Replay x) refl out went r
+refused may sites bytes after (refusals.Jump x) out went r = read_refused may sites (message_at bytes) bytes after (refusals.Jump x) refl out went r
+refused may sites bytes after (refusals.Read x) out went r = read_refused may sites (message_at bytes) bytes after (refusals.Read x) refl out went r
+refused may sites bytes after refusals.NotMine out went r = read_refused may sites (message_at bytes) bytes after refusals.NotMine refl out went r
+refused may sites bytes after refusals.UnknownSite out went r = read_refused may sites (message_at bytes) bytes after refusals.UnknownSite refl out went r
+refused may sites bytes after refusals.UnknownKey out went r = read_refused may sites (message_at bytes) bytes after refusals.UnknownKey refl out went r
+refused may sites bytes after refusals.BadAuth out went r = read_refused may sites (message_at bytes) bytes after refusals.BadAuth refl out went r
+refused may sites bytes after refusals.MergeAsked out went r = read_refused may sites (message_at bytes) bytes after refusals.MergeAsked refl out went r
+refused may sites bytes after (refusals.NotAllowed x) out went r = read_refused may sites (message_at bytes) bytes after (refusals.NotAllowed x) refl out went r
+refused may sites bytes after (refusals.Limited x) out went r = read_refused may sites (message_at bytes) bytes after (refusals.Limited x) refl out went r
+refused may sites bytes after refusals.NoNotice out went r = read_refused may sites (message_at bytes) bytes after refusals.NoNotice refl out went r

@@ -10,7 +10,7 @@ use Rattle.lisp_server.specs.Server.{ServerState}
 use Rattle.lisp_server.specs.Checks.{Passed, register_checked, reply_of}
 use Rattle.lisp_admission.specs.declared.refused.Refused.{Refused}
 use Rattle.lisp_admission.specs.declared.refused.Refused.TheVariants.{Read, StoreLoad, OutOfMemory, StoreSave, NoNotice, NotMine}
-use Rattle.lisp_answer.specs.Fresh.{fresh_server, fresh_memory}
+use Rattle.lisp_answer.specs.Fresh.{fresh_server, fresh_memory, source}
 
 -- a Map-Notify, or nothing where none is wanted; or a refusal
 abbrev pub Answer : Type 0
@@ -23,7 +23,7 @@ answer_to (Err refused) = Err refused
 
 -- a Map-Notify is for routers, and no unsolicited Map-Notify (notice) stands that a Map-Notify-Ack could end
 abbrev pub said_answer : List SiteValue → List ℕ → MessageValue → Answer
-said_answer sites bytes (Registers m) = answer_to (register_checked sites bytes m)
+said_answer sites bytes (Registers m) = answer_to (register_checked sites source bytes m)
 said_answer sites bytes (Notifies m) = Err (if m.ack then NoNotice else NotMine)
 
 abbrev pub read_answer : List SiteValue → List ℕ → Result MessageValue ReadFault → Answer
@@ -36,7 +36,7 @@ answer_of sites bytes = read_answer sites bytes (message_at bytes)
 
 -- the bytes are a Map-Register that passes all checks
 abbrev pub PassesAll : List SiteValue → List ℕ → Type 0
-PassesAll sites bytes = (m : MapRegisterValue) × (passed : Passed) × (message_at bytes ≡ Ok (Registers m)) × (register_checked sites bytes m ≡ Ok passed)
+PassesAll sites bytes = (m : MapRegisterValue) × (passed : Passed) × (message_at bytes ≡ Ok (Registers m)) × (register_checked sites source bytes m ≡ Ok passed)
 
 -- memory ran out: here, of a message whose head is read; or in the store, where all checks are passed
 abbrev pub RanOut : List SiteValue → List ℕ → Refused → Type 0

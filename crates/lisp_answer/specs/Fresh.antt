@@ -1,6 +1,8 @@
--- A Map-Server that was just started, and a store in memory that keeps nothing.
-use Rattle.std.specs.Prelude.{List, []}
+-- A Map-Server that was just started, a store in memory that keeps nothing, and where its datagrams come from.
+use Rattle.std.specs.Prelude.{List, [], ◌∷◌}
 use Rattle.std.specs.FinMap.{empty}
+use Rattle.lisp_records.specs.declared.address.Addr.{Addr}
+use Rattle.lisp_records.specs.declared.address.Addr.TheVariants.{V4}
 use Rattle.lisp_policy.specs.Site.{SiteValue}
 use Rattle.lisp_nonces.specs.declared.fate.Fate.TheVariants.{Done}
 use Rattle.lisp_nonces.specs.Memory.{MemoryStoreState}
@@ -11,3 +13,7 @@ fresh_server sites = record { sites = sites; rows = []; nonces = empty; contacts
 
 abbrev pub fresh_memory : MemoryStoreState
 fresh_memory = record { kept = empty; faults = 0; fate = Done }
+
+-- 127.0.0.1
+abbrev pub source : Addr
+source = V4 (127 ∷ 0 ∷ 0 ∷ 1 ∷ [])

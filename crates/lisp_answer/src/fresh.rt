@@ -8,7 +8,7 @@ use lisp_policy::Sites;
 use lisp_records::{Addr, Bytes};
 use lisp_server::{Refused, Server};
 
-/// Where the datagram is said to come from: no answer shows it.
+/// Where the datagram is said to come from: no answer shows it, but where a site lists source addresses.
 const SOURCE: Addr = Addr::V4([127, 0, 0, 1]);
 
 /// What a fresh server of these sites, over an empty store in memory, answers to the bytes: the Map-Notify

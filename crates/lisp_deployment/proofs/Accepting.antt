@@ -55,7 +55,7 @@ module _ (o : Opening) (T : List Step) (printed : List Line) (sent : List Datagr
       by (inl has) = told (datagram_from from (address_at o.config number, bytes)) has row.arrives.message row.arrives.admits.read
       by (inr (inl noise)) = absurd (noise_clash (sym noise.1 ∙ row.arrives.admits.read))
       by (inr (inr forged)) =
-          let known = checked o.config.sites bytes row.arrives.message row.arrives.admits.secret row.arrives.admits.checks in
+          let known = checked o.config.sites from bytes row.arrives.message row.arrives.admits.secret row.arrives.admits.checks in
           absurd (true≢false (sym known.authentic ∙ forged known.secret (inl (at_server, known.known))))
   accepts s U (events.Deliver k fate) own unforged node router key nonce reply row x has = absurd own
   accepts s U _ own unforged node router key nonce reply row x has = absurd row

@@ -1,6 +1,6 @@
 -- Addresses, secrets and spellings, for what a clean trace promises.
-use Rattle.std.proofs.Common.{◌≡◌, ℕ, zero, suc, ◌<◌, ◌≤◌, Bool, true, false, cond, List, [], ◌∷◌, ◌++◌, length, map, Option, Some, None, Ok, Err, refl, sym, ap, subst, inl, inr, ◌∙◌, true≢false, arith}
-use Rattle.std.specs.Prelude.{◌≢◌, ◌⊎◌, ◌==◌, slice_get, Result}
+use Rattle.std.proofs.Common.{◌≡◌, ℕ, zero, suc, ◌<◌, ◌≤◌, Bool, true, false, cond, List, [], ◌∷◌, ◌++◌, length, map, Option, Some, None, Ok, refl, sym, ap, subst, inl, inr, ◌∙◌, true≢false, arith}
+use Rattle.std.specs.Prelude.{◌≢◌, ◌⊎◌, ◌==◌, slice_get}
 use Rattle.std.specs.List.{AllPairs, Contains, find, flat_map}
 use Rattle.std.specs.Option.{option_map, option_to_list}
 use Rattle.std.proofs.lemmas.Bool.{ltb-true, cases_lt}
@@ -12,14 +12,11 @@ use Rattle.lisp_records.specs.declared.address.Addr.{Addr}
 use Rattle.lisp_records.specs.declared.address.Addr.TheVariants.{V4, V6}
 use Rattle.lisp_records.specs.Address.{addr_eq}
 use Rattle.lisp_policy.specs.Configuration.{ConfigValue}
-use Rattle.lisp_policy.specs.Site.{SiteValue, SiteKeyValue, site_of, secret_of, key_of}
+use Rattle.lisp_policy.specs.Site.{SiteValue, SiteKeyValue, secret_of, key_of}
 use Rattle.lisp_messages.specs.Message.{MapRegisterValue}
 use Rattle.lisp_messages.specs.Authentic.{is_authentic}
-use Rattle.lisp_admission.specs.declared.refused.Refused.{Refused}
-use Rattle.std.specs.Prelude.{ok_or, not}
-use Rattle.lisp_admission.specs.declared.refused.Refused.TheVariants.{UnknownSite, UnknownKey, BadAuth, MergeAsked}
-use Rattle.lisp_records.specs.Result.{◌>>=◌}
-use Rattle.lisp_admission.specs.Checks.{check, refused_at, first_not_allowed, secret_under}
+use Rattle.lisp_admission.specs.Checks.{secret_under}
+use Rattle.lisp_admission.proofs.Secrets.{stands_under}
 use Rattle.lisp_model.specs.Trace.{addresses, address_at, node_at, is_server}
 use Rattle.lisp_model.proofs.ListLemmas.{at_head, in_tail, head_or_tail, in_none}
 
@@ -117,24 +114,11 @@ pub record Checked (sites : List SiteValue) (bytes : List ℕ) : Type 0 where
   pub known : Contains (flat_map (λ s. map (λ k. k.secret) s.keys) sites) secret
   pub authentic : is_authentic bytes secret ≡ true
 
-pub checked : (sites : List SiteValue) (bytes : List ℕ) (m : MapRegisterValue) (key : List ℕ) → secret_under sites bytes m ≡ Ok key → Checked sites bytes
-unfolding secret_under
-checked sites bytes m key e = at_site (site_of sites m.site) refl e
-  where
-    err_clash : {why : Refused} → ◌≡◌ {A = Result (List ℕ) Refused} (Err why) (Ok key) → ⊥
-    err_clash e = absurd cc
-
-    at_tag : (site : SiteValue) (secret : List ℕ) → Contains (flat_map (λ s. map (λ k. k.secret) s.keys) sites) secret → (b : Bool) → is_authentic bytes secret ≡ b
-        → (check b BadAuth >>= λ _. check (not m.merge) MergeAsked >>= λ _. refused_at (first_not_allowed site m.records) secret) ≡ Ok key → Checked sites bytes
-    at_tag site secret known true is e = record { secret = secret; known = known; authentic = is }
-    at_tag site secret known false is e = absurd (err_clash e)
-
-    at_key : (site : SiteValue) → Contains sites site → (found : Option (List ℕ)) → secret_of site m.key_id ≡ found
-        → (ok_or found UnknownKey >>= λ secret. check (is_authentic bytes secret) BadAuth >>= λ _. check (not m.merge) MergeAsked >>= λ _. refused_at (first_not_allowed site m.records) secret) ≡ Ok key → Checked sites bytes
-    at_key site has None is e = absurd (err_clash e)
-    at_key site has (Some secret) is e = at_tag site secret (in_flat_map (λ s. map (λ k. k.secret) s.keys) sites site secret has (secret_in site m.key_id secret is)) (is_authentic bytes secret) refl e
-
-    at_site : (found : Option SiteValue) → site_of sites m.site ≡ found
-        → (ok_or found UnknownSite >>= λ site. ok_or (secret_of site m.key_id) UnknownKey >>= λ secret. check (is_authentic bytes secret) BadAuth >>= λ _. check (not m.merge) MergeAsked >>= λ _. refused_at (first_not_allowed site m.records) secret) ≡ Ok key → Checked sites bytes
-    at_site None is e = absurd (err_clash e)
-    at_site (Some site) is e = at_key site (in_find (λ s. s.id == m.site) sites site is) (secret_of site m.key_id) refl e
+pub checked : (sites : List SiteValue) (from : Addr) (bytes : List ℕ) (m : MapRegisterValue) (key : List ℕ) → secret_under sites from bytes m ≡ Ok key → Checked sites bytes
+checked sites from bytes m key e =
+    let its = stands_under sites from bytes m key e in
+    record {
+      secret = key;
+      known = in_flat_map (λ s. map (λ k. k.secret) s.keys) sites its.site key (in_find (λ s. s.id == m.site) sites its.site its.found) (secret_in its.site m.key_id key its.known);
+      authentic = its.authentic;
+    }

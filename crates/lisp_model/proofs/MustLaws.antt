@@ -21,6 +21,8 @@ use Rattle.lisp_etr.specs.declared.send_fault.SendFault.{SendFault}
 use Rattle.lisp_etr.specs.declared.send_fault.SendFault.TheVariants as sends
 use Rattle.lisp_admission.specs.declared.refused.Refused.{Refused}
 use Rattle.lisp_admission.specs.declared.refused.Refused.TheVariants as refuseds
+use Rattle.lisp_admission.specs.Checks.{most_jump_at}
+use Rattle.lisp_admission.specs.Nonces.{IsNear, IsFar}
 use Rattle.lisp_admission.specs.Pairs.{pair_of}
 use Rattle.lisp_model.specs.declared.event.Event.TheVariants as events
 use Rattle.lisp_model.specs.declared.line.Line.{Line}
@@ -33,7 +35,7 @@ use Rattle.lisp_model.specs.Context.{Context, values, IsBase}
 use Rattle.lisp_model.specs.Sending.{CountsFrom, HasPart, pair_at, last_sent, start_values, RefusesToSend}
 use Rattle.lisp_model.specs.Receiving.{Admits, last_in, awaiting, has_tag_for, RefusesMessage, RefusesAck, FailsNotify, FailsCheck}
 use Rattle.lisp_model.specs.Legal.{MayCome, Arrives, Legal, LegalTrace, context_of}
-use Rattle.lisp_model.specs.Must.{Must, MustSend, IsExcused, IsAbove, is_sent, is_accepted, is_done}
+use Rattle.lisp_model.specs.Must.{Must, MustSend, IsExcused, Follows, is_sent, is_accepted, is_done}
 use Rattle.lisp_model.proofs.HeardLines.{Passes, comes_to}
 use Rattle.lisp_model.proofs.MustLemmas.{Reached, reached}
 use Rattle.lisp_model.proofs.PartNumbers.{counts_for_some}
@@ -72,13 +74,21 @@ module _ (t : Context) (reached_here : is_up t.past t.node ≡ true → Reached 
 
 -- a Map-Register that passes all checks with a fresh nonce
 module _ (t : Context) (kind : is_server t.opening.config t.node ≡ true) (a : Arrival) where
-  module _ (m : MapRegisterValue) (admits : Admits t a m) (above : IsAbove (last_in t (pair_of m)) (values t (pair_of m)) m.nonce) where
+  module _ (m : MapRegisterValue) (admits : Admits t a m) (above : Follows (most_jump_at t.opening.config.sites m.site) (last_in t (pair_of m)) (values t (pair_of m)) m.nonce) where
     same_register : (x : MapRegisterValue) → a.read ≡ Ok (Registers x) → m ≡ x
     same_register x read = let both : ◌≡◌ {A = Result MessageValue ReadFault} (Ok (Registers m)) (Ok (Registers x)) = sym admits.read ∙ read in cc
 
-    not_stale : (last : Option ℕ) (kept : List (Option ℕ)) (nonce saved : ℕ) → IsAbove last kept nonce → IsBase last kept (Some saved) → nonce ≤ saved → ⊥
-    not_stale (Some l) kept nonce saved over base low = let same : saved ≡ l = cc in absurd (omega (arith, over, low, same))
-    not_stale None kept nonce saved over base low = let under : saved < nonce = over (Some saved) base in absurd (omega (arith, under, low))
+    not_stale : (jump last : Option ℕ) (kept : List (Option ℕ)) (nonce saved : ℕ) → Follows jump last kept nonce → IsBase last kept (Some saved) → nonce ≤ saved → ⊥
+    not_stale jump (Some l) kept nonce saved over base low = let same : saved ≡ l = cc in let under : l < nonce = over.0 in absurd (omega (arith, under, low, same))
+    not_stale jump None kept nonce saved over base low = let under : saved < nonce = (over (Some saved) base).0 in absurd (omega (arith, under, low))
+
+    near_itself : (jump : Option ℕ) (base nonce : ℕ) → IsNear jump (Some base) nonce → IsFar jump base nonce → ⊥
+    near_itself None base nonce near far = far
+    near_itself (Some jump) base nonce near far = absurd (omega (arith, near, far))
+
+    not_far : (jump last : Option ℕ) (kept : List (Option ℕ)) (nonce saved : ℕ) → Follows jump last kept nonce → IsBase last kept (Some saved) → IsFar jump saved nonce → ⊥
+    not_far jump (Some l) kept nonce saved over base far = let same : l ≡ saved = cc in near_itself jump saved nonce (subst (λ (b : ℕ). IsNear jump (Some b) nonce) same over.1) far
+    not_far jump None kept nonce saved over base far = near_itself jump saved nonce (over (Some saved) base).1 far
 
     passes_no_check : (why : Refused) (read : Result MessageValue ReadFault) → read ≡ Ok (Registers m) → FailsCheck t a read why → ⊥
     passes_no_check why read is fails = refused_clash (sym (subst (λ (r : Result MessageValue ReadFault). FailsCheck t a r why) is fails) ∙ admits.checks)
@@ -88,9 +98,12 @@ module _ (t : Context) (kind : is_server t.opening.config t.node ≡ true) (a : 
 
     accept_or_excused : (named : ℕ) (why : Refused) → RefusesMessage t a why → IsExcused t (lines.Refused named (refusals.Receive why))
     accept_or_excused named (refuseds.StoreLoad fault) row = row.fails.cause
-    accept_or_excused named (refuseds.Replay saved) row = absurd (not_stale (last_in t (pair_of m)) (values t (pair_of m)) m.nonce saved above
+    accept_or_excused named (refuseds.Replay saved) row = absurd (not_stale (most_jump_at t.opening.config.sites m.site) (last_in t (pair_of m)) (values t (pair_of m)) m.nonce saved above
         (subst (λ (x : MapRegisterValue). IsBase (last_in t (pair_of x)) (values t (pair_of x)) (Some saved)) (sym (same_register row.message row.admits.read)) row.counts)
         (subst (λ (x : MapRegisterValue). x.nonce ≤ saved) (sym (same_register row.message row.admits.read)) row.stale))
+    accept_or_excused named (refuseds.Jump saved) row = absurd (not_far (most_jump_at t.opening.config.sites m.site) (last_in t (pair_of m)) (values t (pair_of m)) m.nonce saved above
+        (subst (λ (x : MapRegisterValue). IsBase (last_in t (pair_of x)) (values t (pair_of x)) (Some saved)) (sym (same_register row.message row.admits.read)) row.counts)
+        (subst (λ (x : MapRegisterValue). IsFar (most_jump_at t.opening.config.sites x.site) saved x.nonce) (sym (same_register row.message row.admits.read)) row.far))
     accept_or_excused named refuseds.OutOfMemory row = λ other. absurd (other refl)
     accept_or_excused named (refuseds.StoreSave fault) row = row.fails.cause
     accept_or_excused named _ row = absurd (passes_no_check _ a.read admits.read row.0)
@@ -130,6 +143,7 @@ module _ (t : Context) (kind : is_server t.opening.config t.node ≡ true) (a : 
     end_or_excused : (named : ℕ) (why : Refused) → RefusesMessage t a why → IsExcused t (lines.Refused named (refusals.Receive why))
     end_or_excused named (refuseds.StoreLoad fault) row = row.fails.cause
     end_or_excused named (refuseds.Replay saved) row = absurd (is_no_register row.message row.admits.read)
+    end_or_excused named (refuseds.Jump saved) row = absurd (is_no_register row.message row.admits.read)
     end_or_excused named refuseds.OutOfMemory row = λ other. absurd (other refl)
     end_or_excused named (refuseds.StoreSave fault) row = row.fails.cause
     end_or_excused named _ row = absurd (ends_no_check _ a.read read row.0)

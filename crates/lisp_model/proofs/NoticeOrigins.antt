@@ -1,20 +1,17 @@
 -- Over a clean trace each notice that stands went to where its router was heard, under a secret that the server holds.
-use Rattle.std.proofs.Common.{◌≡◌, ℕ, zero, suc, Bool, true, false, cond, List, [], ◌∷◌, ◌++◌, length, map, Option, Some, None, Ok, Err, refl, sym, ap, subst, inl, inr, ◌∙◌}
-use Rattle.std.specs.Prelude.{◌≢◌, ◌⊎◌, ◌==◌, not, ok_or, if◌then◌else◌, slice_get, Result}
+use Rattle.std.proofs.Common.{◌≡◌, ℕ, zero, suc, Bool, true, false, cond, List, [], ◌∷◌, ◌++◌, length, map, Option, Some, None, Ok, sym, ap, subst, inl, inr, ◌∙◌}
+use Rattle.std.specs.Prelude.{◌≢◌, ◌⊎◌, ◌==◌, not, if◌then◌else◌, slice_get}
 use Rattle.std.specs.List.{AllPairs, Contains, filter, flat_map}
-use Rattle.std.specs.Option.{option_map, option_and_then, option_to_list, unwrap_or}
+use Rattle.std.specs.Option.{option_map, option_to_list, unwrap_or}
 use Rattle.std.proofs.lemmas.List.Elements.{Contains-append_cases}
+use Rattle.lisp_records.specs.declared.address.Addr.{Addr}
 use Rattle.lisp_records.specs.declared.router.RouterId.{RouterId}
 use Rattle.lisp_records.specs.Router.{router_eq}
 use Rattle.lisp_records.proofs.RouterLaws.{router_eq-Decides}
 use Rattle.lisp_policy.specs.Configuration.{ConfigValue}
-use Rattle.lisp_policy.specs.Site.{SiteValue, site_of, secret_of}
 use Rattle.lisp_messages.specs.Message.{MapRegisterValue}
-use Rattle.lisp_messages.specs.Authentic.{is_authentic}
-use Rattle.lisp_admission.specs.declared.refused.Refused.{Refused}
-use Rattle.lisp_admission.specs.declared.refused.Refused.TheVariants.{UnknownSite, UnknownKey, BadAuth, MergeAsked}
-use Rattle.lisp_records.specs.Result.{◌>>=◌}
-use Rattle.lisp_admission.specs.Checks.{check, refused_at, first_not_allowed, secret_under}
+use Rattle.lisp_admission.specs.Checks.{secret_under}
+use Rattle.lisp_admission.proofs.Secrets.{stands_under, its_secret}
 use Rattle.lisp_admission.specs.Pairs.{router_of}
 use Rattle.lisp_model.specs.declared.event.Event.TheVariants as events
 use Rattle.lisp_model.specs.declared.line.Line.{Line}
@@ -63,22 +60,11 @@ abbrev pub site_secrets : ConfigValue → List (List ℕ)
 site_secrets c = flat_map (λ s. map (λ k. k.secret) s.keys) c.sites
 
 -- the secret of a checked message is one of them
-known_secret : (c : ConfigValue) (bytes : List ℕ) (m : MapRegisterValue) (key : List ℕ) → secret_under c.sites bytes m ≡ Ok key → Contains (site_secrets c) (secret_at c.sites m.site m.key_id)
-unfolding secret_under
-known_secret c bytes m key e = at_site (site_of c.sites m.site) refl e
-  where
-    err_clash : {why : Refused} → ◌≡◌ {A = Result (List ℕ) Refused} (Err why) (Ok key) → ⊥
-    err_clash e = absurd cc
-
-    at_key : (site : SiteValue) → Contains c.sites site → (found : Option (List ℕ)) → secret_of site m.key_id ≡ found
-        → (ok_or found UnknownKey >>= λ secret. check (is_authentic bytes secret) BadAuth >>= λ _. check (not m.merge) MergeAsked >>= λ _. refused_at (first_not_allowed site m.records) secret) ≡ Ok key → Contains (site_secrets c) (unwrap_or (secret_of site m.key_id) [])
-    at_key site has None is e = absurd (err_clash e)
-    at_key site has (Some secret) is e = subst (λ (found : Option (List ℕ)). Contains (site_secrets c) (unwrap_or found [])) (sym is) (in_flat_map (λ s. map (λ k. k.secret) s.keys) c.sites site secret has (secret_in site m.key_id secret is))
-
-    at_site : (found : Option SiteValue) → site_of c.sites m.site ≡ found
-        → (ok_or found UnknownSite >>= λ site. ok_or (secret_of site m.key_id) UnknownKey >>= λ secret. check (is_authentic bytes secret) BadAuth >>= λ _. check (not m.merge) MergeAsked >>= λ _. refused_at (first_not_allowed site m.records) secret) ≡ Ok key → Contains (site_secrets c) (secret_at c.sites m.site m.key_id)
-    at_site None is e = absurd (err_clash e)
-    at_site (Some site) is e = subst (λ (found : Option SiteValue). Contains (site_secrets c) (unwrap_or (option_and_then (λ s. secret_of s m.key_id) found) [])) (sym is) (at_key site (in_find (λ s. s.id == m.site) c.sites site is) (secret_of site m.key_id) refl e)
+known_secret : (c : ConfigValue) (from : Addr) (bytes : List ℕ) (m : MapRegisterValue) (key : List ℕ) → secret_under c.sites from bytes m ≡ Ok key → Contains (site_secrets c) (secret_at c.sites m.site m.key_id)
+known_secret c from bytes m key e =
+    let its = stands_under c.sites from bytes m key e in
+    subst (λ (found : Option (List ℕ)). Contains (site_secrets c) (unwrap_or found [])) (sym (its_secret c.sites from bytes m key e))
+    (in_flat_map (λ s. map (λ k. k.secret) s.keys) c.sites its.site key (in_find (λ s. s.id == m.site) c.sites its.site its.found) (secret_in its.site m.key_id key its.known))
 
 -- a notice went to where its router was heard
 pub record WentOut (o : Opening) (items : List Item) (x : Notice) : Type 0 where
@@ -133,7 +119,7 @@ module _ (o : Opening) (distinct : AllPairs (λ a b. a ≢ b) (addresses o.confi
           let all = all_known o distinct reads T legal clean in
           let c = comes o T reads (all_from o T legal) (λ i in_it n is. (all i in_it n is).below) s.actor s.event (lines.Accepted server router key nonce datagram) s.shown tt harmless row in
           let is = one_taken c.arrival (clock T) c.row.message c.row.admits.read x (subst (λ (a : Option Arrival). Contains (acceptances_in a (clock T)) x) c.is one) in
-          subst (λ (m : MapRegisterValue). Contains (site_secrets o.config) (secret_at o.config.sites m.site m.key_id)) (sym (ap (λ (y : Acceptance). y.message) is)) (known_secret o.config c.arrival.bytes c.row.message c.row.admits.secret c.row.admits.checks)
+          subst (λ (m : MapRegisterValue). Contains (site_secrets o.config) (secret_at o.config.sites m.site m.key_id)) (sym (ap (λ (y : Acceptance). y.message) is)) (known_secret o.config c.arrival.from c.arrival.bytes c.row.message c.row.admits.secret c.row.admits.checks)
 
       at : (b : Bool) → Contains (if b then acceptances_in (arrival_in (bag o T) s.event) (clock T) ++ acceptances o T k else acceptances o T k) x → Contains (site_secrets o.config) (secret_at o.config.sites x.message.site x.message.key_id)
       at false has = old has

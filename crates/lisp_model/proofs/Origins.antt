@@ -183,7 +183,7 @@ module _ (o : Opening) (T : List Step) (distinct : AllPairs (λ a b. a ≢ b) (a
         only = one_taken (junk_arrival from bytes) (clock T) row.arrives.message row.arrives.admits.read x has
 
         known : Checked o.config.sites bytes
-        known = checked o.config.sites bytes row.arrives.message row.arrives.admits.secret row.arrives.admits.checks
+        known = checked o.config.sites from bytes row.arrives.message row.arrives.admits.secret row.arrives.admits.checks
 
         at_server : is_server o.config to ≡ true
         at_server = ap (is_server o.config) (sym row.acts) ∙ row.arrives.acts.kind

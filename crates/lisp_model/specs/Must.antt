@@ -15,7 +15,8 @@ use Rattle.lisp_etr.specs.Sending.{last_nonce}
 use Rattle.lisp_etr.specs.declared.notify_fault.NotifyFault.TheVariants as notifies
 use Rattle.lisp_etr.specs.declared.send_fault.SendFault.TheVariants as sends
 use Rattle.lisp_admission.specs.declared.refused.Refused.TheVariants as refuseds
-use Rattle.lisp_admission.specs.Nonces.{IsBelow}
+use Rattle.lisp_admission.specs.Checks.{most_jump_at}
+use Rattle.lisp_admission.specs.Nonces.{IsBelow, IsNear}
 use Rattle.lisp_admission.specs.Pairs.{pair_of}
 use Rattle.lisp_model.specs.declared.event.Event.TheVariants as events
 use Rattle.lisp_model.specs.declared.line.Line.{Line}
@@ -70,10 +71,10 @@ abbrev pub is_done : Line → Bool
 is_done (lines.Done _ _ _) = true
 is_done _ = false
 
--- the nonce is above the last one, or where there is none above every value that is kept
-abbrev pub IsAbove : Option ℕ → List (Option ℕ) → ℕ → Type 0
-IsAbove (Some last) kept nonce = last < nonce
-IsAbove None kept nonce = (v : Option ℕ) → Contains kept v → IsBelow v nonce
+-- the nonce is above the last one and near it, or where there is none above every value that is kept and near each
+abbrev pub Follows : Option ℕ → Option ℕ → List (Option ℕ) → ℕ → Type 0
+Follows jump (Some last) kept nonce = (last < nonce) × IsNear jump (Some last) nonce
+Follows jump None kept nonce = (v : Option ℕ) → Contains kept v → IsBelow v nonce × IsNear jump v nonce
 
 -- a router that is up sends a part of its database to a server of its list, where every value that is kept is below
 -- 2^63 - 1
@@ -87,7 +88,7 @@ MustSend Excused t event line = (router server part : ℕ) (fate : Fate) → eve
 abbrev pub MustAccept : Excuse → Context → EventValue → Line → Type 0
 MustAccept Excused t event line = (a : Arrival) (m : MapRegisterValue)
     → arrival_in (bag t.opening t.past) event ≡ Some a → is_server t.opening.config t.node ≡ true → Admits t a m
-    → IsAbove (last_in t (pair_of m)) (values t (pair_of m)) m.nonce → (is_accepted line ≡ true) ⊎ Excused t line
+    → Follows (most_jump_at t.opening.config.sites m.site) (last_in t (pair_of m)) (values t (pair_of m)) m.nonce → (is_accepted line ≡ true) ⊎ Excused t line
 
 -- a Map-Notify-Ack ends the notice that waits for it
 abbrev pub MustEnd : Excuse → Context → EventValue → Line → Type 0

@@ -9,10 +9,10 @@ use Rattle.lisp_nonces.specs.declared.fault.StoreFault.{StoreFault}
 use Rattle.lisp_messages.specs.declared.fault.ReadFault.{ReadFault}
 use Rattle.lisp_messages.specs.Message.{MessageValue, MapRegisterValue, MapNotifyValue, Registers, Notifies}
 use Rattle.lisp_admission.specs.declared.refused.Refused.{Refused}
-use Rattle.lisp_admission.specs.declared.refused.Refused.TheVariants.{Read, NotMine, BadAuth, StoreLoad, Replay, OutOfMemory, StoreSave, NoNotice}
-use Rattle.lisp_admission.specs.Nonces.{IsBelow}
+use Rattle.lisp_admission.specs.declared.refused.Refused.TheVariants.{Read, NotMine, BadAuth, StoreLoad, Replay, Jump, OutOfMemory, StoreSave, NoNotice}
+use Rattle.lisp_admission.specs.Nonces.{IsBelow, IsFar, IsNear}
 use Rattle.lisp_admission.specs.Pairs.{router_of, pair_of}
-use Rattle.lisp_admission.specs.Checks.{secret_under, secret_at}
+use Rattle.lisp_admission.specs.Checks.{secret_under, secret_at, most_jump_at}
 use Rattle.lisp_admission.specs.Checks.{signed_by}
 use Rattle.lisp_messages.specs.Reading.{HasHead, HasRecords}
 use Rattle.lisp_model.specs.Held.{last_of}
@@ -28,13 +28,14 @@ last_in t pair = last_of pair (since_start t.opening t.past t.node)
 pub record Admits (t : Context) (a : Arrival) (m : MapRegisterValue) : Type 0 where
   pub read : a.read ≡ Ok (Registers m)
   pub secret : List ℕ
-  pub checks : secret_under t.opening.config.sites a.bytes m ≡ Ok secret
+  pub checks : secret_under t.opening.config.sites a.from a.bytes m ≡ Ok secret
 
--- its nonce is above a base, which was loaded where it isn't in memory
+-- its nonce is above a base, which was loaded where it isn't in memory, and near it
 pub record IsFresh (t : Context) (m : MapRegisterValue) : Type 0 where
   pub base : Option ℕ
   pub counts : IsBase (last_in t (pair_of m)) (values t (pair_of m)) base
   pub above : IsBelow base m.nonce
+  pub near : IsNear (most_jump_at t.opening.config.sites m.site) base m.nonce
   pub loads : Loads t (last_in t (pair_of m))
 
 -- it is accepted: from now on its nonce alone is kept; a reply goes out where bit M asks for one
@@ -94,7 +95,7 @@ FailsNotify t a m false why = why ≡ NotMine
 -- the first check that a message fails before its nonce is looked at
 abbrev pub FailsCheck : Context → Arrival → Result MessageValue ReadFault → Refused → Type 0
 FailsCheck t a (Err fault) why = why ≡ Read fault
-FailsCheck t a (Ok (Registers m)) why = secret_under t.opening.config.sites a.bytes m ≡ Err why
+FailsCheck t a (Ok (Registers m)) why = secret_under t.opening.config.sites a.from a.bytes m ≡ Err why
 FailsCheck t a (Ok (Notifies m)) why = FailsNotify t a m m.ack why
 
 -- the base can't be loaded
@@ -111,6 +112,15 @@ pub record Replays (t : Context) (a : Arrival) (saved : ℕ) : Type 0 where
   pub counts : IsBase (last_in t (pair_of message)) (values t (pair_of message)) (Some saved)
   pub loads : Loads t (last_in t (pair_of message))
   pub stale : message.nonce ≤ saved
+  pub same : Same t
+
+-- the nonce is too far above its base
+pub record Jumps (t : Context) (a : Arrival) (saved : ℕ) : Type 0 where
+  pub message : MapRegisterValue
+  pub admits : Admits t a message
+  pub counts : IsBase (last_in t (pair_of message)) (values t (pair_of message)) (Some saved)
+  pub loads : Loads t (last_in t (pair_of message))
+  pub far : IsFar (most_jump_at t.opening.config.sites message.site) saved message.nonce
   pub same : Same t
 
 -- the nonce can't be saved
@@ -131,6 +141,7 @@ pub record IsToAccept (t : Context) (a : Arrival) : Type 0 where
 abbrev pub RefusesMessage : Context → Arrival → Refused → Type 0
 RefusesMessage t a (StoreLoad fault) = NotLoaded t a fault
 RefusesMessage t a (Replay saved) = Replays t a saved
+RefusesMessage t a (Jump saved) = Jumps t a saved
 RefusesMessage t a OutOfMemory = HasHead a.bytes × (HasRecords a.bytes ⊎ IsToAccept t a) × Same t
 RefusesMessage t a (StoreSave fault) = NotSaved t a fault
 RefusesMessage t a why = FailsCheck t a a.read why × Same t

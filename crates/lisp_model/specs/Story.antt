@@ -27,6 +27,7 @@ use Rattle.lisp_records.specs.declared.router.RouterId.{RouterId}
 use Rattle.lisp_records.specs.Address.{PrefixValue}
 use Rattle.lisp_records.specs.Record.{MapRecordValue}
 use Rattle.lisp_records.specs.Row.{RowValue}
+use Rattle.lisp_policy.specs.Limits.{no_limits}
 use Rattle.lisp_policy.specs.Configuration.{ConfigValue}
 use Rattle.lisp_policy.specs.Site.{SiteValue}
 use Rattle.lisp_nonces.specs.declared.fate.Fate.TheVariants as fates
@@ -71,7 +72,7 @@ two = record { site = 1; xtr = xtr_of 11 }
 
 -- a site with a key and a prefix
 abbrev pub site : SiteValue
-site = record { id = 1; keys = record { id = 1; secret = secret } ∷ []; prefixes = record { eid = wide; more_specifics = true } ∷ [] }
+site = record { id = 1; keys = record { id = 1; secret = secret } ∷ []; prefixes = record { eid = wide; more_specifics = true } ∷ []; limits = no_limits }
 
 -- Map-Servers 0 and 1; router 2, which registers with both, and router 3, which registers with the first
 abbrev pub network : ConfigValue

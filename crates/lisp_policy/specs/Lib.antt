@@ -1,4 +1,5 @@
 pub mod Order
 pub mod Index
+pub mod Limits
 pub mod Site
 pub mod Configuration

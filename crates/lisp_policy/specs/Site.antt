@@ -5,21 +5,23 @@ use Rattle.std.specs.Option.{option_map}
 use Rattle.lisp_records.specs.declared.address.Addr.{Addr}
 use Rattle.lisp_records.specs.Address.{PrefixValue, Covers, prefix_eq, covers, holds}
 use Rattle.lisp_policy.specs.declared.site.SitePrefix.{SitePrefix}
+use Rattle.lisp_policy.specs.Limits.{LimitsValue, no_limits}
 
 -- a pre-shared secret under its Key ID
 pub record SiteKeyValue : Type 0 where
   pub id : ℕ
   pub secret : List ℕ
 
--- a site: its Site-ID, its keys and its prefixes, in the order of the configuration
+-- a site: its Site-ID, its keys and its prefixes, in the order of the configuration, and its limits
 pub record SiteValue : Type 0 where
   pub id : ℕ
   pub keys : List SiteKeyValue
   pub prefixes : List SitePrefix
+  pub limits : LimitsValue
 
--- the site of a Site-ID, keys and prefixes
+-- the site of a Site-ID, keys and prefixes, without limits
 abbrev pub site_with : ℕ → List SiteKeyValue → List SitePrefix → SiteValue
-site_with id keys prefixes = record { id = id; keys = keys; prefixes = prefixes }
+site_with id keys prefixes = record { id = id; keys = keys; prefixes = prefixes; limits = no_limits }
 
 -- Allowed: some prefix of the site equals the given one, or has more-specifics and covers it
 abbrev pub LetsIn : SitePrefix → PrefixValue → Type 0
@@ -62,4 +64,5 @@ single id key_id secret eid more_specifics = record {
   id = id;
   keys = record { id = key_id; secret = secret } ∷ [];
   prefixes = record { eid = eid; more_specifics = more_specifics } ∷ [];
+  limits = no_limits;
 } ∷ []

@@ -8,10 +8,12 @@
 #![tactic(auto)]
 
 mod index;
+mod limits;
 mod places;
 mod site;
 mod sites;
 
+pub use limits::Limits;
 pub use places::Places;
 pub use site::{Site, SiteKey, SitePrefix};
 pub use sites::Sites;

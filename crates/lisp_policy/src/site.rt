@@ -1,4 +1,4 @@
-//! A site of a Map-Server: its secrets, and the prefixes that its routers may register.
+//! A site of a Map-Server: its secrets, the prefixes that its routers may register, and its limits.
 
 ghost use Rattle.std.specs.Prelude.{◌≡◌, ◌↔◌, IsTrue, IfOk, OnErr};
 ghost use Rattle.std.specs.Option.{option_map};
@@ -6,6 +6,7 @@ ghost use Rattle.lisp_policy.specs.Index.{Indexes};
 ghost use Rattle.lisp_policy.specs.Site.{site_with, Allowed, is_allowed, has_address, lets_in, secret_of};
 
 use crate::index::Index;
+use crate::limits::Limits;
 use lisp_hmac::Key;
 use lisp_memory::{FallibleCopies, FallibleVec, Memory};
 use lisp_records::{Addr, Prefix};
@@ -69,7 +70,7 @@ impl SitePrefix {
     }
 }
 
-/// A site (RFC 9301 section 8.2): its Site-ID, its keys and its prefixes.
+/// A site (RFC 9301 section 8.2): its Site-ID, its keys, its prefixes and its limits.
 #[derive(Drop)]
 pub struct Site<A: Allocator = Global> {
     id: u64,
@@ -77,6 +78,7 @@ pub struct Site<A: Allocator = Global> {
     // Their places, by their Key IDs.
     by_id: Index<A>,
     prefixes: Vec<SitePrefix, A>,
+    limits: Limits<A>,
 }
 
 impl<A: Allocator> Model for Site<A> {
@@ -85,13 +87,13 @@ impl<A: Allocator> Model for Site<A> {
 
     ghost Value = { SiteValue };
 
-    ghost view = { λ s. record { id = s.id; keys = s.keys.items; prefixes = s.prefixes.items } };
+    ghost view = { λ s. record { id = s.id; keys = s.keys.items; prefixes = s.prefixes.items; limits = s.limits } };
 
     ghost invariant = { λ s. Indexes s.by_id (λ k. k.id) s.keys.items };
 }
 
-impl<A: Memory> Site<A> {
-    /// The site of a Site-ID, keys and prefixes.
+impl<A: Memory + Copy> Site<A> {
+    /// The site of a Site-ID, keys and prefixes, without limits.
     pub fn new(
         alloc: A,
         id: u64,
@@ -107,11 +109,19 @@ impl<A: Memory> Site<A> {
             keys,
             by_id,
             prefixes,
+            limits: Limits::none(alloc),
         })
     }
 }
 
 impl<A: Allocator> Site<A> {
+    /// The same site with these limits. Takes no memory.
+    pub fn with_limits(self, limits: Limits<A>) -> Site<A>
+        ensures { result ≡ record self { limits = limits } }
+    {
+        Site { limits, ..self }
+    }
+
     /// The Site-ID.
     pub fn id(&self) -> u64
         ensures { result ≡ self.now.id }
@@ -131,6 +141,13 @@ impl<A: Allocator> Site<A> {
         ensures { result.now ≡ self.now.prefixes }
     {
         &self.prefixes
+    }
+
+    /// The site's limits.
+    pub fn limits(&self) -> &Limits<A>
+        ensures { result.now ≡ self.now.limits }
+    {
+        &self.limits
     }
 
     /// The key under a Key ID, made ready for tags; `None` where the site has no such key.
@@ -172,7 +189,8 @@ impl<A: Allocator> Site<A> {
     {
         let keys = copy_keys(alloc, &self.keys)?;
         let prefixes = Vec::try_from_slice(alloc, &self.prefixes)?;
-        Site::new(alloc, self.id, keys, prefixes)
+        let limits = self.limits.copy(alloc)?;
+        Ok(Site::new(alloc, self.id, keys, prefixes)?.with_limits(limits))
     }
 }
 

@@ -1,17 +1,15 @@
 -- What the checks of a Map-Register come to, its fields and its secret, and the number that its nonce is above.
-use Rattle.std.proofs.Common.{◌≡◌, ℕ, Bool, true, false, List, Option, Some, None, Ok, Err, refl, sym, ap, subst, ◌∙◌}
-use Rattle.std.specs.Prelude.{not, ok_or, Result, IsTrue}
-use Rattle.std.specs.Option.{option_and_then}
+use Rattle.std.proofs.Common.{◌≡◌, ℕ, List, Option, Some, None, Ok, Err, refl, sym, ap, subst, ◌∙◌}
+use Rattle.std.specs.Prelude.{Result, IsTrue}
+use Rattle.lisp_records.specs.declared.address.Addr.{Addr}
 use Rattle.lisp_records.specs.Result.{◌>>=◌}
 use Rattle.lisp_messages.specs.Message.{MapRegisterValue}
-use Rattle.lisp_messages.specs.Authentic.{is_authentic}
-use Rattle.lisp_policy.specs.Site.{SiteValue, site_of, secret_of}
+use Rattle.lisp_policy.specs.Site.{SiteValue}
 use Rattle.lisp_nonces.specs.declared.pair.Pair.{Pair}
 use Rattle.lisp_nonces.specs.Kept.{Kept, kept_at}
 use Rattle.lisp_nonces.specs.Store.{StoreState}
 use Rattle.lisp_admission.specs.declared.refused.Refused.{Refused}
-use Rattle.lisp_admission.specs.declared.refused.Refused.TheVariants as refuseds
-use Rattle.lisp_admission.specs.Checks.{secret_at, secret_under, check, refused_at, first_not_allowed}
+use Rattle.lisp_admission.specs.Checks.{secret_under}
 use Rattle.lisp_admission.specs.Nonces.{IsBase}
 use Rattle.lisp_server.specs.Checks.{Passed, register_checked}
 use Rattle.lisp_model.specs.Context.{IsBase as IsBaseIn}
@@ -28,47 +26,28 @@ module _ {X : Type 0} where
   err_same one other e = cc
 
 -- a Map-Register that passed the checks: what passed is its own, and it stands under its secret
-pub record IsPassed (sites : List SiteValue) (bytes : List ℕ) (m : MapRegisterValue) (passed : Passed) : Type 0 where
+pub record IsPassed (sites : List SiteValue) (from : Addr) (bytes : List ℕ) (m : MapRegisterValue) (passed : Passed) : Type 0 where
   pub message : passed.message ≡ m
-  pub checks : secret_under sites bytes m ≡ Ok passed.secret
+  pub checks : secret_under sites from bytes m ≡ Ok passed.secret
 
-module _ (sites : List SiteValue) (bytes : List ℕ) (m : MapRegisterValue) where
+module _ (sites : List SiteValue) (from : Addr) (bytes : List ℕ) (m : MapRegisterValue) where
   -- what passed the checks has passed each
-  passed_case : (passed : Passed) (r : Result (List ℕ) Refused) → secret_under sites bytes m ≡ r → (r >>= λ secret. Ok (record { message = m; secret = secret })) ≡ Ok passed → IsPassed sites bytes m passed
+  passed_case : (passed : Passed) (r : Result (List ℕ) Refused) → secret_under sites from bytes m ≡ r → (r >>= λ secret. Ok (record { message = m; secret = secret })) ≡ Ok passed → IsPassed sites from bytes m passed
   passed_case passed (Ok secret) is e =
       let same : record { message = m; secret = secret } ≡ passed = (let at : ◌≡◌ {A = Result Passed Refused} (Ok (record { message = m; secret = secret })) (Ok passed) = e in cc) in
       record { message = ap (λ (p : Passed). p.message) (sym same); checks = is ∙ ap (λ (p : Passed). Ok p.secret) same }
   passed_case passed (Err why) is e = absurd (ok_clash e)
 
-  pub is_passed : (passed : Passed) → register_checked sites bytes m ≡ Ok passed → IsPassed sites bytes m passed
-  is_passed passed e = passed_case passed (secret_under sites bytes m) refl e
+  pub is_passed : (passed : Passed) → register_checked sites from bytes m ≡ Ok passed → IsPassed sites from bytes m passed
+  is_passed passed e = passed_case passed (secret_under sites from bytes m) refl e
 
   -- one that failed a check is refused for it
   failed_case : (why : Refused) (r : Result (List ℕ) Refused) → ◌≡◌ {A = Result Passed Refused} (r >>= λ secret. Ok (record { message = m; secret = secret })) (Err why) → r ≡ Err why
   failed_case why (Ok secret) e = absurd (err_clash e)
   failed_case why (Err other) e = ap Err (err_same other why e)
 
-  pub is_failed : (why : Refused) → register_checked sites bytes m ≡ Err why → secret_under sites bytes m ≡ Err why
-  is_failed why e = failed_case why (secret_under sites bytes m) e
-
-  -- the secret is that of its key
-  last : (a b : Bool) (o : Option ℕ) (secret s : List ℕ) → (check a refuseds.BadAuth >>= λ _. check b refuseds.MergeAsked >>= λ _. refused_at o secret) ≡ Ok s → secret ≡ s
-  last true true None secret s e = let same : ◌≡◌ {A = Result (List ℕ) Refused} (Ok secret) (Ok s) = e in cc
-  last true true (Some place) secret s e = absurd (ok_clash e)
-  last true false o secret s e = absurd (ok_clash e)
-  last false b o secret s e = absurd (ok_clash e)
-
-  pub its_secret : (key : List ℕ) → secret_under sites bytes m ≡ Ok key → secret_at sites m.site m.key_id ≡ Some key
-  unfolding secret_under
-  its_secret key e = by_site (site_of sites m.site) e
-    where
-      by_secret : (site : SiteValue) (o : Option (List ℕ)) → (ok_or o refuseds.UnknownKey >>= λ secret. check (is_authentic bytes secret) refuseds.BadAuth >>= λ _. check (not m.merge) refuseds.MergeAsked >>= λ _. refused_at (first_not_allowed site m.records) secret) ≡ Ok key → o ≡ Some key
-      by_secret site None e = absurd (ok_clash e)
-      by_secret site (Some x) e = ap Some (last (is_authentic bytes x) (not m.merge) (first_not_allowed site m.records) x key e)
-
-      by_site : (o : Option SiteValue) → (ok_or o refuseds.UnknownSite >>= λ site. ok_or (secret_of site m.key_id) refuseds.UnknownKey >>= λ secret. check (is_authentic bytes secret) refuseds.BadAuth >>= λ _. check (not m.merge) refuseds.MergeAsked >>= λ _. refused_at (first_not_allowed site m.records) secret) ≡ Ok key → option_and_then (λ s. secret_of s m.key_id) o ≡ Some key
-      by_site None e = absurd (ok_clash e)
-      by_site (Some site) e = by_secret site (secret_of site m.key_id) e
+  pub is_failed : (why : Refused) → register_checked sites from bytes m ≡ Err why → secret_under sites from bytes m ≡ Err why
+  is_failed why e = failed_case why (secret_under sites from bytes m) e
 
 -- a base that an honest store may answer is one by what it keeps
 base_kept : (last : Option ℕ) (store : StoreState) (pair : Pair) (base : Option ℕ) → IsTrue store.is_honest → IsBase last store pair base → IsBaseIn last (kept_at store.kept pair) base

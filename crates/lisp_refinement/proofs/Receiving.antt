@@ -48,7 +48,8 @@ use Rattle.lisp_refinement.specs.Events.{reply_number, server_line, replies}
 use Rattle.lisp_refinement.specs.Stands.{shown_by, Shows, SameNotice, StandsForServer}
 use Rattle.lisp_refinement.proofs.Acting.{Adds, adds_none, adds_one, by_fate}
 use Rattle.lisp_refinement.proofs.Acceptances.{not_notices, nonces_after, rows_after, contacts_after}
-use Rattle.lisp_refinement.proofs.Checked.{is_passed, its_secret}
+use Rattle.lisp_admission.proofs.Secrets.{its_secret}
+use Rattle.lisp_refinement.proofs.Checked.{is_passed}
 use Rattle.lisp_refinement.proofs.Refusing.{arriving, turn_at, admits, is_fresh, same_store, refuses}
 use Rattle.lisp_refinement.proofs.Going.{notice_goes}
 use Rattle.lisp_refinement.proofs.StandingNotices.{awaited, signed_same, ended_same}
@@ -159,7 +160,7 @@ module _ (o : Opening) (T : List Step) (node : ℕ) (kind : is_server o.config n
 
   -- a Map-Register is accepted
   module _ {A : Type 0} (m : MapRegisterValue) (router : RouterId) (key nonce : ℕ) (reply : Option (List ℕ)) (arrives : arrival_in (bag o T) event ≡ Some (arriving from bytes (Ok (Registers m))))
-      (a : Accepts {A = A} (register_checked before.core.sites bytes m) before.core after.core armed called from (clock T) (Accepted router key nonce reply)) where
+      (a : Accepts {A = A} (register_checked before.core.sites from bytes m) before.core after.core armed called from (clock T) (Accepted router key nonce reply)) where
     -- the message, what comes of it, and the line
     abbrev message : MapRegisterValue
     message = a.passed.message
@@ -199,8 +200,8 @@ module _ (o : Opening) (T : List Step) (node : ℕ) (kind : is_server o.config n
     -- the secret of the reply
     secret_is : a.passed.secret ≡ secret_at o.config.sites message.site message.key_id
     secret_is =
-        let passed = is_passed before.core.sites bytes m a.passed a.checks in
-        sym ((λ i. secret_at (sym part.sites i) (passed.message i).site (passed.message i).key_id) ∙ ap (λ (x : Option (List ℕ)). unwrap_or x []) (its_secret before.core.sites bytes m a.passed.secret passed.checks))
+        let passed = is_passed before.core.sites from bytes m a.passed a.checks in
+        sym ((λ i. secret_at (sym part.sites i) (passed.message i).site (passed.message i).key_id) ∙ ap (λ (x : Option (List ℕ)). unwrap_or x []) (its_secret before.core.sites from bytes m a.passed.secret passed.checks))
 
     spelled : (x : List ℕ) → Some x ≡ reply_of a.passed.secret message → x ≡ bytes_of (reply_item o.config node one)
     unfolding bytes_of

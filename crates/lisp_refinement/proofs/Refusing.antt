@@ -14,8 +14,8 @@ use Rattle.lisp_nonces.specs.Store.{StoreState}
 use Rattle.lisp_nonces.specs.declared.pair.Pair.{Pair}
 use Rattle.lisp_admission.specs.declared.refused.Refused.{Refused}
 use Rattle.lisp_admission.specs.declared.refused.Refused.TheVariants as refuseds
-use Rattle.lisp_admission.specs.Checks.{secret_under}
-use Rattle.lisp_admission.specs.Nonces.{KeepsLists, HasCause, IsBase as IsStoreBase, IsFresh as IsFreshFor}
+use Rattle.lisp_admission.specs.Checks.{secret_under, most_jump_at}
+use Rattle.lisp_admission.specs.Nonces.{IsFar, IsNear, KeepsLists, HasCause, IsBase as IsStoreBase, IsFresh as IsFreshFor}
 use Rattle.lisp_admission.specs.Pairs.{pair_of}
 use Rattle.lisp_server.specs.Checks.{Passed, register_checked, RefusesAck as RefusesAckOf, answers_under}
 use Rattle.lisp_server.specs.LastNonces.{nonce_at}
@@ -69,32 +69,33 @@ module _ (o : Opening) (T : List Step) (node : ℕ) (before : ServerNodeState) (
   pub last_is : (m : MapRegisterValue) → nonce_at before.core.nonces (pair_of m) ≡ last_in turn (pair_of m)
   last_is m = part.nonces (pair_of m) (not_notices m)
 
-  pub is_fresh : (m : MapRegisterValue) → IsFreshFor (nonce_at before.core.nonces (pair_of m)) armed (pair_of m) m.nonce → IsFresh turn m
+  pub is_fresh : (m : MapRegisterValue) → IsFreshFor (most_jump_at before.core.sites m.site) (nonce_at before.core.nonces (pair_of m)) armed (pair_of m) m.nonce → IsFresh turn m
   is_fresh m fresh = record {
     base = fresh.0;
     counts = base_in (nonce_at before.core.nonces (pair_of m)) (last_in turn (pair_of m)) armed (shown_store o T node).kept (pair_of m) fresh.0 shows.honest shows.kept (last_is m) fresh.1;
     above = fresh.2;
+    near = subst (λ (sites : List SiteValue). IsNear (most_jump_at sites m.site) fresh.0 m.nonce) part.sites fresh.3;
     loads = λ none. loads_in (nonce_at before.core.nonces (pair_of m)) fresh.0 (pair_of m) fresh.1 (last_is m ∙ none);
   }
 
   module _ (from : Addr) (bytes : List ℕ) where
     module _ (m : MapRegisterValue) where
       abbrev check : Result Passed Refused
-      check = register_checked before.core.sites bytes m
+      check = register_checked before.core.sites from bytes m
 
       -- it passes the checks
       pub admits : (passed : Passed) → check ≡ Ok passed → Admits turn (arriving from bytes (Ok (Registers m))) passed.message
       admits passed e =
-          let p = is_passed before.core.sites bytes m passed e in
+          let p = is_passed before.core.sites from bytes m passed e in
           record {
             read = ap (λ (x : MapRegisterValue). Ok (Registers x)) (sym p.message);
             secret = passed.secret;
-            checks = subst (λ (x : MapRegisterValue). secret_under o.config.sites bytes x ≡ Ok passed.secret) (sym p.message) (subst (λ (sites : List SiteValue). secret_under sites bytes m ≡ Ok passed.secret) part.sites p.checks);
+            checks = subst (λ (x : MapRegisterValue). secret_under o.config.sites from bytes x ≡ Ok passed.secret) (sym p.message) (subst (λ (sites : List SiteValue). secret_under sites from bytes m ≡ Ok passed.secret) part.sites p.checks);
           }
 
       -- it fails one
-      fails : (why : Refused) → (check ≡ Err why) × (called ≡ armed) → (secret_under o.config.sites bytes m ≡ Err why) × Same turn
-      fails why e = (subst (λ (sites : List SiteValue). secret_under sites bytes m ≡ Err why) part.sites (is_failed before.core.sites bytes m why e.0), same_store e.1)
+      fails : (why : Refused) → (check ≡ Err why) × (called ≡ armed) → (secret_under o.config.sites from bytes m ≡ Err why) × Same turn
+      fails why e = (subst (λ (sites : List SiteValue). secret_under sites from bytes m ≡ Err why) part.sites (is_failed before.core.sites from bytes m why e.0), same_store e.1)
 
       -- a Map-Register is refused for the first reason that applies
       refuses_register : (why : Refused) → RefusesRegister check before.core armed called why → (why ≡ refuseds.OutOfMemory → HasHead bytes) → RefusesMessage turn (arriving from bytes (Ok (Registers m))) why
@@ -110,6 +111,14 @@ module _ (o : Opening) (T : List Step) (node : ℕ) (before : ServerNodeState) (
         counts = base_in (nonce_at before.core.nonces (pair_of r.passed.message)) (last_in turn (pair_of r.passed.message)) armed (shown_store o T node).kept (pair_of r.passed.message) (Some saved) shows.honest shows.kept (last_is r.passed.message) r.base;
         loads = λ none. loads_in (nonce_at before.core.nonces (pair_of r.passed.message)) (Some saved) (pair_of r.passed.message) r.base (last_is r.passed.message ∙ none);
         stale = r.stale;
+        same = same_lists r.same;
+      }
+      refuses_register (refuseds.Jump saved) r head = record {
+        message = r.passed.message;
+        admits = admits r.passed r.checks;
+        counts = base_in (nonce_at before.core.nonces (pair_of r.passed.message)) (last_in turn (pair_of r.passed.message)) armed (shown_store o T node).kept (pair_of r.passed.message) (Some saved) shows.honest shows.kept (last_is r.passed.message) r.base;
+        loads = λ none. loads_in (nonce_at before.core.nonces (pair_of r.passed.message)) (Some saved) (pair_of r.passed.message) r.base (last_is r.passed.message ∙ none);
+        far = subst (λ (sites : List SiteValue). IsFar (most_jump_at sites r.passed.message.site) saved r.passed.message.nonce) part.sites r.far;
         same = same_lists r.same;
       }
       refuses_register refuseds.OutOfMemory r head = (head refl, inr (record { message = r.passed.message; admits = admits r.passed r.checks; fresh = is_fresh r.passed.message r.fresh }), same_lists r.same)
@@ -134,6 +143,7 @@ module _ (o : Opening) (T : List Step) (node : ℕ) (before : ServerNodeState) (
       refuses_register refuseds.BadAuth r head = fails refuseds.BadAuth r
       refuses_register refuseds.MergeAsked r head = fails refuseds.MergeAsked r
       refuses_register (refuseds.NotAllowed place) r head = fails (refuseds.NotAllowed place) r
+      refuses_register (refuseds.Limited limit) r head = fails (refuseds.Limited limit) r
       refuses_register refuseds.NoNotice r head = fails refuseds.NoNotice r
 
     -- a Map-Notify or Map-Notify-Ack that no notice takes
@@ -165,8 +175,10 @@ module _ (o : Opening) (T : List Step) (node : ℕ) (before : ServerNodeState) (
     refuses legal (Ok (Notifies m)) (refuseds.StoreLoad fault) r head = absurd r.0
     refuses legal (Ok (Notifies m)) (refuseds.StoreSave fault) r head = absurd r.0
     refuses legal (Ok (Notifies m)) (refuseds.Replay saved) r head = absurd r.0
+    refuses legal (Ok (Notifies m)) (refuseds.Jump saved) r head = absurd r.0
     refuses legal (Ok (Notifies m)) why r head = (refuses_notify legal m why r.0, same_store r.1)
     refuses legal (Err fault) (refuseds.StoreLoad other) r head = absurd (let clash : refuseds.StoreLoad other ≡ refuseds.Read fault = r.0 in cc)
     refuses legal (Err fault) (refuseds.StoreSave other) r head = absurd (let clash : refuseds.StoreSave other ≡ refuseds.Read fault = r.0 in cc)
     refuses legal (Err fault) (refuseds.Replay saved) r head = absurd (let clash : refuseds.Replay saved ≡ refuseds.Read fault = r.0 in cc)
+    refuses legal (Err fault) (refuseds.Jump saved) r head = absurd (let clash : refuseds.Jump saved ≡ refuseds.Read fault = r.0 in cc)
     refuses legal (Err fault) why r head = (r.0, same_store r.1)

@@ -1,8 +1,7 @@
 -- The router of each row was heard: what keeps that so.
-use Rattle.std.proofs.Common.{◌≡◌, ℕ, Bool, true, false, true≢false, cond, not, List, [], ◌∷◌, ◌++◌, map, reverse, Option, Some, None, Result, Ok, Err, ok_or, refl, sym, ap, ◌∙◌, subst}
+use Rattle.std.proofs.Common.{◌≡◌, ℕ, Bool, true, false, true≢false, cond, List, [], ◌∷◌, map, reverse, Option, Some, None, Result, Ok, Err, refl, sym, ap, ◌∙◌, subst}
 use Rattle.std.specs.List.{find}
-use Rattle.std.proofs.lemmas.List.{map-append, reverse-append}
-use Rattle.std.specs.Option.{option_or, option_and_then}
+use Rattle.std.specs.Option.{option_or}
 use Rattle.std.specs.Result.{IfOk, OnErr}
 use Rattle.lisp_records.proofs.RouterLaws.{router_eq-Decides}
 use Rattle.lisp_records.specs.declared.address.Addr.{Addr}
@@ -12,23 +11,22 @@ use Rattle.lisp_records.specs.Record.{MapRecordValue}
 use Rattle.lisp_records.specs.Router.{router_eq}
 use Rattle.lisp_records.specs.Row.{RowValue}
 use Rattle.lisp_messages.specs.Message.{MapRegisterValue}
-use Rattle.lisp_messages.specs.Authentic.{is_authentic}
-use Rattle.lisp_policy.specs.Site.{SiteValue, site_of, secret_of}
+use Rattle.lisp_policy.specs.Site.{SiteValue}
 use Rattle.lisp_nonces.specs.Store.{StoreState}
 use Rattle.lisp_lookup.specs.Table.{is_row_of, row_at, last_of, Sets}
 use Rattle.lisp_lookup.proofs.TableLaws.{found_holds, has_key, some_inj}
 use Rattle.lisp_server.specs.declared.contacts.Contact.{Contact}
 use Rattle.lisp_admission.specs.declared.refused.Refused.{Refused}
-use Rattle.lisp_admission.specs.declared.refused.Refused.TheVariants as refusals
 use Rattle.lisp_server.specs.declared.tables.Tables.{Tables}
 use Rattle.lisp_server.specs.declared.took.Took.{Took}
 use Rattle.lisp_records.specs.Result.{◌>>=◌}
-use Rattle.lisp_admission.specs.Checks.{secret_under, check, refused_at, first_not_allowed, secret_at}
+use Rattle.lisp_admission.specs.Checks.{secret_under, secret_at}
 use Rattle.lisp_server.specs.Checks.{Passed, register_checked}
 use Rattle.lisp_server.specs.Contacts.{SetsContact, IsHeard, Knows}
 use Rattle.lisp_server.specs.Receiving.{Accepts, contact_of}
 use Rattle.lisp_admission.specs.Pairs.{router_of}
 use Rattle.lisp_admission.specs.AcceptedRows.{row_value, row_values}
+use Rattle.lisp_admission.proofs.Secrets.{its_secret}
 use Rattle.lisp_admission.proofs.Turned.{turned}
 use Rattle.lisp_server.specs.Server.{SameTables, state_of}
 
@@ -38,27 +36,15 @@ unfolding row_at
 none_known sites rows contacts none router eid h at = absurd (let clash : ◌≡◌ {A = Option RowValue} None (Some h) = sym (ap (find (is_row_of router eid)) none) ∙ at in cc)
 
 -- a Map-Register that passed the checks has a secret
-signs : (sites : List SiteValue) (bytes : List ℕ) (m : MapRegisterValue) (passed : Passed) → register_checked sites bytes m ≡ Ok passed → (passed.message ≡ m) × (secret_at sites m.site m.key_id ≡ Some passed.secret)
-unfolding secret_under
-signs sites bytes m passed e = by_site (site_of sites m.site) e
+signs : (sites : List SiteValue) (from : Addr) (bytes : List ℕ) (m : MapRegisterValue) (passed : Passed) → register_checked sites from bytes m ≡ Ok passed → (passed.message ≡ m) × (secret_at sites m.site m.key_id ≡ Some passed.secret)
+signs sites from bytes m passed e = by (secret_under sites from bytes m) refl e
   where
-    last : (a b : Bool) (o : Option ℕ) (secret s : List ℕ) → (check a refusals.BadAuth >>= λ _. check b refusals.MergeAsked >>= λ _. refused_at o secret) ≡ Ok s → s ≡ secret
-    last true true None secret s e = (let same : ◌≡◌ {A = Result (List ℕ) Refused} (Ok secret) (Ok s) = e in cc)
-    last true true (Some place) secret s e = absurd (let clash : ◌≡◌ {A = Result (List ℕ) Refused} (Err (refusals.NotAllowed place)) (Ok s) = e in cc)
-    last true false o secret s e = absurd (let clash : ◌≡◌ {A = Result (List ℕ) Refused} (Err refusals.MergeAsked) (Ok s) = e in cc)
-    last false b o secret s e = absurd (let clash : ◌≡◌ {A = Result (List ℕ) Refused} (Err refusals.BadAuth) (Ok s) = e in cc)
-
-    by_last : (x : List ℕ) (r : Result (List ℕ) Refused) → ((s : List ℕ) → r ≡ Ok s → s ≡ x) → (r >>= λ secret. Ok (record { message = m; secret = secret })) ≡ Ok passed → (passed.message ≡ m) × (◌≡◌ {A = Option (List ℕ)} (Some x) (Some passed.secret))
-    by_last x (Ok s) own e = (let same : ◌≡◌ {A = Result Passed Refused} (Ok (record { message = m; secret = s })) (Ok passed) = e in let is : record { message = m; secret = s } ≡ passed = cc in (ap (λ (p : Passed). p.message) (sym is), ap Some (sym (own s refl) ∙ ap (λ (p : Passed). p.secret) is)))
-    by_last x (Err why) own e = absurd (let clash : ◌≡◌ {A = Result Passed Refused} (Err why) (Ok passed) = e in cc)
-
-    by_secret : (site : SiteValue) (o : Option (List ℕ)) → ((ok_or o refusals.UnknownKey >>= λ secret. check (is_authentic bytes secret) refusals.BadAuth >>= λ _. check (not m.merge) refusals.MergeAsked >>= λ _. refused_at (first_not_allowed site m.records) secret) >>= λ secret. Ok (record { message = m; secret = secret })) ≡ Ok passed → (passed.message ≡ m) × (o ≡ Some passed.secret)
-    by_secret site None e = absurd (let clash : ◌≡◌ {A = Result Passed Refused} (Err refusals.UnknownKey) (Ok passed) = e in cc)
-    by_secret site (Some x) e = by_last x (check (is_authentic bytes x) refusals.BadAuth >>= λ _. check (not m.merge) refusals.MergeAsked >>= λ _. refused_at (first_not_allowed site m.records) x) (λ s. last (is_authentic bytes x) (not m.merge) (first_not_allowed site m.records) x s) e
-
-    by_site : (o : Option SiteValue) → ((ok_or o refusals.UnknownSite >>= λ site. ok_or (secret_of site m.key_id) refusals.UnknownKey >>= λ secret. check (is_authentic bytes secret) refusals.BadAuth >>= λ _. check (not m.merge) refusals.MergeAsked >>= λ _. refused_at (first_not_allowed site m.records) secret) >>= λ secret. Ok (record { message = m; secret = secret })) ≡ Ok passed → (passed.message ≡ m) × (option_and_then (λ s. secret_of s m.key_id) o ≡ Some passed.secret)
-    by_site None e = absurd (let clash : ◌≡◌ {A = Result Passed Refused} (Err refusals.UnknownSite) (Ok passed) = e in cc)
-    by_site (Some site) e = by_secret site (secret_of site m.key_id) e
+    by : (r : Result (List ℕ) Refused) → secret_under sites from bytes m ≡ r → (r >>= λ secret. Ok (record { message = m; secret = secret })) ≡ Ok passed → (passed.message ≡ m) × (secret_at sites m.site m.key_id ≡ Some passed.secret)
+    by (Ok secret) is e =
+        let same : ◌≡◌ {A = Result Passed Refused} (Ok (record { message = m; secret = secret })) (Ok passed) = e in
+        let made : record { message = m; secret = secret } ≡ passed = cc in
+        (ap (λ (p : Passed). p.message) (sym made), its_secret sites from bytes m secret is ∙ ap (λ (p : Passed). Some p.secret) made)
+    by (Err why) is e = absurd (let clash : ◌≡◌ {A = Result Passed Refused} (Err why) (Ok passed) = e in cc)
 
 -- the rows of a Map-Register are its router's
 its_router : (m : MapRegisterValue) (from : Addr) (now : ℕ) (rs : List MapRecordValue) (p : RowValue → Bool) (g : RowValue) → find p (map (row_value m from now) rs) ≡ Some g → g.router ≡ router_of m
@@ -96,8 +82,8 @@ module _ (sites : List SiteValue) (m : MapRegisterValue) (from : Addr) (now : �
       by (Some g) was at = here router (sym (own g was) ∙ its_router m from now (reverse m.records) (is_row_of router eid) g (ap (find (is_row_of router eid)) (turned (row_value m from now) m.records) ∙ was))
 
 -- what an accepted Map-Register, or a refused message, leaves
-pub known_after : {A : Type 0} (sites : List SiteValue) (bytes : List ℕ) (m : MapRegisterValue) (old new : Tables A) (before after : StoreState) (from : Addr) (now : ℕ) (r : Result (Took A) Refused) → IfOk r (λ took. Accepts (register_checked sites bytes m) (state_of sites old) (state_of sites new) before after from now took) → OnErr r (SameTables old new) → Knows sites old.rows.rows old.contacts.contacts → Knows sites new.rows.rows new.contacts.contacts
-known_after sites bytes m old new before after from now (Ok took) a same known = accepted (signs sites bytes m a.passed a.checks)
+pub known_after : {A : Type 0} (sites : List SiteValue) (bytes : List ℕ) (m : MapRegisterValue) (old new : Tables A) (before after : StoreState) (from : Addr) (now : ℕ) (r : Result (Took A) Refused) → IfOk r (λ took. Accepts (register_checked sites from bytes m) (state_of sites old) (state_of sites new) before after from now took) → OnErr r (SameTables old new) → Knows sites old.rows.rows old.contacts.contacts → Knows sites new.rows.rows new.contacts.contacts
+known_after sites bytes m old new before after from now (Ok took) a same known = accepted (signs sites from bytes m a.passed a.checks)
   where
     accepted : (a.passed.message ≡ m) × (secret_at sites m.site m.key_id ≡ Some a.passed.secret) → Knows sites new.rows.rows new.contacts.contacts
     accepted (is, signed) = known_sets sites m from now old.contacts.contacts new.contacts.contacts a.passed.secret signed (subst (λ (n : MapRegisterValue). SetsContact old.contacts.contacts new.contacts.contacts (contact_of n from)) is a.contacts) old.rows.rows new.rows.rows (subst (λ (n : MapRegisterValue). Sets old.rows.rows new.rows.rows (row_values n from now)) is a.rows) known

@@ -12,12 +12,14 @@ use Rattle.lisp_records.specs.Spelling.{IsBytes}
 use Rattle.lisp_messages.specs.declared.fault.ReadFault.{ReadFault}
 use Rattle.lisp_messages.specs.declared.fault.ReadFault.TheVariants as reads
 use Rattle.lisp_messages.specs.Authentic.{is_authentic}
+use Rattle.lisp_policy.specs.Limits.{lets_router, lets_source}
 use Rattle.lisp_policy.specs.Site.{SiteValue, site_of, secret_of}
 use Rattle.lisp_nonces.specs.declared.pair.Pair.{Pair}
 use Rattle.lisp_nonces.specs.declared.fault.StoreFault.{StoreFault}
 use Rattle.lisp_nonces.specs.declared.fault.StoreFault.TheVariants as stores
 use Rattle.lisp_nonces.specs.Kept.{Kept, kept_at, with_value, SameElsewhere, InDoubt}
 use Rattle.lisp_nonces.specs.Store.{StoreState, Rose, Proceeds, MaySave}
+use Rattle.lisp_admission.specs.declared.limit.Limit.TheVariants.{Router, Source, Ttl}
 use Rattle.lisp_admission.specs.declared.refused.Refused.{Refused}
 use Rattle.lisp_admission.specs.declared.refused.Refused.TheVariants as refusals
 use Rattle.lisp_server.specs.declared.contacts.Contact.{Contact}
@@ -33,7 +35,7 @@ use Rattle.lisp_server.specs.Contacts.{SetsContact}
 use Rattle.lisp_server.specs.Notices.{StandingNoticeValue, EndsNotice}
 use Rattle.lisp_server.specs.Server.{ServerState, SameTables, state_of}
 use Rattle.lisp_records.specs.Result.{◌>>=◌}
-use Rattle.lisp_admission.specs.Checks.{secret_under, check, refused_at, first_not_allowed}
+use Rattle.lisp_admission.specs.Checks.{secret_under, admitted, check, check_all, first_not_allowed, first_out_of_bounds, most_jump_at}
 use Rattle.lisp_admission.specs.Checks.{reply_to}
 use Rattle.lisp_server.specs.Checks.{Passed, register_checked, Acknowledges, RefusesAck, reply_of}
 use Rattle.lisp_admission.specs.Nonces.{IsFresh, KeepsLists, Unasked, HasCause, FailsToSave, Stops, NotKept}
@@ -75,9 +77,9 @@ rose_later a b c up (inr top) = inr top
 -- what is known once a nonce was saved, for a pair and nonce
 pub record Saved {A : Type 0} (sites : List SiteValue) (bytes : List ℕ) (m : MapRegisterValue) (from : Addr) (now : ℕ) (old mid new : Tables A) (before between after : StoreState) (rows : List RowValue) (reply : Option (List ℕ)) (pair : Pair) (nonce : ℕ) : Type 0 where
   pub secret : List ℕ
-  pub checks : secret_under sites bytes m ≡ Ok secret
+  pub checks : secret_under sites from bytes m ≡ Ok secret
   pub fits : IsMapNotify (reply_to m)
-  pub fresh : IsFresh (nonce_at old.nonces.nonces pair) before pair nonce
+  pub fresh : IsFresh (most_jump_at sites m.site) (nonce_at old.nonces.nonces pair) before pair nonce
   pub loaded : KeepsLists before between
   pub went : Proceeds before between
   pub same : SameTables old mid
@@ -92,7 +94,7 @@ pub record Saved {A : Type 0} (sites : List SiteValue) (bytes : List ℕ) (m : M
   pub others : IsTrue between.is_honest → SameElsewhere between.kept after.kept pair
 
 module _ {A : Type 0} {sites : List SiteValue} {bytes : List ℕ} {m : MapRegisterValue} {from : Addr} {now : ℕ} {old mid new : Tables A} {before between after : StoreState} {rows : List RowValue} {reply : Option (List ℕ)} where
-  accepts_own : Saved sites bytes m from now old mid new before between after rows reply (pair_of m) m.nonce → Accepts {A = A} (register_checked sites bytes m) (state_of sites old) (state_of sites new) before after from now (Accepted (router_of m) m.key_id m.nonce reply)
+  accepts_own : Saved sites bytes m from now old mid new before between after rows reply (pair_of m) m.nonce → Accepts {A = A} (register_checked sites from bytes m) (state_of sites old) (state_of sites new) before after from now (Accepted (router_of m) m.key_id m.nonce reply)
   accepts_own s = record {
     passed = record { message = m; secret = s.secret };
     checks = ap (λ r. r >>= λ (secret : List ℕ). register_passed m secret) s.checks;
@@ -109,25 +111,25 @@ module _ {A : Type 0} {sites : List SiteValue} {bytes : List ℕ} {m : MapRegist
     saves = may_save s.went s.saves;
   }
 
-  pub accepts : (pair : Pair) (nonce : ℕ) → pair ≡ pair_of m → nonce ≡ m.nonce → Saved sites bytes m from now old mid new before between after rows reply pair nonce → Accepts {A = A} (register_checked sites bytes m) (state_of sites old) (state_of sites new) before after from now (Accepted pair.router pair.key nonce reply)
-  accepts pair nonce p n = subst (λ (x : Pair × ℕ). Saved sites bytes m from now old mid new before between after rows reply x.0 x.1 → Accepts {A = A} (register_checked sites bytes m) (state_of sites old) (state_of sites new) before after from now (Accepted x.0.router x.0.key x.1 reply)) (λ i. (sym p i, sym n i)) accepts_own
+  pub accepts : (pair : Pair) (nonce : ℕ) → pair ≡ pair_of m → nonce ≡ m.nonce → Saved sites bytes m from now old mid new before between after rows reply pair nonce → Accepts {A = A} (register_checked sites from bytes m) (state_of sites old) (state_of sites new) before after from now (Accepted pair.router pair.key nonce reply)
+  accepts pair nonce p n = subst (λ (x : Pair × ℕ). Saved sites bytes m from now old mid new before between after rows reply x.0 x.1 → Accepts {A = A} (register_checked sites from bytes m) (state_of sites old) (state_of sites new) before after from now (Accepted x.0.router x.0.key x.1 reply)) (λ i. (sym p i, sym n i)) accepts_own
 
 -- a fault's cause lies later than where the store was before
 pub cause_later : (fault : StoreFault) (a b c : StoreState) → a.faults ≤ b.faults → HasCause fault b c → HasCause fault a c
 cause_later fault a b c up cause other = rose_later a b c up (cause other)
 
 -- what is known where the save failed, for a pair and nonce
-pub record Unsaved {A : Type 0} (sites : List SiteValue) (bytes : List ℕ) (m : MapRegisterValue) (old : Tables A) (before between after : StoreState) (why : Refused) (pair : Pair) (nonce : ℕ) : Type 0 where
+pub record Unsaved {A : Type 0} (sites : List SiteValue) (from : Addr) (bytes : List ℕ) (m : MapRegisterValue) (old : Tables A) (before between after : StoreState) (why : Refused) (pair : Pair) (nonce : ℕ) : Type 0 where
   pub secret : List ℕ
-  pub checks : secret_under sites bytes m ≡ Ok secret
-  pub fresh : IsFresh (nonce_at old.nonces.nonces pair) before pair nonce
+  pub checks : secret_under sites from bytes m ≡ Ok secret
+  pub fresh : IsFresh (most_jump_at sites m.site) (nonce_at old.nonces.nonces pair) before pair nonce
   pub loaded : KeepsLists before between
   pub went : Proceeds before between
   pub not_kept : NotKept between after pair nonce why
   pub others : IsTrue between.is_honest → SameElsewhere between.kept after.kept pair
 
-module _ {A : Type 0} {sites : List SiteValue} {bytes : List ℕ} {m : MapRegisterValue} {old : Tables A} {before between after : StoreState} where
-  save_failed : (fault : StoreFault) → Unsaved sites bytes m old before between after (refusals.StoreSave fault) (pair_of m) m.nonce → SaveFailed (register_checked sites bytes m) (state_of sites old) before after fault
+module _ {A : Type 0} {sites : List SiteValue} {from : Addr} {bytes : List ℕ} {m : MapRegisterValue} {old : Tables A} {before between after : StoreState} where
+  save_failed : (fault : StoreFault) → Unsaved sites from bytes m old before between after (refusals.StoreSave fault) (pair_of m) m.nonce → SaveFailed (register_checked sites from bytes m) (state_of sites old) before after fault
   save_failed fault s = record {
     passed = record { message = m; secret = s.secret };
     checks = ap (λ r. r >>= λ (secret : List ℕ). register_passed m secret) s.checks;
@@ -140,7 +142,7 @@ module _ {A : Type 0} {sites : List SiteValue} {bytes : List ℕ} {m : MapRegist
     doubted = fails_to_save s.went fault after (pair_of m) m.nonce s.loaded s.not_kept.4;
   }
 
-  unsaved_own : (why : Refused) → Unsaved sites bytes m old before between after why (pair_of m) m.nonce → RefusesRegister (register_checked sites bytes m) (state_of sites old) before after why
+  unsaved_own : (why : Refused) → Unsaved sites from bytes m old before between after why (pair_of m) m.nonce → RefusesRegister (register_checked sites from bytes m) (state_of sites old) before after why
   unsaved_own (refusals.StoreSave fault) s = save_failed fault s
   unsaved_own (refusals.Read _) s = absurd s.not_kept
   unsaved_own refusals.NotMine s = absurd s.not_kept
@@ -149,13 +151,15 @@ module _ {A : Type 0} {sites : List SiteValue} {bytes : List ℕ} {m : MapRegist
   unsaved_own refusals.BadAuth s = absurd s.not_kept
   unsaved_own refusals.MergeAsked s = absurd s.not_kept
   unsaved_own (refusals.NotAllowed _) s = absurd s.not_kept
+  unsaved_own (refusals.Limited _) s = absurd s.not_kept
   unsaved_own (refusals.StoreLoad _) s = absurd s.not_kept
   unsaved_own (refusals.Replay _) s = absurd s.not_kept
+  unsaved_own (refusals.Jump _) s = absurd s.not_kept
   unsaved_own refusals.OutOfMemory s = absurd s.not_kept
   unsaved_own refusals.NoNotice s = absurd s.not_kept
 
-  pub save_fails : (why : Refused) (pair : Pair) (nonce : ℕ) → pair ≡ pair_of m → nonce ≡ m.nonce → Unsaved sites bytes m old before between after why pair nonce → RefusesRegister (register_checked sites bytes m) (state_of sites old) before after why
-  save_fails why pair nonce p n = subst (λ (x : Pair × ℕ). Unsaved sites bytes m old before between after why x.0 x.1 → RefusesRegister (register_checked sites bytes m) (state_of sites old) before after why) (λ i. (sym p i, sym n i)) (unsaved_own why)
+  pub save_fails : (why : Refused) (pair : Pair) (nonce : ℕ) → pair ≡ pair_of m → nonce ≡ m.nonce → Unsaved sites from bytes m old before between after why pair nonce → RefusesRegister (register_checked sites from bytes m) (state_of sites old) before after why
+  save_fails why pair nonce p n = subst (λ (x : Pair × ℕ). Unsaved sites from bytes m old before between after why x.0 x.1 → RefusesRegister (register_checked sites from bytes m) (state_of sites old) before after why) (λ i. (sym p i, sym n i)) (unsaved_own why)
 
 -- the refusals that the checks of a Map-Register give
 abbrev IsCheck : Refused → Type 0
@@ -164,6 +168,7 @@ IsCheck refusals.UnknownKey = Unit {0}
 IsCheck refusals.BadAuth = Unit {0}
 IsCheck refusals.MergeAsked = Unit {0}
 IsCheck (refusals.NotAllowed _) = Unit {0}
+IsCheck (refusals.Limited _) = Unit {0}
 IsCheck _ = ⊥
 
 OnlyChecks : {X : Type 0} → Result X Refused → Type 0
@@ -185,14 +190,22 @@ unfolding OnlyChecks
 check_only true e is = tt
 check_only false e is = is
 
-place_only : (o : Option ℕ) (secret : List ℕ) → OnlyChecks (refused_at o secret)
+all_only : (o : Option ℕ) (e : ℕ → Refused) → ((place : ℕ) → IsCheck (e place)) → OnlyChecks (check_all o e)
 unfolding OnlyChecks
-place_only None secret = tt
-place_only (Some place) secret = tt
+all_only None e is = tt
+all_only (Some place) e is = is place
 
-secret_only : (sites : List SiteValue) (bytes : List ℕ) (m : MapRegisterValue) → OnlyChecks (secret_under sites bytes m)
-unfolding secret_under
-secret_only sites bytes m = bind_only _ _ (ok_or_only (site_of sites m.site) refusals.UnknownSite tt) (λ site. bind_only _ _ (ok_or_only (secret_of site m.key_id) refusals.UnknownKey tt) (λ secret. bind_only _ _ (check_only (is_authentic bytes secret) refusals.BadAuth tt) (λ b. bind_only _ _ (check_only (not m.merge) refusals.MergeAsked tt) (λ d. place_only (first_not_allowed site m.records) secret))))
+admitted_only : (site : SiteValue) (from : Addr) (m : MapRegisterValue) → OnlyChecks (admitted site from m)
+admitted_only site from m =
+    bind_only _ _ (check_only (lets_router site.limits m.xtr) (refusals.Limited Router) tt) (λ _. bind_only _ _ (check_only (lets_source site.limits from) (refusals.Limited Source) tt) (λ _.
+    bind_only _ _ (check_only (not m.merge) refusals.MergeAsked tt) (λ _. bind_only _ _ (all_only (first_not_allowed site m.records) refusals.NotAllowed (λ _. tt)) (λ _.
+    all_only (first_out_of_bounds site.limits m.use_ttl m.records) (λ place. refusals.Limited (Ttl place)) (λ _. tt)))))
+
+secret_only : (sites : List SiteValue) (from : Addr) (bytes : List ℕ) (m : MapRegisterValue) → OnlyChecks (secret_under sites from bytes m)
+unfolding secret_under OnlyChecks
+secret_only sites from bytes m =
+    bind_only _ _ (ok_or_only (site_of sites m.site) refusals.UnknownSite tt) (λ site. bind_only _ _ (ok_or_only (secret_of site m.key_id) refusals.UnknownKey tt) (λ secret.
+    bind_only _ _ (check_only (is_authentic bytes secret) refusals.BadAuth tt) (λ _. bind_only _ _ (admitted_only site from m) (λ _. tt))))
 
 only_of : {X : Type 0} (r : Result X Refused) (e : Refused) → OnlyChecks r → r ≡ Err e → IsCheck e
 unfolding OnlyChecks
@@ -204,28 +217,31 @@ refuses_check refusals.UnknownKey c old before is at = (at, refl)
 refuses_check refusals.BadAuth c old before is at = (at, refl)
 refuses_check refusals.MergeAsked c old before is at = (at, refl)
 refuses_check (refusals.NotAllowed _) c old before is at = (at, refl)
+refuses_check (refusals.Limited _) c old before is at = (at, refl)
 refuses_check (refusals.Read _) c old before is at = absurd is
 refuses_check refusals.NotMine c old before is at = absurd is
 refuses_check (refusals.StoreLoad _) c old before is at = absurd is
 refuses_check (refusals.Replay _) c old before is at = absurd is
+refuses_check (refusals.Jump _) c old before is at = absurd is
 refuses_check refusals.OutOfMemory c old before is at = absurd is
 refuses_check (refusals.StoreSave _) c old before is at = absurd is
 refuses_check refusals.NoNotice c old before is at = absurd is
 
 -- a Map-Register fails a check
-pub check_fails : (sites : List SiteValue) (bytes : List ℕ) (m : MapRegisterValue) (e : Refused) (old : ServerState) (before : StoreState) → secret_under sites bytes m ≡ Err e → RefusesRegister (register_checked sites bytes m) old before before e
-check_fails sites bytes m e old before at = refuses_check e (register_checked sites bytes m) old before (only_of (secret_under sites bytes m) e (secret_only sites bytes m) at) (ap (λ r. r >>= λ (secret : List ℕ). register_passed m secret) at)
+pub check_fails : (sites : List SiteValue) (from : Addr) (bytes : List ℕ) (m : MapRegisterValue) (e : Refused) (old : ServerState) (before : StoreState) → secret_under sites from bytes m ≡ Err e → RefusesRegister (register_checked sites from bytes m) old before before e
+check_fails sites from bytes m e old before at = refuses_check e (register_checked sites from bytes m) old before (only_of (secret_under sites from bytes m) e (secret_only sites from bytes m) at) (ap (λ r. r >>= λ (secret : List ℕ). register_passed m secret) at)
 
 -- the nonce isn't let through
-pub stops : (sites : List SiteValue) (bytes : List ℕ) (m : MapRegisterValue) (secret : List ℕ) (old : ServerState) (before after : StoreState) (pair : Pair) (nonce : ℕ) (e : Refused) → pair ≡ pair_of m → nonce ≡ m.nonce → secret_under sites bytes m ≡ Ok secret → KeepsLists before after → Unasked (nonce_at old.nonces pair) before after → Stops (nonce_at old.nonces pair) before after pair nonce e → RefusesRegister (register_checked sites bytes m) old before after e
-stops sites bytes m secret old before after pair nonce e p n checks same = subst (λ (x : Pair × ℕ). Unasked (nonce_at old.nonces x.0) before after → Stops (nonce_at old.nonces x.0) before after x.0 x.1 e → RefusesRegister (register_checked sites bytes m) old before after e) (λ i. (sym p i, sym n i)) (own e)
+pub stops : (sites : List SiteValue) (from : Addr) (bytes : List ℕ) (m : MapRegisterValue) (secret : List ℕ) (old : ServerState) (before after : StoreState) (pair : Pair) (nonce : ℕ) (e : Refused) → pair ≡ pair_of m → nonce ≡ m.nonce → secret_under sites from bytes m ≡ Ok secret → KeepsLists before after → Unasked (nonce_at old.nonces pair) before after → Stops (most_jump_at old.sites m.site) (nonce_at old.nonces pair) before after pair nonce e → RefusesRegister (register_checked sites from bytes m) old before after e
+stops sites from bytes m secret old before after pair nonce e p n checks same = subst (λ (x : Pair × ℕ). Unasked (nonce_at old.nonces x.0) before after → Stops (most_jump_at old.sites m.site) (nonce_at old.nonces x.0) before after x.0 x.1 e → RefusesRegister (register_checked sites from bytes m) old before after e) (λ i. (sym p i, sym n i)) (own e)
   where
-    passes : register_checked sites bytes m ≡ register_passed m secret
+    passes : register_checked sites from bytes m ≡ register_passed m secret
     passes = ap (λ r. r >>= λ (s : List ℕ). register_passed m s) checks
 
-    own : (e : Refused) → Unasked (nonce_at old.nonces (pair_of m)) before after → Stops (nonce_at old.nonces (pair_of m)) before after (pair_of m) m.nonce e → RefusesRegister (register_checked sites bytes m) old before after e
+    own : (e : Refused) → Unasked (nonce_at old.nonces (pair_of m)) before after → Stops (most_jump_at old.sites m.site) (nonce_at old.nonces (pair_of m)) before after (pair_of m) m.nonce e → RefusesRegister (register_checked sites from bytes m) old before after e
     own (refusals.StoreLoad fault) unasked (unknown, cause, unchanged, armed) = record { passed = record { message = m; secret = secret }; checks = passes; unknown = unknown; cause = cause; memory = unchanged; same = same; armed = armed }
     own (refusals.Replay saved) unasked (base, stale) = record { passed = record { message = m; secret = secret }; checks = passes; base = base; stale = stale; unasked = unasked; same = same }
+    own (refusals.Jump saved) unasked (base, far) = record { passed = record { message = m; secret = secret }; checks = passes; base = base; far = far; unasked = unasked; same = same }
     own (refusals.Read _) unasked never = absurd never
     own refusals.NotMine unasked never = absurd never
     own refusals.UnknownSite unasked never = absurd never
@@ -233,16 +249,17 @@ stops sites bytes m secret old before after pair nonce e p n checks same = subst
     own refusals.BadAuth unasked never = absurd never
     own refusals.MergeAsked unasked never = absurd never
     own (refusals.NotAllowed _) unasked never = absurd never
+    own (refusals.Limited _) unasked never = absurd never
     own refusals.OutOfMemory unasked never = absurd never
     own (refusals.StoreSave _) unasked never = absurd never
     own refusals.NoNotice unasked never = absurd never
 
 -- the nonce was let through, and there is no room
-pub no_room : (sites : List SiteValue) (bytes : List ℕ) (m : MapRegisterValue) (secret : List ℕ) (old : ServerState) (before after : StoreState) (pair : Pair) (nonce : ℕ) → pair ≡ pair_of m → nonce ≡ m.nonce → secret_under sites bytes m ≡ Ok secret → IsFresh (nonce_at old.nonces pair) before pair nonce → Unasked (nonce_at old.nonces pair) before after → KeepsLists before after → OutOfRoom (register_checked sites bytes m) old before after
-no_room sites bytes m secret old before after pair nonce p n checks fresh unasked same = record {
+pub no_room : (sites : List SiteValue) (from : Addr) (bytes : List ℕ) (m : MapRegisterValue) (secret : List ℕ) (old : ServerState) (before after : StoreState) (pair : Pair) (nonce : ℕ) → pair ≡ pair_of m → nonce ≡ m.nonce → secret_under sites from bytes m ≡ Ok secret → IsFresh (most_jump_at old.sites m.site) (nonce_at old.nonces pair) before pair nonce → Unasked (nonce_at old.nonces pair) before after → KeepsLists before after → OutOfRoom (register_checked sites from bytes m) old before after
+no_room sites from bytes m secret old before after pair nonce p n checks fresh unasked same = record {
   passed = record { message = m; secret = secret };
   checks = ap (λ r. r >>= λ (s : List ℕ). register_passed m s) checks;
-  fresh = subst (λ (x : Pair × ℕ). IsFresh (nonce_at old.nonces x.0) before x.0 x.1) (λ i. (p i, n i)) fresh;
+  fresh = subst (λ (x : Pair × ℕ). IsFresh (most_jump_at old.sites m.site) (nonce_at old.nonces x.0) before x.0 x.1) (λ i. (p i, n i)) fresh;
   unasked = subst (λ (q : Pair). Unasked (nonce_at old.nonces q) before after) p unasked;
   same = same;
 }
@@ -255,18 +272,20 @@ refuses_read said from bytes old before after refusals.UnknownKey r = r
 refuses_read said from bytes old before after refusals.BadAuth r = r
 refuses_read said from bytes old before after refusals.MergeAsked r = r
 refuses_read said from bytes old before after (refusals.NotAllowed _) r = r
+refuses_read said from bytes old before after (refusals.Limited _) r = r
 refuses_read said from bytes old before after (refusals.Read _) r = r
 refuses_read said from bytes old before after refusals.NotMine r = r
 refuses_read said from bytes old before after (refusals.StoreLoad _) r = r
 refuses_read said from bytes old before after (refusals.Replay _) r = r
+refuses_read said from bytes old before after (refusals.Jump _) r = r
 refuses_read said from bytes old before after (refusals.StoreSave _) r = r
 refuses_read said from bytes old before after refusals.NoNotice r = r
 
 -- a Map-Register that was taken
-pub takes_register : {A : Type 0} (said : Result MessageValue ReadFault) (m : MapRegisterValue) (from : Addr) (bytes : List ℕ) (old new : ServerState) (before after : StoreState) (now : ℕ) (took : Took A) → said ≡ Ok (Registers m) → Accepts (register_checked old.sites bytes m) old new before after from now took → ServerTakes said from bytes old new before after now took
+pub takes_register : {A : Type 0} (said : Result MessageValue ReadFault) (m : MapRegisterValue) (from : Addr) (bytes : List ℕ) (old new : ServerState) (before after : StoreState) (now : ℕ) (took : Took A) → said ≡ Ok (Registers m) → Accepts (register_checked old.sites from bytes m) old new before after from now took → ServerTakes said from bytes old new before after now took
 takes_register {A = A} said m from bytes old new before after now took at a = subst (λ (s : Result MessageValue ReadFault). ServerTakes s from bytes old new before after now took) (sym at) (by took a)
   where
-    by : (took : Took A) → Accepts (register_checked old.sites bytes m) old new before after from now took → ServerTakes (Ok (Registers m)) from bytes old new before after now took
+    by : (took : Took A) → Accepts (register_checked old.sites from bytes m) old new before after from now took → ServerTakes (Ok (Registers m)) from bytes old new before after now took
     by (Accepted router key nonce reply) a = a
     by (NoticeDone router nonce) a = absurd (let clash = a.answer in cc)
 
@@ -300,7 +319,7 @@ pub err_of : {X : Type 0} (r : Result X Refused) (why : Refused) (P : Refused �
 err_of {X = X} r why P refused is = subst (λ (r : Result X Refused). IfErr r P) is refused
 
 -- what a Map-Register was refused for
-pub refuses_register : (said : Result MessageValue ReadFault) (m : MapRegisterValue) (from : Addr) (bytes : List ℕ) (old : ServerState) (before after : StoreState) (why : Refused) → said ≡ Ok (Registers m) → RefusesRegister (register_checked old.sites bytes m) old before after why → ServerRefuses said from bytes old before after why
+pub refuses_register : (said : Result MessageValue ReadFault) (m : MapRegisterValue) (from : Addr) (bytes : List ℕ) (old : ServerState) (before after : StoreState) (why : Refused) → said ≡ Ok (Registers m) → RefusesRegister (register_checked old.sites from bytes m) old before after why → ServerRefuses said from bytes old before after why
 refuses_register said m from bytes old before after why at r = subst (λ (s : Result MessageValue ReadFault). ServerRefuses s from bytes old before after why) (sym at) (refuses_read (Ok (Registers m)) from bytes old before after why r)
 
 -- what a Map-Notify or Map-Notify-Ack was refused for
@@ -363,8 +382,8 @@ module _ (A S : Type 0) where
   abbrev MemoryTold : Refused → Type 0
   MemoryTold why = (why ≡ refusals.OutOfMemory → A) × (why ≡ refusals.StoreLoad stores.OutOfMemory → S) × (why ≡ refusals.StoreSave stores.OutOfMemory → S)
 
-  pub told_stopped : (last : Option ℕ) (before after : StoreState) (pair : Pair) (nonce : ℕ) (e : Refused) → Stops last before after pair nonce e → (e ≡ refusals.StoreLoad stores.OutOfMemory → S) → MemoryTold e
-  told_stopped last before after pair nonce e why load = ((λ is. absurd (subst (Stops last before after pair nonce) is why)), load, (λ is. absurd (subst (Stops last before after pair nonce) is why)))
+  pub told_stopped : (jump last : Option ℕ) (before after : StoreState) (pair : Pair) (nonce : ℕ) (e : Refused) → Stops jump last before after pair nonce e → (e ≡ refusals.StoreLoad stores.OutOfMemory → S) → MemoryTold e
+  told_stopped jump last before after pair nonce e why load = ((λ is. absurd (subst (Stops jump last before after pair nonce) is why)), load, (λ is. absurd (subst (Stops jump last before after pair nonce) is why)))
 
   pub told_unsaved : (before after : StoreState) (pair : Pair) (nonce : ℕ) (e : Refused) → NotKept before after pair nonce e → (e ≡ refusals.StoreSave stores.OutOfMemory → S) → MemoryTold e
   told_unsaved before after pair nonce e why save = ((λ is. absurd (subst (NotKept before after pair nonce) is why)), (λ is. absurd (subst (NotKept before after pair nonce) is why)), save)

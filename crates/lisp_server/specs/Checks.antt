@@ -16,8 +16,8 @@ pub record Passed : Type 0 where
   pub message : MapRegisterValue
   pub secret : List ℕ
 
-abbrev pub register_checked : List SiteValue → List ℕ → MapRegisterValue → Result Passed Refused
-register_checked sites bytes m = secret_under sites bytes m >>= λ secret. Ok (record { message = m; secret = secret })
+abbrev pub register_checked : List SiteValue → Addr → List ℕ → MapRegisterValue → Result Passed Refused
+register_checked sites from bytes m = secret_under sites from bytes m >>= λ secret. Ok (record { message = m; secret = secret })
 
 -- the bytes are authentic under the secret of the site and key of an unsolicited Map-Notify (notice)
 abbrev pub answers_under : List SiteValue → List ℕ → StandingNoticeValue → Bool

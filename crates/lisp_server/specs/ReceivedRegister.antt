@@ -28,5 +28,5 @@ IsOfMemory memory store why = (why ≡ OutOfMemory → memory) × (why ≡ load_
 -- it is accepted; or it is refused, and of the tables only the room changed
 abbrev pub AnswersRegister : {T A : Type 0} → Type 0 → Type 0 → List SiteValue → Tables T → Tables T → StoreState → StoreState → Arrival → MapRegisterValue → Result (Took A) Refused → Type 0
 AnswersRegister memory store sites old new before after arrival m answer = MatchResult answer
-    (λ took. Accepts (register_checked sites arrival.bytes.now m) (state_of sites old) (state_of sites new) before after arrival.from arrival.now took)
-    (λ why. IsOfMemory memory store why × RefusesRegister (register_checked sites arrival.bytes.now m) (state_of sites old) before after why × SameTables old new)
+    (λ took. Accepts (register_checked sites arrival.from arrival.bytes.now m) (state_of sites old) (state_of sites new) before after arrival.from arrival.now took)
+    (λ why. IsOfMemory memory store why × RefusesRegister (register_checked sites arrival.from arrival.bytes.now m) (state_of sites old) before after why × SameTables old new)

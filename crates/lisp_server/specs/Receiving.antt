@@ -11,7 +11,7 @@ use Rattle.lisp_nonces.specs.declared.fault.StoreFault.TheVariants as faults
 use Rattle.lisp_nonces.specs.Kept.{kept_at, SameElsewhere, InDoubt}
 use Rattle.lisp_nonces.specs.Store.{StoreState, Rose, MaySave}
 use Rattle.lisp_admission.specs.declared.refused.Refused.{Refused}
-use Rattle.lisp_admission.specs.declared.refused.Refused.TheVariants.{Read, StoreLoad, Replay, OutOfMemory, StoreSave}
+use Rattle.lisp_admission.specs.declared.refused.Refused.TheVariants.{Read, StoreLoad, Replay, Jump, OutOfMemory, StoreSave}
 use Rattle.lisp_admission.specs.Refused.{refused_of_read}
 use Rattle.lisp_server.specs.declared.took.Took.{Took}
 use Rattle.lisp_server.specs.declared.took.Took.TheVariants.{Accepted, NoticeDone}
@@ -23,13 +23,13 @@ use Rattle.lisp_server.specs.LastNonces.{nonce_at, SetsNonce}
 use Rattle.lisp_server.specs.Contacts.{SetsContact}
 use Rattle.lisp_server.specs.Notices.{StandingNoticeValue, EndsNotice}
 use Rattle.lisp_server.specs.Server.{ServerState}
-use Rattle.lisp_admission.specs.Checks.{reply_to}
+use Rattle.lisp_admission.specs.Checks.{reply_to, most_jump_at}
 use Rattle.lisp_server.specs.Checks.{Passed, register_checked, Acknowledges, RefusesAck, reply_of}
-use Rattle.lisp_admission.specs.Nonces.{IsBase, IsBelow, IsFresh, KeepsLists, Unasked, HasCause, FailsToLoad, FailsToSave}
+use Rattle.lisp_admission.specs.Nonces.{IsBase, IsBelow, IsFar, IsFresh, IsNear, KeepsLists, Unasked, HasCause, FailsToLoad, FailsToSave}
 
--- the nonce is above each value that may be its base
-abbrev pub IsAboveAnyBase : Option ℕ → StoreState → Pair → ℕ → Type 0
-IsAboveAnyBase last store pair nonce = (base : Option ℕ) → IsBase last store pair base → IsBelow base nonce
+-- the nonce is above each value that may be its base, and near it
+abbrev pub FollowsAnyBase : Option ℕ → Option ℕ → StoreState → Pair → ℕ → Type 0
+FollowsAnyBase jump last store pair nonce = (base : Option ℕ) → IsBase last store pair base → IsBelow base nonce × IsNear jump base nonce
 
 -- where a router was heard last
 abbrev pub contact_of : MapRegisterValue → Addr → Contact
@@ -42,7 +42,7 @@ pub record Accepts {A : Type 0} (check : Result Passed Refused) (old new : Serve
   pub passed : Passed
   pub checks : check ≡ Ok passed
   pub fits : IsMapNotify (reply_to passed.message)
-  pub fresh : IsFresh (nonce_at old.nonces (pair_of passed.message)) before (pair_of passed.message) passed.message.nonce
+  pub fresh : IsFresh (most_jump_at old.sites passed.message.site) (nonce_at old.nonces (pair_of passed.message)) before (pair_of passed.message) passed.message.nonce
   pub answer : took ≡ Accepted (router_of passed.message) passed.message.key_id passed.message.nonce (reply_of passed.secret passed.message)
   pub rows : Sets old.rows new.rows (row_values passed.message from now)
   pub nonces : SetsNonce old.nonces new.nonces (pair_of passed.message) passed.message.nonce
@@ -66,7 +66,7 @@ pub record Ends (from : Addr) (bytes : List ℕ) (m : MapNotifyValue) (old new :
 
 -- the message that bytes from an address spell was taken
 abbrev pub ServerTakes : {A : Type 0} → Result MessageValue ReadFault → Addr → List ℕ → ServerState → ServerState → StoreState → StoreState → ℕ → Took A → Type 0
-ServerTakes {A = A} (Ok (Registers m)) from bytes old new before after now (Accepted router key nonce reply) = Accepts {A = A} (register_checked old.sites bytes m) old new before after from now (Accepted router key nonce reply)
+ServerTakes {A = A} (Ok (Registers m)) from bytes old new before after now (Accepted router key nonce reply) = Accepts {A = A} (register_checked old.sites from bytes m) old new before after from now (Accepted router key nonce reply)
 ServerTakes (Ok (Notifies m)) from bytes old new before after now (NoticeDone router nonce) = Ends from bytes m old new before after router nonce
 ServerTakes _ from bytes old new before after now _ = ⊥
 
@@ -94,11 +94,20 @@ pub record Replays (check : Result Passed Refused) (old : ServerState) (before a
   pub unasked : Unasked (nonce_at old.nonces (pair_of passed.message)) before after
   pub same : KeepsLists before after
 
+-- the nonce is too far above the base
+pub record Jumps (check : Result Passed Refused) (old : ServerState) (before after : StoreState) (saved : ℕ) : Type 0 where
+  pub passed : Passed
+  pub checks : check ≡ Ok passed
+  pub base : IsBase (nonce_at old.nonces (pair_of passed.message)) before (pair_of passed.message) (Some saved)
+  pub far : IsFar (most_jump_at old.sites passed.message.site) saved passed.message.nonce
+  pub unasked : Unasked (nonce_at old.nonces (pair_of passed.message)) before after
+  pub same : KeepsLists before after
+
 -- the nonce was fresh, and it is open whether it is kept; not where memory ran out: then no list changed
 pub record SaveFailed (check : Result Passed Refused) (old : ServerState) (before after : StoreState) (fault : StoreFault) : Type 0 where
   pub passed : Passed
   pub checks : check ≡ Ok passed
-  pub fresh : IsFresh (nonce_at old.nonces (pair_of passed.message)) before (pair_of passed.message) passed.message.nonce
+  pub fresh : IsFresh (most_jump_at old.sites passed.message.site) (nonce_at old.nonces (pair_of passed.message)) before (pair_of passed.message) passed.message.nonce
   pub cause : HasCause fault before after
   pub sound : fault ≢ faults.Damaged
   pub memory : fault ≡ faults.OutOfMemory → KeepsLists before after
@@ -111,7 +120,7 @@ pub record SaveFailed (check : Result Passed Refused) (old : ServerState) (befor
 pub record OutOfRoom (check : Result Passed Refused) (old : ServerState) (before after : StoreState) : Type 0 where
   pub passed : Passed
   pub checks : check ≡ Ok passed
-  pub fresh : IsFresh (nonce_at old.nonces (pair_of passed.message)) before (pair_of passed.message) passed.message.nonce
+  pub fresh : IsFresh (most_jump_at old.sites passed.message.site) (nonce_at old.nonces (pair_of passed.message)) before (pair_of passed.message) passed.message.nonce
   pub unasked : Unasked (nonce_at old.nonces (pair_of passed.message)) before after
   pub same : KeepsLists before after
 
@@ -119,6 +128,7 @@ pub record OutOfRoom (check : Result Passed Refused) (old : ServerState) (before
 abbrev pub RefusesRegister : Result Passed Refused → ServerState → StoreState → StoreState → Refused → Type 0
 RefusesRegister check old before after (StoreLoad fault) = LoadFailed check old before after fault
 RefusesRegister check old before after (Replay saved) = Replays check old before after saved
+RefusesRegister check old before after (Jump saved) = Jumps check old before after saved
 RefusesRegister check old before after OutOfMemory = OutOfRoom check old before after
 RefusesRegister check old before after (StoreSave fault) = SaveFailed check old before after fault
 RefusesRegister check old before after refused = (check ≡ Err refused) × (after ≡ before)
@@ -129,7 +139,7 @@ RefusesBadHead bytes answer = (fault : ReadFault) → kind_at bytes ≡ Err faul
 
 -- what was read was refused
 abbrev pub RefusesRead : Result MessageValue ReadFault → Addr → List ℕ → ServerState → StoreState → StoreState → Refused → Type 0
-RefusesRead (Ok (Registers m)) from bytes old before after why = RefusesRegister (register_checked old.sites bytes m) old before after why
+RefusesRead (Ok (Registers m)) from bytes old before after why = RefusesRegister (register_checked old.sites from bytes m) old before after why
 RefusesRead (Ok (Notifies m)) from bytes old before after why = RefusesAck old.sites old.notices from bytes m why × (after ≡ before)
 RefusesRead (Err fault) from bytes old before after why = (why ≡ Read fault) × (after ≡ before)
 
@@ -143,14 +153,14 @@ ServerRefuses said from bytes old before after why = RefusesRead said from bytes
 abbrev pub RefusesMessage : Addr → List ℕ → ServerState → StoreState → StoreState → Refused → Type 0
 RefusesMessage from bytes old before after why = ServerRefuses (message_at bytes) from bytes old before after why
 
--- what was read is a Map-Register that passes all checks, with a nonce above each value that may be its base
-pub record IsAcceptable (said : Result MessageValue ReadFault) (bytes : List ℕ) (s : ServerState) (store : StoreState) : Type 0 where
+-- what was read from an address is a Map-Register that passes all checks, with a nonce that follows each value that may be its base
+pub record IsAcceptable (said : Result MessageValue ReadFault) (from : Addr) (bytes : List ℕ) (s : ServerState) (store : StoreState) : Type 0 where
   pub register : MapRegisterValue
   pub spelled : said ≡ Ok (Registers register)
   pub passed : Passed
-  pub checks : register_checked s.sites bytes register ≡ Ok passed
-  pub fresh : IsAboveAnyBase (nonce_at s.nonces (pair_of passed.message)) store (pair_of passed.message) passed.message.nonce
+  pub checks : register_checked s.sites from bytes register ≡ Ok passed
+  pub fresh : FollowsAnyBase (most_jump_at s.sites passed.message.site) (nonce_at s.nonces (pair_of passed.message)) store (pair_of passed.message) passed.message.nonce
 
 -- it is accepted, unless a device failed in between
-abbrev pub AcceptsUnlessFailed : {X E : Type 0} → List ℕ → ServerState → StoreState → StoreState → Result X E → Type 0
-AcceptsUnlessFailed bytes s before after answer = (Rose before after → ⊥) → IsAcceptable (message_at bytes) bytes s before → IsOk answer
+abbrev pub AcceptsUnlessFailed : {X E : Type 0} → Addr → List ℕ → ServerState → StoreState → StoreState → Result X E → Type 0
+AcceptsUnlessFailed from bytes s before after answer = (Rose before after → ⊥) → IsAcceptable (message_at bytes) from bytes s before → IsOk answer

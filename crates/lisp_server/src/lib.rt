@@ -35,6 +35,6 @@ mod standing_notices;
 mod tables;
 mod took;
 
-pub use lisp_admission::{NoticeFault, Refused};
+pub use lisp_admission::{Limit, NoticeFault, Refused};
 pub use server::Server;
 pub use took::Took;

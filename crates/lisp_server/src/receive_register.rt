@@ -11,7 +11,7 @@ use crate::accepted_rows::rows_and_reply;
 use crate::arrival::Arrival;
 use crate::tables::Tables;
 use crate::took::Took;
-use lisp_admission::{Refused, check_nonce, key_under, pair_of, save_nonce};
+use lisp_admission::{Refused, check_nonce, key_under, most_jump_at, pair_of, save_nonce};
 use lisp_hmac::Key;
 use lisp_memory::Memory;
 use lisp_messages::MapRegister;
@@ -35,10 +35,11 @@ pub(crate) fn receive_register<S: NonceStore, A: Memory + Copy>(
         (S.seen store.old) (S.seen store.new) arrival.entry register result }
     ensures proceeds { Proceeds (S.seen store.old) (S.seen store.new) }
 {
-    let key = key_under(sites, arrival.bytes, &register)?;
+    let key = key_under(sites, &arrival.from, arrival.bytes, &register)?;
     let pair = pair_of(&register);
     let nonce = nonce_of(&register);
-    check_nonce(store, &pair, tables.nonces.get(&pair), nonce)?;
+    let most_jump = most_jump_at(sites, pair.router.site);
+    check_nonce(store, &pair, tables.nonces.get(&pair), nonce, most_jump)?;
     let (rows, reply) = prepared(alloc, tables, &pair, key, arrival, register)?;
     save_nonce(store, &pair, nonce)?;
     tables.accept(rows, pair, nonce, arrival.from);

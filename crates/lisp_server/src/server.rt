@@ -181,9 +181,10 @@ impl<A: Memory + Copy> Server<A> {
     /// Receives a message that came from an address at a time, in ms. It refuses bytes that are no message
     /// (`Read`) and a Map-Notify (`NotMine`). A refusal changes nothing here.
     ///
-    /// A Map-Register is refused in this order: `UnknownSite`, `UnknownKey`, `BadAuth`, `MergeAsked`,
-    /// `NotAllowed` (the first record whose prefix its site doesn't allow), `StoreLoad` (only where the last
-    /// nonce isn't in memory), `Replay` (the nonce isn't above the last one), `OutOfMemory`, `StoreSave`. An
+    /// A Map-Register is refused in this order: `UnknownSite`, `UnknownKey`, `BadAuth`, `Limited` (its router, then its
+    /// source address), `MergeAsked`, `NotAllowed` (the first record whose prefix its site doesn't allow), `Limited` (the
+    /// first record that would live for a TTL out of bounds), `StoreLoad` (only where the last nonce isn't in memory),
+    /// `Replay` (the nonce isn't above the last one), `Jump` (it is too far above it), `OutOfMemory`, `StoreSave`. An
     /// accepted one sets the row of each prefix that it names, of several records for one prefix the last,
     /// and no other row; its nonce was saved before (RFC 9301 sections 5.6 and 8.2).
     ///

@@ -5,6 +5,7 @@ use Rattle.std.specs.List.{All, Contains}
 use Rattle.lisp_records.specs.declared.address.Addr.{Addr}
 use Rattle.lisp_records.specs.Address.{PrefixValue, covers, holds, masked, prefix_around, prefix_eq}
 use Rattle.lisp_records.specs.Row.{RowValue, is_alive}
+use Rattle.lisp_policy.specs.Limits.{no_limits}
 use Rattle.lisp_policy.specs.Site.{SiteValue, is_configured, single}
 use Rattle.lisp_policy.specs.declared.site.SitePrefix.{SitePrefix}
 use Rattle.lisp_lookup.specs.Answer.{NoneAnswers, may_answer}
@@ -27,7 +28,7 @@ one_site of_site addr eid keeps = All-cons OfSite the_site [] (All-cons Beside t
     the_prefix = record { eid = of_site; more_specifics = true }
 
     the_site : SiteValue
-    the_site = record { id = 1; keys = record { id = 1; secret = [] } ∷ []; prefixes = the_prefix ∷ [] }
+    the_site = record { id = 1; keys = record { id = 1; secret = [] } ∷ []; prefixes = the_prefix ∷ []; limits = no_limits }
 
     Beside : SitePrefix → Type 0
     Beside p = KeepsBeside p.eid addr (is_configured (site of_site) addr) eid
@@ -37,7 +38,7 @@ one_site of_site addr eid keeps = All-cons OfSite the_site [] (All-cons Beside t
 
 -- what such a site asks for
 kept : (of_site : PrefixValue) (addr : Addr) (eid : PrefixValue) → KeepsSites (site of_site) addr eid → KeepsBeside of_site addr (is_configured (site of_site) addr) eid
-kept of_site addr eid keeps = keeps 0 (record { id = 0; keys = []; prefixes = [] }) (omega arith) 0 (record { eid = of_site; more_specifics = true }) (omega arith)
+kept of_site addr eid keeps = keeps 0 (record { id = 0; keys = []; prefixes = []; limits = no_limits }) (omega arith) 0 (record { eid = of_site; more_specifics = true }) (omega arith)
 
 -- no row is there
 in_none : {P : Type 0} → (h : RowValue) → Contains [] h → P
@@ -122,18 +123,18 @@ beside_too_wide hole = true≢false ((kept (block 11 0 0 0 8) (ipv4 10 0 1 1) (b
 
 -- so beside each of two sites
 abbrev two_sites : List SiteValue
-two_sites = record { id = 1; keys = []; prefixes = record { eid = block 12 0 0 0 8; more_specifics = true } ∷ [] } ∷ record { id = 2; keys = []; prefixes = record { eid = block 11 0 0 0 8; more_specifics = true } ∷ [] } ∷ []
+two_sites = record { id = 1; keys = []; prefixes = record { eid = block 12 0 0 0 8; more_specifics = true } ∷ []; limits = no_limits } ∷ record { id = 2; keys = []; prefixes = record { eid = block 11 0 0 0 8; more_specifics = true } ∷ []; limits = no_limits } ∷ []
 
 beside_two : IsHole [] two_sites (ipv4 10 0 1 1) 0 (block 10 0 0 0 7) → ⊥
 unfolding masked
-beside_two hole = true≢false ((hole.alike.keeps 1 (record { id = 0; keys = []; prefixes = [] }) (omega arith) 0 (record { eid = block 12 0 0 0 8; more_specifics = true }) (omega arith)).1 refl)
+beside_two hole = true≢false ((hole.alike.keeps 1 (record { id = 0; keys = []; prefixes = []; limits = no_limits }) (omega arith) 0 (record { eid = block 12 0 0 0 8; more_specifics = true }) (omega arith)).1 refl)
 
 -- a site with 10.0.0.0/8 and 10.1.0.0/16
 abbrev nested : List SiteValue
-nested = record { id = 1; keys = []; prefixes = record { eid = block 10 0 0 0 8; more_specifics = true } ∷ record { eid = block 10 1 0 0 16; more_specifics = false } ∷ [] } ∷ []
+nested = record { id = 1; keys = []; prefixes = record { eid = block 10 0 0 0 8; more_specifics = true } ∷ record { eid = block 10 1 0 0 16; more_specifics = false } ∷ []; limits = no_limits } ∷ []
 
 nested_keeps : (addr : Addr) (eid : PrefixValue) → KeepsBeside (block 10 0 0 0 8) addr (is_configured nested addr) eid → KeepsBeside (block 10 1 0 0 16) addr (is_configured nested addr) eid → KeepsSites nested addr eid
-nested_keeps addr eid first second = All-cons OfSite (record { id = 1; keys = []; prefixes = outer ∷ inner ∷ [] }) [] (All-cons Beside outer (inner ∷ []) first (All-cons Beside inner [] second (All-nil Beside))) (All-nil OfSite)
+nested_keeps addr eid first second = All-cons OfSite (record { id = 1; keys = []; prefixes = outer ∷ inner ∷ []; limits = no_limits }) [] (All-cons Beside outer (inner ∷ []) first (All-cons Beside inner [] second (All-nil Beside))) (All-nil OfSite)
   where
     outer : SitePrefix
     outer = record { eid = block 10 0 0 0 8; more_specifics = true }
@@ -156,7 +157,7 @@ of_the_outer = record {
 }
   where
     outer_kept : (wider : ℕ) → KeepsSites nested (ipv4 10 2 0 1) (prefix_around (ipv4 10 2 0 1) wider) → KeepsBeside (block 10 0 0 0 8) (ipv4 10 2 0 1) true (prefix_around (ipv4 10 2 0 1) wider)
-    outer_kept wider keeps = keeps 0 (record { id = 0; keys = []; prefixes = [] }) (omega arith) 0 (record { eid = block 10 0 0 0 8; more_specifics = true }) (omega arith)
+    outer_kept wider keeps = keeps 0 (record { id = 0; keys = []; prefixes = []; limits = no_limits }) (omega arith) 0 (record { eid = block 10 0 0 0 8; more_specifics = true }) (omega arith)
 
 of_the_inner : IsHole [] nested (ipv4 10 1 0 1) 0 (block 10 1 0 0 16)
 unfolding masked all_below
@@ -167,7 +168,7 @@ of_the_inner = record {
 }
   where
     inner_kept : (wider : ℕ) → KeepsSites nested (ipv4 10 1 0 1) (prefix_around (ipv4 10 1 0 1) wider) → KeepsBeside (block 10 1 0 0 16) (ipv4 10 1 0 1) true (prefix_around (ipv4 10 1 0 1) wider)
-    inner_kept wider keeps = keeps 0 (record { id = 0; keys = []; prefixes = [] }) (omega arith) 1 (record { eid = block 10 1 0 0 16; more_specifics = true }) (omega arith)
+    inner_kept wider keeps = keeps 0 (record { id = 0; keys = []; prefixes = []; limits = no_limits }) (omega arith) 1 (record { eid = block 10 1 0 0 16; more_specifics = true }) (omega arith)
 
 -- 0.0.0.0/0 is registered: there is no hole
 no_hole : IsHoleOf (everything ∷ []) [] (ipv4 10 0 1 1) 0 None

@@ -39,8 +39,8 @@ unfolding masked
 wide_record ttl low = (omega arith, (record { ttl = low; act = omega arith; version = omega arith; block = (omega arith, refl); eid = record { width = refl; bytes = (omega arith, (omega arith, (omega arith, (omega arith, tt)))) }; count = omega arith; locators = tt }, tt))
 
 -- a Map-Register of the first router passes the checks
-pub admitted : (i : Item) (db : List MapRecordValue) (nonce : ℕ) → i.secret ≡ secret → first_not_allowed site db ≡ None → secret_under network.sites (bytes_of i) (registers db nonce) ≡ Ok secret
-admitted i db nonce its allowed = passes network.sites (bytes_of i) (registers db nonce) site secret refl refl (subst (λ (s : List ℕ). is_authentic (bytes_of i) s ≡ true) its (item_authentic i)) refl allowed
+pub admitted : (i : Item) (db : List MapRecordValue) (nonce : ℕ) → i.secret ≡ secret → first_not_allowed site db ≡ None → secret_under network.sites i.from (bytes_of i) (registers db nonce) ≡ Ok secret
+admitted i db nonce its allowed = passes network.sites i.from (bytes_of i) (registers db nonce) site secret refl refl (subst (λ (s : List ℕ). is_authentic (bytes_of i) s ≡ true) its (item_authentic i)) refl refl allowed
 
 passed : (s : Option ℕ) (server nonce : ℕ) (records : List MapRecordValue) (b : Bool) → s ≡ Some server → b ≡ true
     → ok_or s NotMine >>= (λ n. check b BadAuth >>= λ _. Ok (heard_of n nonce records)) ≡ Ok (heard_of server nonce records)

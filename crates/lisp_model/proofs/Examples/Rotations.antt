@@ -174,11 +174,11 @@ takes_under_legal T before k key nonce datagram base sent is known allowed count
     arrives = record {
       acts = record { kind = refl; acts = refl };
       message = _;
-      admits = record { read = refl; secret = (etr_config rotating before 2).secret; checks = passes rotating.config.sites (bytes_of (register_item rotating before 2 0 0 nonce)) (map_register_of (etr_config rotating before 2) (part_at (database rotating before 2) 0) nonce) three_keys (etr_config rotating before 2).secret refl (ap (secret_of three_keys) is ∙ known) (item_authentic (register_item rotating before 2 0 0 nonce)) refl allowed };
+      admits = record { read = refl; secret = (etr_config rotating before 2).secret; checks = passes rotating.config.sites (register_item rotating before 2 0 0 nonce).from (bytes_of (register_item rotating before 2 0 0 nonce)) (map_register_of (etr_config rotating before 2) (part_at (database rotating before 2) 0) nonce) three_keys (etr_config rotating before 2).secret refl (ap (secret_of three_keys) is ∙ known) (item_authentic (register_item rotating before 2 0 0 nonce)) refl refl allowed };
       who = refl;
       under = sym is;
       number = refl;
-      fresh = subst (λ (k : ℕ). IsFresh (context_of rotating T (takes_under T k key nonce datagram)) (map_register_of (etr_config_under rotating.config (router_at rotating.config 2) k) (part_at (database rotating before 2) 0) nonce)) (sym is) (record { base = base; counts = counted; above = below; loads = λ none obeys clash. absurd cc });
+      fresh = subst (λ (k : ℕ). IsFresh (context_of rotating T (takes_under T k key nonce datagram)) (map_register_of (etr_config_under rotating.config (router_at rotating.config 2) k) (part_at (database rotating before 2) 0) nonce)) (sym is) (record { base = base; counts = counted; above = below; near = tt; loads = λ none obeys clash. absurd cc });
       may = λ obeys clash. absurd cc;
       kept = subst (λ (k : ℕ). kept_at (keeps (shows T 0) (under key (got_from one)) nonce).kept (under k (got_from one)) ≡ Some nonce ∷ []) (sym is) (set_here (shows T 0).kept (under key (got_from one)) (Some nonce ∷ []));
       others = subst (λ (k : ℕ). SameElsewhere (shows T 0).kept (keeps (shows T 0) (under key (got_from one)) nonce).kept (under k (got_from one))) (sym is) (set_others (shows T 0).kept (under key (got_from one)) (Some nonce ∷ []));

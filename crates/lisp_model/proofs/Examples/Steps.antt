@@ -90,7 +90,7 @@ takes_legal T k server nonce datagram i db base sent there kind says key allowed
       who = refl;
       under = refl;
       number = refl;
-      fresh = record { base = base; counts = counts; above = below; loads = λ none obeys clash. absurd cc };
+      fresh = record { base = base; counts = counts; above = below; near = tt; loads = λ none obeys clash. absurd cc };
       may = λ obeys clash. absurd cc;
       kept = set_here (at T server).kept (got_from one) (Some nonce ∷ []);
       others = set_others (at T server).kept (got_from one) (Some nonce ∷ []);
@@ -177,7 +177,7 @@ doubts_take_legal T k server nonce i db base sent there kind says key allowed co
       record {
         message = registers db nonce;
         admits = record { read = ap Ok says; secret = secret; checks = admitted i db nonce key allowed };
-        fresh = record { base = base; counts = counts; above = below; loads = λ none obeys clash. absurd cc };
+        fresh = record { base = base; counts = counts; above = below; near = tt; loads = λ none obeys clash. absurd cc };
         fails = in_doubt _ (got_from one) nonce unbound refl (omega arith);
       },
     );
@@ -219,7 +219,7 @@ refuses_record T k server nonce place i db sent there kind says key bad = record
       record { kind = kind; acts = refl },
       (
         subst (λ (x : MessageValue). FailsCheck (context_of opening T (refuses T (events.Deliver k fates.Done) server (refusals.Receive (refuseds.NotAllowed place)))) (arrival_of i) (Ok x) (refuseds.NotAllowed place)) (sym says)
-            (is_not_allowed network.sites (bytes_of i) (registers db nonce) site secret place refl refl (subst (λ (s : List ℕ). is_authentic (bytes_of i) s ≡ true) key (item_authentic i)) refl bad),
+            (is_not_allowed network.sites i.from (bytes_of i) (registers db nonce) site secret place refl refl (subst (λ (s : List ℕ). is_authentic (bytes_of i) s ≡ true) key (item_authentic i)) refl refl bad),
         refl,
       ),
     );

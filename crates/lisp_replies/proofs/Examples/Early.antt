@@ -1,6 +1,7 @@
 -- Which rows aren't replied with in the first moments of a life.
 use Rattle.std.proofs.Common.{List, [], false, true, refl, ◌∷◌, ◌≡◌}
 use Rattle.lisp_records.specs.Address.{PrefixValue, masked}
+use Rattle.lisp_policy.specs.Limits.{no_limits}
 use Rattle.lisp_policy.specs.Site.{SiteValue, single}
 use Rattle.lisp_lookup.proofs.Examples.Rows.{block, in_eight, in_first, in_sixteen}
 use Rattle.lisp_replies.specs.Reply.{is_held_back}
@@ -12,7 +13,7 @@ site eid = single 1 1 [] eid true
 
 -- one with 10.0.0.0/8 and 10.1.0.0/16
 abbrev pub nested : List SiteValue
-nested = record { id = 1; keys = []; prefixes = record { eid = block 10 0 0 0 8; more_specifics = true } ∷ record { eid = sixteen; more_specifics = false } ∷ [] } ∷ []
+nested = record { id = 1; keys = []; prefixes = record { eid = block 10 0 0 0 8; more_specifics = true } ∷ record { eid = sixteen; more_specifics = false } ∷ []; limits = no_limits } ∷ []
 
 -- the row of the site's own prefix is replied with
 own_prefix : is_held_back true (site sixteen) asked in_sixteen ≡ false
@@ -51,7 +52,7 @@ over_the_inner = refl
 
 -- the longer one may be of another site
 abbrev two_sites : List SiteValue
-two_sites = record { id = 1; keys = []; prefixes = record { eid = block 10 0 0 0 8; more_specifics = true } ∷ [] } ∷ record { id = 2; keys = []; prefixes = record { eid = sixteen; more_specifics = false } ∷ [] } ∷ []
+two_sites = record { id = 1; keys = []; prefixes = record { eid = block 10 0 0 0 8; more_specifics = true } ∷ []; limits = no_limits } ∷ record { id = 2; keys = []; prefixes = record { eid = sixteen; more_specifics = false } ∷ []; limits = no_limits } ∷ []
 
 of_another_site : is_held_back true two_sites asked in_eight ≡ true
 unfolding masked

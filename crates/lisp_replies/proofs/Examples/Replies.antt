@@ -7,6 +7,7 @@ use Rattle.lisp_records.specs.Address.{PrefixValue, addr_eq, covers, masked, pre
 use Rattle.lisp_records.specs.Record.{MapRecordValue}
 use Rattle.lisp_records.specs.Row.{RowValue, is_alive}
 use Rattle.lisp_records.specs.Written.{written}
+use Rattle.lisp_policy.specs.Limits.{no_limits}
 use Rattle.lisp_policy.specs.Site.{SiteValue, is_configured}
 use Rattle.lisp_policy.specs.declared.site.SitePrefix.{SitePrefix}
 use Rattle.lisp_lookup.specs.Covering.{IsBestFor, NoneAnswersFor, may_answer_for}
@@ -36,7 +37,7 @@ one_site of_site addr eid keeps = All-cons OfSite the_site [] (All-cons Beside t
     the_prefix = record { eid = of_site; more_specifics = true }
 
     the_site : SiteValue
-    the_site = record { id = 1; keys = record { id = 1; secret = [] } ∷ []; prefixes = the_prefix ∷ [] }
+    the_site = record { id = 1; keys = record { id = 1; secret = [] } ∷ []; prefixes = the_prefix ∷ []; limits = no_limits }
 
     Beside : SitePrefix → Type 0
     Beside p = KeepsBeside p.eid addr (is_configured (site of_site) addr) eid
@@ -45,7 +46,7 @@ one_site of_site addr eid keeps = All-cons OfSite the_site [] (All-cons Beside t
     OfSite s = All Beside s.prefixes
 
 kept : (of_site : PrefixValue) (addr : Addr) (eid : PrefixValue) → KeepsSites (site of_site) addr eid → KeepsBeside of_site addr (is_configured (site of_site) addr) eid
-kept of_site addr eid keeps = keeps 0 (record { id = 0; keys = []; prefixes = [] }) (omega arith) 0 (record { eid = of_site; more_specifics = true }) (omega arith)
+kept of_site addr eid keeps = keeps 0 (record { id = 0; keys = []; prefixes = []; limits = no_limits }) (omega arith) 0 (record { eid = of_site; more_specifics = true }) (omega arith)
 
 -- between 10.0.0.0/24 and 10.0.2.0/24
 abbrev pub between : PrefixValue

@@ -125,9 +125,9 @@ foreign_accepted l =
     let item : foreign_item ≡ l.row.item = item_is _ _ l.row.sent in
     let message : registers foreign 1 ≡ l.row.arrives.message = register_is _ _ _ _ item refl l.row.arrives.admits.read in
     let secret_is = l.row.arrives.admits.secret in
-    let checks : secret_under network.sites (bytes_of foreign_item) (registers foreign 1) ≡ Ok secret_is = subst (λ (i : Item). secret_under network.sites (bytes_of i) (registers foreign 1) ≡ Ok secret_is) (sym item)
-    (subst (λ (m : MapRegisterValue). secret_under network.sites (bytes_of l.row.item) m ≡ Ok secret_is) (sym message) l.row.arrives.admits.checks) in
-    ok_is_no_refusal (sym (is_not_allowed network.sites (bytes_of foreign_item) (registers foreign 1) site secret 1 refl refl (item_authentic foreign_item) refl strange_refused) ∙ checks)
+    let checks : secret_under network.sites foreign_item.from (bytes_of foreign_item) (registers foreign 1) ≡ Ok secret_is = subst (λ (i : Item). secret_under network.sites i.from (bytes_of i) (registers foreign 1) ≡ Ok secret_is) (sym item)
+    (subst (λ (m : MapRegisterValue). secret_under network.sites l.row.item.from (bytes_of l.row.item) m ≡ Ok secret_is) (sym message) l.row.arrives.admits.checks) in
+    ok_is_no_refusal (sym (is_not_allowed network.sites foreign_item.from (bytes_of foreign_item) (registers foreign 1) site secret 1 refl refl (item_authentic foreign_item) refl refl strange_refused) ∙ checks)
 
 -- the first reason isn't told: the record is checked before the nonce
 wrong_order : Legal opening foreign_sent (replays foreign_sent 0 0 1) → ⊥
@@ -136,9 +136,9 @@ wrong_order l =
     let a = l.row.arrives.1 in
     let item : foreign_item ≡ l.row.item = item_is _ _ l.row.sent in
     let message : registers foreign 1 ≡ a.message = register_is _ _ _ _ item refl a.admits.read in
-    let checks : secret_under network.sites (bytes_of foreign_item) (registers foreign 1) ≡ Ok a.admits.secret = subst (λ (i : Item). secret_under network.sites (bytes_of i) (registers foreign 1) ≡ Ok a.admits.secret) (sym item)
-    (subst (λ (m : MapRegisterValue). secret_under network.sites (bytes_of l.row.item) m ≡ Ok a.admits.secret) (sym message) a.admits.checks) in
-    ok_is_no_refusal (sym (is_not_allowed network.sites (bytes_of foreign_item) (registers foreign 1) site secret 1 refl refl (item_authentic foreign_item) refl strange_refused) ∙ checks)
+    let checks : secret_under network.sites foreign_item.from (bytes_of foreign_item) (registers foreign 1) ≡ Ok a.admits.secret = subst (λ (i : Item). secret_under network.sites i.from (bytes_of i) (registers foreign 1) ≡ Ok a.admits.secret) (sym item)
+    (subst (λ (m : MapRegisterValue). secret_under network.sites l.row.item.from (bytes_of l.row.item) m ≡ Ok a.admits.secret) (sym message) a.admits.checks) in
+    ok_is_no_refusal (sym (is_not_allowed network.sites foreign_item.from (bytes_of foreign_item) (registers foreign 1) site secret 1 refl refl (item_authentic foreign_item) refl refl strange_refused) ∙ checks)
 
 -- a replay is told with another number than the last nonce, or of a nonce above it
 replay_with_another_number : Legal opening one_taken (replays one_taken 0 0 5) → ⊥
@@ -188,7 +188,7 @@ accepted_without_tag bytes read forged l =
     let both : ◌≡◌ {A = Result MessageValue ReadFault} (Ok (Registers first)) (Ok (Registers l.row.arrives.message)) = sym read ∙ l.row.arrives.admits.read in
     let message : first ≡ l.row.arrives.message = cc in
     let secret_is = l.row.arrives.admits.secret in
-    ok_is_no_refusal (sym (bad_tag network.sites bytes first site secret refl refl forged) ∙ subst (λ (m : MapRegisterValue). secret_under network.sites bytes m ≡ Ok secret_is) (sym message) l.row.arrives.admits.checks)
+    ok_is_no_refusal (sym (bad_tag network.sites (local_at 21) bytes first site secret refl refl forged) ∙ subst (λ (m : MapRegisterValue). secret_under network.sites (local_at 21) bytes m ≡ Ok secret_is) (sym message) l.row.arrives.admits.checks)
 
 -- a Map-Notify is taken for its acknowledgement
 abbrev notice_back : Item

@@ -1,4 +1,6 @@
-use Rattle.std.proofs.Common.{ℕ, Option, Err, ap, subst}
+use Rattle.std.proofs.Common.{ℕ, Option, Err, ap, subst, ◌∙◌}
+use Rattle.lisp_nonces.specs.declared.pair.Pair.{Pair}
+use Rattle.lisp_admission.specs.Checks.{most_jump_at}
 use Rattle.lisp_admission.specs.Nonces.{IsFresh, Unasked, Stops}
 use Rattle.lisp_server.specs.Server.{state_of}
 use Rattle.lisp_server.proofs.ReceivingLaws.{proceeds_on, accepts, save_fails, check_fails, stops, no_room, refused_for, unchanged, told_stopped, told_memory, told_unsaved}
@@ -8,7 +10,7 @@ pub returns-in_err-key-clause-answer : goal.returns-in_err-key-clause-answer
 returns-in_err-key-clause-answer g c =
     refused_for c.from_residual.result _ _ _ c.from_residual.ensures.1 (
       ((λ is. absurd (c.in_err-key.ensures.plain (ap Err is))), (λ is. absurd (c.in_err-key.ensures.storeless.0 (ap Err is))), (λ is. absurd (c.in_err-key.ensures.storeless.1 (ap Err is)))),
-      check_fails c.args.sites.now c.args.arrival.bytes.now c.args.register c.in_err-key.field-0.0 _ _ c.in_err-key.ensures.secret,
+      check_fails c.args.sites.now c.args.arrival.from c.args.arrival.bytes.now c.args.register c.in_err-key.field-0.0 _ _ c.in_err-key.ensures.secret,
       unchanged c.args.tables.now,
     )
 
@@ -17,20 +19,20 @@ returns-in_err-check_nonce-clause-answer g c =
     let before = g.S.NonceStore.seen c.args.store.now in
     let after = g.S.NonceStore.seen c.check_nonce.new.store in
     let unasked = subst (λ (last : Option ℕ). Unasked last before after) c.get.ensures c.check_nonce.ensures.unasked in
-    let why = subst (λ (last : Option ℕ). Stops last before after c.pair_of-pair.result c.nonce_of-nonce.result c.in_err-check_nonce.field-0.0) c.get.ensures c.in_err-check_nonce.ensures.refused in
+    let why = subst (λ (x : Option ℕ × Option ℕ). Stops x.0 x.1 before after c.pair_of-pair.result c.nonce_of-nonce.result c.in_err-check_nonce.field-0.0) (λ i. ((c.most_jump_at-most_jump.ensures ∙ ap (λ (p : Pair). most_jump_at c.args.sites.now p.router.site) c.pair_of-pair.ensures) i, c.get.ensures i)) c.in_err-check_nonce.ensures.refused in
     refused_for c.from_residual-in_err-check_nonce.result _ _ _ c.from_residual-in_err-check_nonce.ensures.1 (
-      told_stopped _ _ _ _ _ _ _ _ c.in_err-check_nonce.ensures.refused (λ is. c.in_err-check_nonce.ensures.store_memory (ap Err is)),
-      stops c.args.sites.now c.args.arrival.bytes.now c.args.register c.in_ok-key.key.now (state_of c.args.sites.now c.args.tables.now) before after c.pair_of-pair.result c.nonce_of-nonce.result c.in_err-check_nonce.field-0.0 c.pair_of-pair.ensures c.nonce_of-nonce.ensures c.in_ok-key.ensures.secret c.check_nonce.ensures.same unasked why,
+      told_stopped _ _ _ _ _ _ _ _ _ c.in_err-check_nonce.ensures.refused (λ is. c.in_err-check_nonce.ensures.store_memory (ap Err is)),
+      stops c.args.sites.now c.args.arrival.from c.args.arrival.bytes.now c.args.register c.in_ok-key.key.now (state_of c.args.sites.now c.args.tables.now) before after c.pair_of-pair.result c.nonce_of-nonce.result c.in_err-check_nonce.field-0.0 c.pair_of-pair.ensures c.nonce_of-nonce.ensures c.in_ok-key.ensures.secret c.check_nonce.ensures.same unasked why,
       unchanged c.args.tables.now,
     )
 
 pub returns-in_err-rows-clause-answer : goal.returns-in_err-rows-clause-answer
 returns-in_err-rows-clause-answer g c =
-    let fresh = subst (λ (last : Option ℕ). IsFresh last (g.S.NonceStore.seen c.args.store.now) c.pair_of-pair.result c.nonce_of-nonce.result) c.get.ensures c.in_ok-check_nonce.ensures.fresh in
+    let fresh = subst (λ (x : Option ℕ × Option ℕ). IsFresh x.0 x.1 (g.S.NonceStore.seen c.args.store.now) c.pair_of-pair.result c.nonce_of-nonce.result) (λ i. ((c.most_jump_at-most_jump.ensures ∙ ap (λ (p : Pair). most_jump_at c.args.sites.now p.router.site) c.pair_of-pair.ensures) i, c.get.ensures i)) c.in_ok-check_nonce.ensures.fresh in
     let unasked = subst (λ (last : Option ℕ). Unasked last (g.S.NonceStore.seen c.args.store.now) (g.S.NonceStore.seen c.check_nonce.new.store)) c.get.ensures c.check_nonce.ensures.unasked in
     refused_for c.from_residual-in_err-rows.result _ _ _ c.from_residual-in_err-rows.ensures.1 (
       told_memory _ _ c.in_err-rows.ensures.memory,
-      no_room c.args.sites.now c.args.arrival.bytes.now c.args.register c.in_ok-key.key.now (state_of c.args.sites.now c.args.tables.now) _ _ c.pair_of-pair.result c.nonce_of-nonce.result c.pair_of-pair.ensures c.nonce_of-nonce.ensures c.in_ok-key.ensures.secret fresh unasked c.check_nonce.ensures.same,
+      no_room c.args.sites.now c.args.arrival.from c.args.arrival.bytes.now c.args.register c.in_ok-key.key.now (state_of c.args.sites.now c.args.tables.now) _ _ c.pair_of-pair.result c.nonce_of-nonce.result c.pair_of-pair.ensures c.nonce_of-nonce.ensures c.in_ok-key.ensures.secret fresh unasked c.check_nonce.ensures.same,
       c.prepared.ensures.same,
     )
 
@@ -41,7 +43,7 @@ returns-in_err-save_nonce-clause-answer g c =
       save_fails {old = c.args.tables.now} c.in_err-save_nonce.field-0.0 c.pair_of-pair.result c.nonce_of-nonce.result c.pair_of-pair.ensures c.nonce_of-nonce.ensures (record {
         secret = c.in_ok-key.key.now;
         checks = c.in_ok-key.ensures.secret;
-        fresh = subst (λ (last : Option ℕ). IsFresh last (g.S.NonceStore.seen c.args.store.now) c.pair_of-pair.result c.nonce_of-nonce.result) c.get.ensures c.in_ok-check_nonce.ensures.fresh;
+        fresh = subst (λ (x : Option ℕ × Option ℕ). IsFresh x.0 x.1 (g.S.NonceStore.seen c.args.store.now) c.pair_of-pair.result c.nonce_of-nonce.result) (λ i. ((c.most_jump_at-most_jump.ensures ∙ ap (λ (p : Pair). most_jump_at c.args.sites.now p.router.site) c.pair_of-pair.ensures) i, c.get.ensures i)) c.in_ok-check_nonce.ensures.fresh;
         loaded = c.check_nonce.ensures.same;
         went = c.check_nonce.ensures.proceeds;
         not_kept = c.in_err-save_nonce.ensures.refused;
@@ -55,7 +57,7 @@ returns-clause-answer g c = accepts {new = c.accept.new.self} {between = g.S.Non
   secret = c.in_ok-key.key.now;
   checks = c.in_ok-key.ensures.secret;
   fits = c.requires;
-  fresh = subst (λ (last : Option ℕ). IsFresh last (g.S.NonceStore.seen c.args.store.now) c.pair_of-pair.result c.nonce_of-nonce.result) c.get.ensures c.in_ok-check_nonce.ensures.fresh;
+  fresh = subst (λ (x : Option ℕ × Option ℕ). IsFresh x.0 x.1 (g.S.NonceStore.seen c.args.store.now) c.pair_of-pair.result c.nonce_of-nonce.result) (λ i. ((c.most_jump_at-most_jump.ensures ∙ ap (λ (p : Pair). most_jump_at c.args.sites.now p.router.site) c.pair_of-pair.ensures) i, c.get.ensures i)) c.in_ok-check_nonce.ensures.fresh;
   loaded = c.check_nonce.ensures.same;
   went = c.check_nonce.ensures.proceeds;
   same = c.prepared.ensures.same;

@@ -1,5 +1,5 @@
 use Rattle.std.proofs.Common.{refl, ap, ◌∙◌, subst, Ok, Err, is_ok, true≢false, arith}
-use Rattle.std.proofs.lemmas.Result.{IfOk-weaker, IfErr-weaker, IfErr-at_err, on_err_weaker}
+use Rattle.std.proofs.lemmas.Result.{IfOk-weaker, IfErr-weaker, on_err_weaker}
 use Rattle.lisp_messages.specs.Meaning.{message_value}
 use Rattle.lisp_messages.specs.Spelling.{Spells}
 use Rattle.lisp_admission.specs.Refused.{refused_of_read}
