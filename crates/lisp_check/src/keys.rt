@@ -13,7 +13,16 @@ use toml::Value;
 const ARRAYS: &[&str] = &["site", "server", "router"];
 
 /// The keys of a site, of a key of it, and of a prefix of it.
-const SITE_KEYS: &[&str] = &["id", "key", "prefix"];
+const SITE_KEYS: &[&str] = &[
+    "id",
+    "key",
+    "prefix",
+    "routers",
+    "from",
+    "least_ttl",
+    "most_ttl",
+    "most_jump",
+];
 
 const KEY_KEYS: &[&str] = &["id", "secret"];
 

@@ -128,6 +128,7 @@ fn has_address(field: Field) -> bool {
     matches!(
         field,
         Field::SitePrefixEid
+            | Field::SiteFrom
             | Field::ServerAddress
             | Field::ServerResolve
             | Field::RouterAddress

@@ -186,6 +186,11 @@ fn may_be_absent(field: Field) -> bool {
         Field::SiteKey
             | Field::SitePrefix
             | Field::SitePrefixMoreSpecifics
+            | Field::SiteRouters
+            | Field::SiteFrom
+            | Field::SiteLeastTtl
+            | Field::SiteMostTtl
+            | Field::SiteMostJump
             | Field::ServerResolve
             | Field::RouterProxy
             | Field::RouterUseTtl

@@ -6,6 +6,7 @@ pub mod Fields
 pub mod Forms
 pub mod Found
 pub mod Keys
+pub mod LimitItems
 pub mod Names
 pub mod NumberLaws
 pub mod NodeLaws

@@ -12,7 +12,7 @@ use Rattle.lisp_policy.specs.declared.site.SitePrefix.{SitePrefix}
 use Rattle.lisp_policy.specs.Site.{SiteKeyValue, SiteValue, has_key}
 use Rattle.lisp_policy.specs.Configuration.{IsKey, IsSitePrefix, IsSite}
 use Rattle.lisp_sites.specs.Form.{text_as, byte_as}
-use Rattle.lisp_sites.specs.Table.{required, optional, items, as_entry, each, flat, fresh_key_id, key_at, keys_of, has_eid, fresh_eid, prefix_at, prefixes_of, has_site, fresh_site_id, site_at, sites_of}
+use Rattle.lisp_sites.specs.Table.{required, optional, items, as_entry, each, flat, fresh_key_id, key_at, keys_of, has_eid, fresh_eid, prefix_at, prefixes_of, limits_of, has_site, fresh_site_id, site_at, sites_of}
 use Rattle.lisp_sites.proofs.Readings.{same_ok, bind_ok, bind_told, one_flat, required-Ok, required_text-Ok, fresh-Ok, none_like, AreApart, Joins, each_apart}
 use Rattle.lisp_sites.proofs.Forms.{byte_fits, secret_fits, site_id_fits}
 use Rattle.lisp_sites.proofs.TextFits.{prefix_fits}
@@ -63,11 +63,12 @@ one_site before d s e =
     let id = bind_told (fresh_site_id before entry.0) _ s entry.2 in
     let keys = bind_ok (keys_of entry.0) _ s id.2 in
     let prefixes = bind_ok (prefixes_of entry.0) _ s keys.2 in
+    let limits = bind_ok (limits_of entry.0) _ s prefixes.2 in
     let new = fresh-Ok fields.SiteId (required fields.SiteId (codes "id") (text_as site_id_of) entry.0) (has_site before) id.0 id.1 in
     let text = required_text-Ok fields.SiteId (codes "id") site_id_of entry.0 id.0 new.0 in
     let each_key = keys_apart entry.0 keys.0 keys.1 in
     let each_prefix = prefixes_apart entry.0 prefixes.0 prefixes.1 in
-    subst (Joins IsSite (λ a b. a.id ≢ b.id) before) (same_ok (record { id = id.0; keys = keys.0; prefixes = prefixes.0 }) s prefixes.2) (record {
+    subst (Joins IsSite (λ a b. a.id ≢ b.id) before) (same_ok (record { id = id.0; keys = keys.0; prefixes = prefixes.0; limits = limits.0 }) s limits.2) (record {
       kind = record { id = site_id_fits text.0 id.0 text.1; keys = each_key.kind; key_ids = each_key.apart; prefixes = each_prefix.kind; eids = each_prefix.apart };
       apart = none_like (λ x. x.id == id.0) (λ x. x.id ≡ id.0) (λ x. (Decides-eqb x.id id.0).1) before new.1;
     })

@@ -1,6 +1,5 @@
 -- Faults with their places.
-use Rattle.std.proofs.Common.{◌≡◌, ℕ, Result, Ok, Err, refl, ap}
-use Rattle.lisp_sites.specs.declared.field.Field.{Field}
+use Rattle.std.proofs.Common.{◌≡◌, Result, Ok, Err, ap}
 use Rattle.lisp_sites.specs.declared.fault.ConfigFault.{ConfigFault}
 use Rattle.lisp_sites.specs.declared.fault.ConfigFault.TheVariants.{Toml, Missing, BadValue, Repeated, OutOfMemory}
 use Rattle.lisp_sites.specs.declared.place.Place.{Place}

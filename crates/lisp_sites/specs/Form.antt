@@ -1,5 +1,6 @@
 -- The forms that a field's value may have: which values are of the form, and what they stand for.
-use Rattle.std.specs.Prelude.{ℕ, ℤ, pos, negsuc, ◌&&◌, List, Option, None, nat_le, nat_lt}
+use Rattle.std.specs.Prelude.{ℕ, ℤ, pos, negsuc, ◌-◌, ◌^◌, ◌&&◌, List, Option, Some, None, nat_le, nat_lt}
+use Rattle.std.specs.Option.{option_map}
 use Rattle.toml.specs.Data.{Data, as_str, as_integer}
 use Rattle.lisp_policy.specs.Configuration.{is_name}
 use Rattle.lisp_texts.specs.Reading.{◌>>=◌, if_so}
@@ -27,3 +28,19 @@ nonce_block_from (negsuc n) = None
 
 abbrev pub nonce_block_as : Data → Option ℕ
 nonce_block_as d = as_integer d >>= nonce_block_from
+
+-- a limit: a whole number from 1 to a greatest one
+abbrev pub limit_from : ℕ → ℤ → Option ℕ
+limit_from most (pos n) = if_so (nat_le 1 n && nat_le n most) n
+limit_from most (negsuc n) = None
+
+abbrev pub limit_as : ℕ → Data → Option (Option ℕ)
+limit_as most d = option_map Some (as_integer d >>= limit_from most)
+
+-- of a TTL in minutes, which 0xffffffff is not
+abbrev pub minutes_as : Data → Option (Option ℕ)
+minutes_as = limit_as 4294967294
+
+-- of what a nonce may rise by
+abbrev pub jump_as : Data → Option (Option ℕ)
+jump_as = limit_as (2 ^ 63 - 1)

@@ -1,6 +1,6 @@
 -- The configuration's table: its fields, each with its name, its key, its form and its default, and
 -- the entries that a document has, read in order, or the first fault.
-use Rattle.std.specs.Prelude.{◌≡◌, ℕ, ◌+◌, Bool, false, ◌==◌, ◌++◌, ◌||◌, List, [], ◌∷◌, Option, Some, None, Result, Ok, Err, codes, position, is_some, ok_or, option_and_then, if◌then◌else◌}
+use Rattle.std.specs.Prelude.{◌≡◌, ℕ, ◌+◌, Bool, true, false, ◌==◌, ◌++◌, ◌||◌, List, [], ◌∷◌, Option, Some, None, Result, Ok, Err, codes, position, is_some, ok_or, option_and_then, if◌then◌else◌}
 use Rattle.std.specs.List.{list_any}
 use Rattle.std.specs.Result.{result_ok}
 use Rattle.std.specs.Str.{bytes_eq}
@@ -20,9 +20,10 @@ use Rattle.lisp_sites.specs.declared.place.Place.{Place}
 use Rattle.lisp_sites.specs.declared.place.PlacedFault.{PlacedFault}
 use Rattle.lisp_sites.specs.declared.fault.ConfigFault.TheVariants.{Toml, Missing, BadValue, Repeated, OutOfMemory}
 use Rattle.lisp_policy.specs.declared.site.SitePrefix.{SitePrefix}
+use Rattle.lisp_policy.specs.Limits.{LimitsValue, lists_router, is_at_most}
 use Rattle.lisp_policy.specs.Site.{SiteKeyValue, SiteValue, site_of, has_key}
 use Rattle.lisp_policy.specs.Configuration.{ServerEntryValue, RouterEntryValue, ConfigValue}
-use Rattle.lisp_sites.specs.Form.{name_of, text_as, byte_as, nonce_block_as}
+use Rattle.lisp_sites.specs.Form.{name_of, text_as, byte_as, nonce_block_as, minutes_as, jump_as}
 
 -- a field that has to be there: its name, its key in the entry, and the form of its value; Missing
 -- where it is absent, BadValue where it isn't of the form
@@ -113,7 +114,56 @@ prefix_at before d = do
   more_specifics ← optional fields.SitePrefixMoreSpecifics (codes "more_specifics") as_bool false entry
   Ok (record { eid = eid; more_specifics = more_specifics })
 
--- site: id, no two alike; its keys; its prefixes
+-- prefixes in a list, of any addresses
+abbrev pub listed_prefix_at : Field → List PrefixValue → Data → Result PrefixValue ConfigFault
+listed_prefix_at name before d = ok_or (text_as prefix_of d) (BadValue name)
+
+-- the array of a limit: none where it is absent. One that is there and empty would say the opposite of what it does
+abbrev pub some_items : Items → Option Items
+some_items no_items = None
+some_items (item d ds) = Some (item d ds)
+
+abbrev pub limit_items : Field → List ℕ → Data → Result Items ConfigFault
+limit_items name key entry = optional name key (λ d. option_and_then some_items (as_array d)) no_items entry
+
+-- site.routers: xTR-IDs, no two alike in a site
+abbrev pub listed_xtr : Data → Result (List ℕ) ConfigFault
+listed_xtr d = ok_or (text_as xtr_of d) (BadValue fields.SiteRouters)
+
+abbrev pub xtr_at : List (List ℕ) → Data → Result (List ℕ) ConfigFault
+xtr_at before d = listed_xtr d >>= λ xtr. fresh fields.SiteRouters (lists_router before xtr) xtr
+
+abbrev pub site_routers_of : Data → Result (List (List ℕ)) PlacedFault
+site_routers_of entry = placed_nowhere (limit_items fields.SiteRouters (codes "routers") entry) >>= each fields.SiteRouters (flat xtr_at) [] 1
+
+-- site.from: prefixes of source addresses
+abbrev pub site_from_of : Data → Result (List PrefixValue) PlacedFault
+site_from_of entry = placed_nowhere (limit_items fields.SiteFrom (codes "from") entry) >>= each fields.SiteFrom (flat (listed_prefix_at fields.SiteFrom)) [] 1
+
+-- site.least_ttl; site.most_ttl, which is not less
+abbrev pub are_bounds : Option ℕ → Option ℕ → Bool
+are_bounds None most = true
+are_bounds (Some least) most = is_at_most most least
+
+unfoldable pub site_ttls_of : Data → Result (Option ℕ × Option ℕ) ConfigFault
+site_ttls_of entry = do
+  least ← optional fields.SiteLeastTtl (codes "least_ttl") minutes_as None entry
+  most ← optional fields.SiteMostTtl (codes "most_ttl") minutes_as None entry
+  if are_bounds least most then Ok (least, most) else Err (BadValue fields.SiteMostTtl)
+
+-- site.most_jump
+abbrev pub most_jump_of : Data → Result (Option ℕ) ConfigFault
+most_jump_of entry = optional fields.SiteMostJump (codes "most_jump") jump_as None entry
+
+unfoldable pub limits_of : Data → Result LimitsValue PlacedFault
+limits_of entry = do
+  routers ← site_routers_of entry
+  from ← site_from_of entry
+  ttls ← placed_nowhere (site_ttls_of entry)
+  most_jump ← placed_nowhere (most_jump_of entry)
+  Ok (record { routers = routers; from = from; least_ttl = ttls.0; most_ttl = ttls.1; most_jump = most_jump })
+
+-- site: id, no two alike; its keys; its prefixes; its limits
 abbrev pub has_site : List SiteValue → ℕ → Bool
 has_site sites id = list_any (λ s. s.id == id) sites
 
@@ -132,14 +182,12 @@ site_at before d = do
   id ← placed_nowhere (fresh_site_id before entry)
   keys ← keys_of entry
   prefixes ← prefixes_of entry
-  Ok (record { id = id; keys = keys; prefixes = prefixes })
+  limits ← limits_of entry
+  Ok (record { id = id; keys = keys; prefixes = prefixes; limits = limits })
 
 -- resolve: prefixes of ITR-RLOCs
-abbrev pub resolve_at : Field → List PrefixValue → Data → Result PrefixValue ConfigFault
-resolve_at name before d = ok_or (text_as prefix_of d) (BadValue name)
-
 abbrev pub resolve_of : Field → Data → Result (List PrefixValue) PlacedFault
-resolve_of name entry = each_item name (codes "resolve") (flat (resolve_at name)) [] entry
+resolve_of name entry = each_item name (codes "resolve") (flat (listed_prefix_at name)) [] entry
 
 -- server: name, no two nodes alike; address; resolve
 abbrev pub has_server : List ServerEntryValue → List ℕ → Bool

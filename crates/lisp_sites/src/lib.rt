@@ -1,5 +1,5 @@
-//! The configuration of a network: sites with their keys and prefixes, Map-Servers and site routers,
-//! as an operator writes them. The sites of `lisp_policy` and the texts of `lisp_texts` are passed on.
+//! The configuration of a network: sites with their keys, prefixes and limits, Map-Servers and site
+//! routers, as an operator writes them. The sites of `lisp_policy` and the texts of `lisp_texts` are passed on.
 //!
 //! # Decisions
 //!
@@ -7,6 +7,7 @@
 //! - What may not be repeated is found in maps and sets of std while it is read (`Nodes`, `Keyed`), which go when the list is
 //!   read. The keys of a site, at most 256, are walked.
 //! - What must differ is compared by value: prefixes with the bits after their mask cleared, digits in either letter case.
+//! - An array of a limit is absent or has elements: an empty one says that nothing is let in, and an absent one lets in all.
 //! - All arrays are read by one loop, `read_each`, entry by entry. So the fault of a first entry is found before a later
 //!   element that is not a table, and the loop adds the entry's number to the fault.
 //! - A fault's field is an enum, `Field`, with its name as text: a clause that names a fault can't hold a borrowed text.
@@ -19,6 +20,7 @@ mod entries;
 mod fault;
 mod field;
 mod keyed;
+mod limits;
 mod name;
 mod node;
 mod nodes;
@@ -33,7 +35,7 @@ mod value;
 pub use config::Config;
 pub use fault::ConfigFault;
 pub use field::Field;
-pub use lisp_policy::{Places, Site, SiteKey, SitePrefix, Sites};
+pub use lisp_policy::{Limits, Places, Site, SiteKey, SitePrefix, Sites};
 pub use lisp_texts::{
     MAX_SECRET, addr_from_text, addr_to_text, number_from_text, prefix_from_text, prefix_to_text,
     record_from_text, record_to_text, secret_from_text, site_id_from_text, xtr_from_text,

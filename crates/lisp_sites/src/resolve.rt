@@ -1,8 +1,8 @@
-//! The prefixes of the ITR-RLOCs that a node replies to.
+//! Lists of prefixes: of the ITR-RLOCs that a node replies to, and of the sources that a site's Map-Registers come from.
 
 ghost use Rattle.std.specs.Prelude.{◌≡◌, [], IfErr, IsErrOf};
 ghost use Rattle.toml.specs.View.{view};
-ghost use Rattle.lisp_sites.specs.Table.{GivesAt, flat, resolve_at, resolve_of};
+ghost use Rattle.lisp_sites.specs.Table.{GivesAt, flat, listed_prefix_at, resolve_of};
 ghost use Rattle.lisp_sites.specs.declared.fault.ConfigFault.TheVariants.{OutOfMemory};
 
 use crate::entries::{Entries, read_tables};
@@ -27,6 +27,7 @@ pub(crate) fn read_resolve<A: Memory + Copy>(
     read_tables(Vec::new(alloc), &name, name, entry, "resolve")
 }
 
+/// Prefixes, given the field that lists them.
 impl<A: Memory + Copy> Entries for Vec<Prefix, A> {
     type Entry = Prefix;
 
@@ -36,7 +37,7 @@ impl<A: Memory + Copy> Entries for Vec<Prefix, A> {
 
     ghost may_refuse = { A.may_refuse };
 
-    ghost read = { λ name. flat (resolve_at name) };
+    ghost read = { λ name. flat (listed_prefix_at name) };
 
     fn read_next(&mut self, name: &Field, text: &Value) -> Result<(), PlacedFault> {
         let prefix = read_prefix(*name, text)?;
@@ -46,7 +47,7 @@ impl<A: Memory + Copy> Entries for Vec<Prefix, A> {
 }
 
 fn read_prefix(name: Field, text: &Value) -> Result<Prefix, ConfigFault>
-    ensures value { result ≡ resolve_at name [] (view text.now) }
+    ensures value { result ≡ listed_prefix_at name [] (view text.now) }
     ensures plain { ¬ (IsErrOf result OutOfMemory) }
 {
     let Some(text) = text.as_str() else {

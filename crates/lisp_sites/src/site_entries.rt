@@ -10,6 +10,7 @@ use crate::entries::{Entries, read_tables};
 use crate::fault::ConfigFault;
 use crate::field::Field;
 use crate::keyed::{HasKey, Keyed};
+use crate::limits::read_limits;
 use crate::place::PlacedFault;
 use crate::value::{byte, check_table, flag, secret, text_as};
 use lisp_memory::{FallibleVec, Memory};
@@ -49,7 +50,8 @@ impl<A: Memory + Copy> Entries for Sites<A> {
         let keys = read_tables(keys, alloc, Field::SiteKey, entry, "key")?;
         let prefixes = Keyed::new(*alloc);
         let prefixes = read_tables(prefixes, &(), Field::SitePrefix, entry, "prefix")?;
-        self.push(Site::new(*alloc, id, keys, prefixes.into_vec())?)?;
+        let site = Site::new(*alloc, id, keys, prefixes.into_vec())?;
+        self.push(site.with_limits(read_limits(*alloc, entry)?))?;
         Ok(())
     }
 }

@@ -1,14 +1,14 @@
 //! The fields of an entry of the configuration file: TOML values in their forms. Nothing here takes
 //! memory but what is passed an allocator.
 
-ghost use Rattle.std.specs.Prelude.{◌≡◌, IsErrOf, false, ok_or};
+ghost use Rattle.std.specs.Prelude.{◌≡◌, IsErrOf, false, ok_or, option_and_then};
 ghost use Rattle.toml.specs.Data.{as_str, as_bool, as_array};
 ghost use Rattle.toml.specs.View.{view};
 ghost use Rattle.lisp_texts.specs.Reading.{address_of, prefix_of};
 ghost use Rattle.lisp_texts.specs.Form.{site_id_of, xtr_of};
 ghost use Rattle.lisp_sites.specs.Form.{name_of, text_as, byte_as, nonce_block_as};
 ghost use Rattle.lisp_records.specs.Result.{Reads};
-ghost use Rattle.lisp_sites.specs.Table.{required, optional, items, as_entry};
+ghost use Rattle.lisp_sites.specs.Table.{required, optional, items, some_items, limit_items, as_entry};
 ghost use Rattle.lisp_sites.specs.Answers.{ReadsItems, ReadsText, GivesSecret};
 ghost use Rattle.lisp_sites.specs.declared.fault.ConfigFault.TheVariants.{BadValue, OutOfMemory};
 
@@ -35,6 +35,32 @@ pub(crate) fn tables<'a>(
     match entry.get(key) {
         None => Ok(&[]),
         Some(value) => elements(value, name),
+    }
+}
+
+/// The elements of an array that a limit is; none where it is absent, and at least one where it is there.
+pub(crate) fn some_elements<'a>(
+    entry: &'a Value,
+    key: &str,
+    name: Field,
+) -> Result<&'a [Value], ConfigFault>
+    ensures reads { ReadsItems result (limit_items name key.now (view entry.now)) }
+    ensures plain { ¬ (IsErrOf result OutOfMemory) }
+{
+    match entry.get(key) {
+        None => Ok(&[]),
+        Some(value) => not_empty(value, name),
+    }
+}
+
+// The elements of an array that has some.
+fn not_empty(value: &Value, name: Field) -> Result<&[Value], ConfigFault>
+    ensures reads { ReadsItems result (ok_or (option_and_then some_items (as_array (view value.now))) (BadValue name)) }
+    ensures plain { ¬ (IsErrOf result OutOfMemory) }
+{
+    match value.as_array() {
+        Some(values) if !values.is_empty() => Ok(values),
+        _ => Err(ConfigFault::BadValue(name)),
     }
 }
 

@@ -36,6 +36,16 @@ const fn form(field: Field) -> &'static str {
         Field::SitePrefixMoreSpecifics | Field::RouterProxy | Field::RouterUseTtl => {
             "the value is true or false"
         }
+        Field::SiteRouters => {
+            "the value lists xTR-IDs, texts of 32 hexadecimal digits, at least one and none twice"
+        }
+        Field::SiteFrom => {
+            "the value lists prefixes of source addresses, such as 192.0.2.0/24, at least one"
+        }
+        Field::SiteLeastTtl | Field::SiteMostTtl => {
+            "the value is a whole number of minutes from 1 to 4294967294, and most_ttl is at least least_ttl"
+        }
+        Field::SiteMostJump => "the value is a whole number from 1 to 9223372036854775807",
         Field::Server => "Map-Servers are an array of tables: [[server]]",
         Field::ServerName | Field::RouterName => {
             "a name is 1 to 32 of the characters a to z, 0 to 9 and -"
