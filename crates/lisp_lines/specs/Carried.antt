@@ -11,6 +11,7 @@ use Rattle.lisp_etr.specs.declared.send_fault.SendFault.TheVariants as sends
 use Rattle.lisp_etr.specs.declared.notify_fault.NotifyFault.TheVariants as notifies
 use Rattle.lisp_etr.specs.declared.start_fault.StartFault.TheVariants as starts
 use Rattle.lisp_etr.specs.declared.rotate_fault.RotateFault.TheVariants as rotates
+use Rattle.lisp_admission.specs.declared.limit.Limit.TheVariants as limits
 use Rattle.lisp_admission.specs.declared.notice_fault.NoticeFault.TheVariants as notices
 use Rattle.lisp_admission.specs.declared.refused.Refused.{Refused}
 use Rattle.lisp_admission.specs.declared.refused.Refused.TheVariants as refused
@@ -36,8 +37,10 @@ read_words fault = carried (codes "read") (read_fault_number fault)
 abbrev pub refused_words : Refused → List ℕ
 refused_words (refused.Read fault) = read_words fault
 refused_words (refused.NotAllowed place) = carried (codes "record") place
+refused_words (refused.Limited (limits.Ttl place)) = carried (codes "record") place
 refused_words (refused.StoreLoad fault) = store_words fault
 refused_words (refused.Replay saved) = carried (codes "saved") saved
+refused_words (refused.Jump saved) = carried (codes "saved") saved
 refused_words (refused.StoreSave fault) = store_words fault
 refused_words _ = []
 

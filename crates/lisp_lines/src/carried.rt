@@ -9,12 +9,12 @@ use lisp_etr::{NotifyFault, RotateFault, SendFault, StartFault};
 use lisp_memory::Memory;
 use lisp_messages::ReadFault;
 use lisp_model::Refusal;
-use lisp_server::{NoticeFault, Refused};
+use lisp_server::{Limit, NoticeFault, Refused};
 use std::alloc::AllocError;
 
 /// Appends what a refusal carries: ` read F`, for a record with ` record I fault F` behind it; ` record I` for
-/// `NotAllowed`; ` store F`; ` saved N` for `Replay`; ` latest N` for `Stale`; nothing for any other. Out of memory, it
-/// leaves a front of it.
+/// `NotAllowed` and `Ttl`; ` store F`; ` saved N` for `Replay` and `Jump`; ` latest N` for `Stale`; nothing for any other. Out
+/// of memory, it leaves a front of it.
 pub fn put_carried<A: Memory>(text: &mut String<A>, refusal: &Refusal) -> Result<(), AllocError>
     ensures text { Adds result text.old text.new (carried_words refusal.now) }
     ensures front { AddsFront result text.old text.new (carried_words refusal.now) }
@@ -25,8 +25,12 @@ pub fn put_carried<A: Memory>(text: &mut String<A>, refusal: &Refusal) -> Result
             put_read(text, fault)
         }
         Refusal::Notify(NotifyFault::Stale { latest }) => put_number(text, " latest ", *latest),
-        Refusal::Receive(Refused::NotAllowed(place)) => put_number(text, " record ", *place as u64),
-        Refusal::Receive(Refused::Replay { saved }) => put_number(text, " saved ", *saved),
+        Refusal::Receive(Refused::NotAllowed(place) | Refused::Limited(Limit::Ttl(place))) => {
+            put_number(text, " record ", *place as u64)
+        }
+        Refusal::Receive(Refused::Replay { saved } | Refused::Jump { saved }) => {
+            put_number(text, " saved ", *saved)
+        }
         Refusal::Receive(Refused::StoreLoad(fault) | Refused::StoreSave(fault))
         | Refusal::Send(SendFault::Store(fault))
         | Refusal::Notice(NoticeFault::StoreLoad(fault) | NoticeFault::StoreSave(fault))

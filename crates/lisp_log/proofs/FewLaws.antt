@@ -153,7 +153,7 @@ one_more true old new what source (inl first) room short = made first.noted
     made (inl is) = let longer = ap length is ∙ length_push old (record { what = what; source = source; times = 0 }) in omega (arith, longer)
     made (inr full) = absurd (omega (arith, full.0, room))
 
-few_told : (known : List Repeated) → length known < 64 → (events : List Event) (entries : List Repeat) → Leaves events entries → All (λ e. Contains known e.what) events → length events < 2 ^ 64 → count_by (λ e. e.told) events ≤ length entries
+few_told : (known : List Repeated) → length known < 80 → (events : List Event) (entries : List Repeat) → Leaves events entries → All (λ e. Contains known e.what) events → length events < 2 ^ 64 → count_by (λ e. e.told) events ≤ length entries
 few_told known some [] entries left of short = omega arith
 few_told known some (r ∷ earlier) entries (before, left, tells) of short =
     let rest : All (λ (e : Event). Contains known e.what) earlier = λ k d within. of (suc k) d (omega (arith, within)) in
@@ -178,7 +178,7 @@ few_sums name (r ∷ entries) =
 pub few_are_told : FewAreTold
 few_are_told events entries left of short =
     let room = few_entries kinds events entries left of in
-    let count : length kinds ≡ 60 = refl in
+    let count : length kinds ≡ 64 = refl in
     record {
       lines = let told = few_told kinds (omega (arith, count)) events entries left of short in omega (arith, told, room, count);
       sums = λ name. let sum = few_sums name entries in omega (arith, sum, room, count);

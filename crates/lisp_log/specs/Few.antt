@@ -13,12 +13,12 @@ abbrev pub router_numbers : List ℕ
 router_numbers = 35 ∷ 36 ∷ 37 ∷ 38 ∷ 40 ∷ 41 ∷ 42 ∷ 43 ∷ 44 ∷ 45 ∷ 46 ∷ 47 ∷ 48 ∷ 49 ∷ []
 
 abbrev pub server_numbers : List ℕ
-server_numbers = 50 ∷ 51 ∷ 52 ∷ 53 ∷ 54 ∷ 55 ∷ 56 ∷ 57 ∷ 58 ∷ 59 ∷ 60 ∷ 61 ∷ 62 ∷ 63 ∷ 64 ∷ 65 ∷ 66 ∷ 67 ∷ 68 ∷ []
+server_numbers = 50 ∷ 51 ∷ 52 ∷ 53 ∷ 54 ∷ 55 ∷ 56 ∷ 57 ∷ 58 ∷ 59 ∷ 60 ∷ 61 ∷ 62 ∷ 63 ∷ 64 ∷ 65 ∷ 66 ∷ 67 ∷ 68 ∷ 69 ∷ 136 ∷ 137 ∷ 138 ∷ []
 
 abbrev pub request_numbers : List ℕ
 request_numbers = 9 ∷ 110 ∷ 111 ∷ 112 ∷ 113 ∷ 114 ∷ 115 ∷ 116 ∷ 117 ∷ 118 ∷ 119 ∷ 120 ∷ 121 ∷ 122 ∷ 123 ∷ 124 ∷ 125 ∷ 126 ∷ 127 ∷ 128 ∷ 129 ∷ 130 ∷ 135 ∷ []
 
--- all that may repeat, which is fewer than 64; and it is all
+-- all that may repeat, which is fewer than 80; and it is all
 abbrev pub kinds : List Repeated
 kinds = map Refused (router_numbers ++ server_numbers ++ request_numbers) ++ Replied ∷ Negative ∷ Forwarded ∷ Unanswered ∷ []
 

@@ -12,7 +12,7 @@ abbrev pub most_addresses : ℕ
 most_addresses = 64
 
 abbrev pub most_entries : ℕ
-most_entries = 128
+most_entries = 144
 
 -- the entry is that of what repeats with a source; and there is one
 abbrev pub IsOf : Repeated → Source → Repeat → Type 0

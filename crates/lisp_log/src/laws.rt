@@ -20,7 +20,7 @@ pub fn equal_is_same()
     ensures { EqualIsSame }
 {}
 
-/// So the log stays small: of a second's refusals and answers to Map-Requests, of which there are fewer than 2^64, at most 128 are told, and
+/// So the log stays small: of a second's refusals and answers to Map-Requests, of which there are fewer than 2^64, at most 144 are told, and
 /// then at most as many sums.
 #[tactic(auto, using(crate::proofs::FewLaws::few_are_told))]
 pub fn few_are_told()

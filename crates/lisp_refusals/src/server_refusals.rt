@@ -11,7 +11,7 @@ Map-Server. It gives the first that applies, in this order:
 - for any message, 50;
 - for a Map-Notify, then 61;
 - for a Map-Notify-Ack, then 60, 53;
-- for a Map-Register, then 51, 52, 53, 54, 55, 56, 57, 58, 59.
+- for a Map-Register, then 51, 52, 53, 69, 136, 54, 55, 137, 56, 57, 138, 58, 59.
 
 Out of memory while reading is 58 too, and comes before any check. A refusal leaves rows, nonces and notices in memory
 unchanged.",
@@ -112,6 +112,38 @@ unchanged.",
             meaning: "a Map-Notify, which is for routers",
             status: "",
             remedy: "check what sends to this port",
+        },
+        Row {
+            number: 69,
+            carried: "",
+            name: "Router",
+            meaning: "the site lists its routers (`routers`), and this one isn't among them",
+            status: "",
+            remedy: "add the router's xTR-ID to the site's `routers`, or find out who uses the site's key",
+        },
+        Row {
+            number: 136,
+            carried: "",
+            name: "Source",
+            meaning: "the site lists source addresses (`from`), and that of the message isn't among them",
+            status: "",
+            remedy: "add the router's address to the site's `from`, or find out who uses the site's key",
+        },
+        Row {
+            number: 137,
+            carried: "record I",
+            name: "Ttl",
+            meaning: "the TTL of record I (from 0) is below `least_ttl` or above `most_ttl` of the site, and the record would live for it",
+            status: "",
+            remedy: "correct the router's database, or the bounds of the site",
+        },
+        Row {
+            number: 138,
+            carried: "saved N",
+            name: "Jump",
+            meaning: "the nonce is further above N, the last one of that router under that key, than `most_jump` of the site",
+            status: "",
+            remedy: "if the router lost no nonces, somebody else uses its key: give it a new one. If it did, give it a new key, or raise `most_jump`",
         },
         Row {
             number: 94,
