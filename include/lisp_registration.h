@@ -79,6 +79,7 @@ enum {
     LISP_TOO_LARGE = 63,            /* its live records are more than 255, or have more than 16,384 bytes */
     LISP_NONCE_SPENT = 64,          /* the last nonce of the notices is 2^64 - 1 */
     LISP_NOT_DUE = 67,              /* no notice of the router is due */
+    LISP_ROUTER = 69,               /* the site lists its routers, and this one isn't among them */
     LISP_CLOCK = 73,                /* a time above 2^62 ms */
     LISP_NOT_UTF8 = 95,             /* a configuration that is not UTF-8 */
     LISP_NULL = 100,                /* a pointer is null, or a handle holds nothing */
@@ -103,7 +104,10 @@ enum {
     LISP_NO_RECORD = 122,           /* a Map-Request without a record */
     LISP_REQUEST_AFI = 123,         /* an address family that is neither IPv4 nor IPv6, nor 0 for the Source EID */
     LISP_REQUEST_MASK = 124,        /* an EID mask longer than its address */
-    LISP_REQUEST_TRAILING = 125     /* bytes after the records of a Map-Reply */
+    LISP_REQUEST_TRAILING = 125,    /* bytes after the records of a Map-Reply */
+    LISP_SOURCE = 136,              /* the site lists source addresses, and the datagram's isn't among them */
+    LISP_TTL = 137,                 /* a record would live for a TTL that the site doesn't let it have */
+    LISP_JUMP = 138                 /* the nonce is further above the last one than the site lets it jump */
 };
 
 /* Types of messages (RFC 9301 section 5.1). */

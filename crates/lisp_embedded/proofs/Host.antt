@@ -32,10 +32,12 @@ module _ (kept : Option ℕ) (from : Addr) (bytes : List ℕ) (old : ServerState
   refused_kept refusals.BadAuth refuses = inl (before, after, passes, refuses)
   refused_kept refusals.MergeAsked refuses = inl (before, after, passes, refuses)
   refused_kept (refusals.NotAllowed p) refuses = inl (before, after, passes, refuses)
+  refused_kept (refusals.Limited l) refuses = inl (before, after, passes, refuses)
   refused_kept (refusals.StoreLoad faults.Device) refuses = inl (before, after, passes, refuses)
   refused_kept (refusals.StoreLoad faults.Damaged) refuses = inl (before, after, passes, refuses)
   refused_kept (refusals.StoreLoad faults.OutOfMemory) refuses = inr refl
   refused_kept (refusals.Replay n) refuses = inl (before, after, passes, refuses)
+  refused_kept (refusals.Jump n) refuses = inl (before, after, passes, refuses)
   refused_kept refusals.OutOfMemory refuses = inl (before, after, passes, refuses)
   refused_kept (refusals.StoreSave faults.Device) refuses = inl (before, after, passes, refuses)
   refused_kept (refusals.StoreSave faults.Damaged) refuses = inl (before, after, passes, refuses)
@@ -100,10 +102,12 @@ module _ (from : Addr) (bytes : List ℕ) (old : ServerState) (before after : St
   takes_no_store refusals.BadAuth refuses = tt
   takes_no_store refusals.MergeAsked refuses = tt
   takes_no_store (refusals.NotAllowed p) refuses = tt
+  takes_no_store (refusals.Limited l) refuses = tt
   takes_no_store (refusals.StoreLoad faults.Device) refuses = loaded (message_at bytes) faults.Device (λ e. absurd cc) refuses
   takes_no_store (refusals.StoreLoad faults.Damaged) refuses = loaded (message_at bytes) faults.Damaged (λ e. absurd cc) refuses
   takes_no_store (refusals.StoreLoad faults.OutOfMemory) refuses = tt
   takes_no_store (refusals.Replay n) refuses = tt
+  takes_no_store (refusals.Jump n) refuses = tt
   takes_no_store refusals.OutOfMemory refuses = tt
   takes_no_store (refusals.StoreSave faults.Device) refuses = saved (message_at bytes) faults.Device (λ e. absurd cc) refuses
   takes_no_store (refusals.StoreSave faults.Damaged) refuses = saved (message_at bytes) faults.Damaged (λ e. absurd cc) refuses

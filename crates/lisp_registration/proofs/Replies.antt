@@ -44,19 +44,19 @@ wanted_is_short true secret notify = omega (arith, length-notify secret notify)
 wanted_is_short false secret notify = omega arith
 
 -- what passed the checks is what was read
-is_message : (sites : List SiteValue) (bytes : List ℕ) (m : MapRegisterValue) (passed : Passed) → register_checked sites bytes m ≡ Ok passed → m ≡ passed.message
-is_message sites bytes m passed checks =
-    let step = bind_ok (secret_under sites bytes m) (λ secret. Ok (record { message = m; secret = secret })) passed checks in
+is_message : (sites : List SiteValue) (from : Addr) (bytes : List ℕ) (m : MapRegisterValue) (passed : Passed) → register_checked sites from bytes m ≡ Ok passed → m ≡ passed.message
+is_message sites from bytes m passed checks =
+    let step = bind_ok (secret_under sites from bytes m) (λ secret. Ok (record { message = m; secret = secret })) passed checks in
     let made : Passed = record { message = m; secret = step.0 } in
     ap (λ (p : Passed). p.message) (ok_is made passed step.2)
 
 module _ (from : Addr) (bytes : List ℕ) (old new : ServerState) (before after : StoreState) (now : ℕ) (fits : IsBytes bytes) where
-  accepted_is_short : {A : Type 0} (m : MapRegisterValue) (took : Took A) → message_at bytes ≡ Ok (Registers m) → Accepts (register_checked old.sites bytes m) old new before after from now took → length (reply_bytes took) ≤ length bytes
+  accepted_is_short : {A : Type 0} (m : MapRegisterValue) (took : Took A) → message_at bytes ≡ Ok (Registers m) → Accepts (register_checked old.sites from bytes m) old new before after from now took → length (reply_bytes took) ≤ length bytes
   accepted_is_short m took read accepts =
       let whole = answer_is_short bytes (Registers m) fits read in
       let reply = ap (λ (t : Took _). length (reply_bytes t)) accepts.answer in
       let wanted = wanted_is_short accepts.passed.message.want_notify accepts.passed.secret (reply_to accepts.passed.message) in
-      let same = ap (λ (r : MapRegisterValue). size r.records) (is_message old.sites bytes m accepts.passed accepts.checks) in
+      let same = ap (λ (r : MapRegisterValue). size r.records) (is_message old.sites from bytes m accepts.passed accepts.checks) in
       omega (arith, whole, reply, wanted, same)
 
   taken_is_short : {A : Type 0} (said : Result MessageValue ReadFault) (took : Took A) → message_at bytes ≡ said → ServerTakes said from bytes old new before after now took → length (reply_bytes took) ≤ length bytes

@@ -78,6 +78,14 @@ pub const LISP_MERGE_ASKED: u16 = 54;
 pub const LISP_NOT_ALLOWED: u16 = 55;
 /// The nonce is not above the last one of that router under that key.
 pub const LISP_REPLAY: u16 = 57;
+/// The site lists its routers, and this one isn't among them.
+pub const LISP_ROUTER: u16 = 69;
+/// The site lists source addresses, and the datagram's isn't among them.
+pub const LISP_SOURCE: u16 = 136;
+/// A record would live for a TTL that the site doesn't let it have.
+pub const LISP_TTL: u16 = 137;
+/// The nonce is further above the last one than the site lets it jump.
+pub const LISP_JUMP: u16 = 138;
 /// A Map-Notify-Ack that no notice waits for.
 pub const LISP_NO_NOTICE: u16 = 60;
 /// A Map-Notify, which is for routers.

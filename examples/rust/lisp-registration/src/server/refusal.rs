@@ -25,8 +25,16 @@ pub enum Refusal {
     MergeAsked,
     /// A record's prefix is not one that the site may register (RFC 9301 section 8.2).
     NotAllowed,
+    /// The site lists its routers, and this one isn't among them.
+    RouterNotListed,
+    /// The site lists source addresses, and the datagram's isn't among them.
+    SourceNotListed,
+    /// A record would live for a TTL that the site doesn't let it have.
+    TtlOutOfBounds,
     /// The nonce is not above the last one of that router under that key (RFC 9301 section 5.6).
     Replay,
+    /// The nonce is further above that last one than the site lets it jump.
+    Jump,
     /// The library got no memory to read the datagram, to hold its records or to build its answer.
     OutOfMemory,
     /// A Map-Notify-Ack that no notice waits for (RFC 9301 section 5.7).
@@ -50,7 +58,11 @@ impl Refusal {
             Refusal::BadAuth => LISP_BAD_AUTH,
             Refusal::MergeAsked => LISP_MERGE_ASKED,
             Refusal::NotAllowed => LISP_NOT_ALLOWED,
+            Refusal::RouterNotListed => LISP_ROUTER,
+            Refusal::SourceNotListed => LISP_SOURCE,
+            Refusal::TtlOutOfBounds => LISP_TTL,
             Refusal::Replay => LISP_REPLAY,
+            Refusal::Jump => LISP_JUMP,
             Refusal::OutOfMemory => RECEIVE_OUT_OF_MEMORY,
             Refusal::NoNotice => LISP_NO_NOTICE,
             Refusal::NotMine => LISP_NOT_MINE,
@@ -66,7 +78,11 @@ impl Refusal {
             LISP_BAD_AUTH => Refusal::BadAuth,
             LISP_MERGE_ASKED => Refusal::MergeAsked,
             LISP_NOT_ALLOWED => Refusal::NotAllowed,
+            LISP_ROUTER => Refusal::RouterNotListed,
+            LISP_SOURCE => Refusal::SourceNotListed,
+            LISP_TTL => Refusal::TtlOutOfBounds,
             LISP_REPLAY => Refusal::Replay,
+            LISP_JUMP => Refusal::Jump,
             RECEIVE_OUT_OF_MEMORY => Refusal::OutOfMemory,
             LISP_NO_NOTICE => Refusal::NoNotice,
             LISP_NOT_MINE => Refusal::NotMine,
@@ -84,7 +100,11 @@ impl fmt::Display for Refusal {
             Refusal::BadAuth => f.write_str("the Authentication Data is wrong"),
             Refusal::MergeAsked => f.write_str("the merge bit is set"),
             Refusal::NotAllowed => f.write_str("the site may not register a prefix"),
+            Refusal::RouterNotListed => f.write_str("the site doesn't list the router"),
+            Refusal::SourceNotListed => f.write_str("the site doesn't list the source address"),
+            Refusal::TtlOutOfBounds => f.write_str("the site doesn't let a record have its TTL"),
             Refusal::Replay => f.write_str("the nonce is not above the last one"),
+            Refusal::Jump => f.write_str("the nonce is too far above the last one"),
             Refusal::OutOfMemory => f.write_str("out of memory"),
             Refusal::NoNotice => f.write_str("no notice waits for the Map-Notify-Ack"),
             Refusal::NotMine => f.write_str("a Map-Notify is for routers"),
