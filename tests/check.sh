@@ -19,6 +19,7 @@ stage() {
 stage 'what is stored' ./stored.sh "$program"
 stage 'changed messages' ./changed.py "$program"
 stage 'beside a list of rows' ./rows.py "$program"
+stage 'limits of a site' ./limits.py "$program"
 stage 'calls that fail' ./failing.py "$program"
 stage 'drawn schedules' ./fuzz.py "$program" 1 200
 stage 'replies that are kept' ./replies.py "$program" 1 300

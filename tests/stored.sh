@@ -211,11 +211,15 @@ done <<'END'
 55|1764386604 refused s1 55 record 2 from 192.0.2.11
 46|29 Nov 03:23:24 host lispd[812]: refused r1 46 from 192.0.2.1
 57|replays s1 from 192.0.2.21 times 61 saved 7 age 181000
+69|refused s1 69 from 192.0.2.9 times 8123
+136|refused s1 136 from 192.0.2.9
+137|137 record 2
+138|refused s1 138 saved 7 from 192.0.2.9
 END
 { "$program" explain 50 && "$program" explain 14; } > ../out/wanted
 expect 'a whole line with a fault explained' 0 @../out/wanted '' explain refused s1 50 read 14
-for line in 69 x '' '57 saved' '57 saved x' '57 58' '57 store 69' '57 saves 3' 65536 refused 'refused s1' 'refused s1 x' 'refused 57' \
-    'refused s1 57 saved x' 'refused s1 57 from nowhere' 'refused s1 57 from' 'refused s1 53 times 4 lines' 'refused s1 56 store 69' \
+for line in 139 x '' '57 saved' '57 saved x' '57 58' '57 store 139' '57 saves 3' 65536 refused 'refused s1' 'refused s1 x' 'refused 57' \
+    'refused s1 57 saved x' 'refused s1 57 from nowhere' 'refused s1 57 from' 'refused s1 53 times 4 lines' 'refused s1 56 store 139' \
     'accepted s1 r1 key 1 nonce 7 from 192.0.2.21' 'host lispd[812]: 57 saved 3' 'replays s1 from 192.0.2.21 times' 'counts s1 refused 57 4'; do
     expect "no line: '$line'" 2 '' 'lispd: fault 98' explain "$line"
 done
