@@ -107,7 +107,9 @@ enum {
     LISP_REQUEST_TRAILING = 125,    /* bytes after the records of a Map-Reply */
     LISP_SOURCE = 136,              /* the site lists source addresses, and the datagram's isn't among them */
     LISP_TTL = 137,                 /* a record would live for a TTL that the site doesn't let it have */
-    LISP_JUMP = 138                 /* the nonce is further above the last one than the site lets it jump */
+    LISP_JUMP = 138,                /* the nonce is further above the last one than the site lets it jump */
+    LISP_ROUTERS = 139,             /* as many routers of the site have live rows as may, and this one would be another */
+    LISP_ROWS = 140                 /* the site would have more live rows than it may */
 };
 
 /* Types of messages (RFC 9301 section 5.1). */

@@ -14,7 +14,7 @@ use Rattle.lisp_policy.specs.Site.{SiteValue, site_of, secret_of}
 use Rattle.lisp_admission.specs.declared.limit.Limit.TheVariants.{Router, Source, Ttl}
 use Rattle.lisp_admission.specs.declared.refused.Refused.{Refused}
 use Rattle.lisp_admission.specs.declared.refused.Refused.TheVariants.{UnknownSite, UnknownKey, BadAuth, MergeAsked, NotAllowed, Limited}
-use Rattle.lisp_admission.specs.Checks.{check, check_all, admitted, first_not_allowed, first_out_of_bounds, secret_under, most_jump_at}
+use Rattle.lisp_admission.specs.Checks.{check, check_all, admitted, first_not_allowed, first_out_of_bounds, secret_under}
 use Rattle.lisp_admission.specs.Unlimited.{secret_without_limits, NoLimitsChangeNothing}
 
 or_true : (b : Bool) → (b || true) ≡ true
@@ -85,12 +85,19 @@ module _ (sites : List SiteValue) (none : AllByRecursion (λ s. s.limits ≡ no_
       at None is = refl
       at (Some site) is = by_key from m bytes site (secret_of site m.key_id) (found m.site sites none site is)
 
-  no_jump : (site : ℕ) → most_jump_at sites site ≡ None
-  no_jump id = at (site_of sites id) refl
+  no_limit : (limit : LimitsValue → Option ℕ) → limit no_limits ≡ None → (site : ℕ) → option_and_then (λ s. limit s.limits) (site_of sites site) ≡ None
+  no_limit limit off id = at (site_of sites id) refl
     where
-      at : (o : Option SiteValue) → site_of sites id ≡ o → most_jump_at sites id ≡ None
-      at None is = ap (λ (o : Option SiteValue). option_and_then (λ s. s.limits.most_jump) o) is
-      at (Some site) is = ap (λ (o : Option SiteValue). option_and_then (λ s. s.limits.most_jump) o) is ∙ ap (λ (l : LimitsValue). l.most_jump) (found id sites none site is)
+      at : (o : Option SiteValue) → site_of sites id ≡ o → option_and_then (λ s. limit s.limits) (site_of sites id) ≡ None
+      at None is = ap (λ (o : Option SiteValue). option_and_then (λ s. limit s.limits) o) is
+      at (Some site) is = ap (λ (o : Option SiteValue). option_and_then (λ s. limit s.limits) o) is ∙ ap limit (found id sites none site is) ∙ off
 
 pub no_limits_change_nothing : NoLimitsChangeNothing
-no_limits_change_nothing sites none = (same_secret sites none, no_jump sites none)
+no_limits_change_nothing sites none = (
+  same_secret sites none,
+  λ site. (
+    no_limit sites none (λ l. l.most_jump) refl site,
+    no_limit sites none (λ l. l.most_routers) refl site,
+    no_limit sites none (λ l. l.most_rows) refl site,
+  ),
+)

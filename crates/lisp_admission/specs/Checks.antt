@@ -57,6 +57,13 @@ secret_under sites from bytes m = do
 abbrev pub most_jump_at : List SiteValue → ℕ → Option ℕ
 most_jump_at sites site = option_and_then (λ s. s.limits.most_jump) (site_of sites site)
 
+-- how many routers with live rows, and live rows, the site may have, where it has such limits
+abbrev pub most_routers_at : List SiteValue → ℕ → Option ℕ
+most_routers_at sites site = option_and_then (λ s. s.limits.most_routers) (site_of sites site)
+
+abbrev pub most_rows_at : List SiteValue → ℕ → Option ℕ
+most_rows_at sites site = option_and_then (λ s. s.limits.most_rows) (site_of sites site)
+
 -- bytes are authentic under a secret, if there is one
 abbrev pub signed_by : Option (List ℕ) → List ℕ → Bool
 signed_by None bytes = false

@@ -3,10 +3,11 @@ use Rattle.std.specs.Prelude.{ℕ, Result, IsErrOf}
 use Rattle.lisp_nonces.specs.declared.fault.StoreFault.TheVariants as stores
 use Rattle.lisp_messages.specs.declared.fault.ReadFault.{ReadFault}
 use Rattle.lisp_messages.specs.declared.fault.ReadFault.TheVariants as reads
+use Rattle.lisp_policy.specs.Limits.{full_number}
 use Rattle.lisp_admission.specs.declared.limit.Limit.{Limit}
 use Rattle.lisp_admission.specs.declared.limit.Limit.TheVariants.{Router, Source, Ttl}
 use Rattle.lisp_admission.specs.declared.refused.Refused.{Refused}
-use Rattle.lisp_admission.specs.declared.refused.Refused.TheVariants.{Read, UnknownSite, UnknownKey, BadAuth, MergeAsked, NotAllowed, Limited, StoreLoad, Replay, Jump, OutOfMemory, StoreSave, NoNotice, NotMine}
+use Rattle.lisp_admission.specs.declared.refused.Refused.TheVariants.{Read, UnknownSite, UnknownKey, BadAuth, MergeAsked, NotAllowed, Limited, StoreLoad, Replay, Jump, Full, OutOfMemory, StoreSave, NoNotice, NotMine}
 
 abbrev pub limit_number : Limit → ℕ
 limit_number Router = 69
@@ -24,6 +25,7 @@ refused_number (Limited limit) = limit_number limit
 refused_number (StoreLoad _) = 56
 refused_number (Replay _) = 57
 refused_number (Jump _) = 138
+refused_number (Full full) = full_number full
 refused_number OutOfMemory = 58
 refused_number (StoreSave _) = 59
 refused_number NoNotice = 60

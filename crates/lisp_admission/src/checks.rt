@@ -3,7 +3,7 @@
 ghost use Rattle.std.specs.Prelude.{◌≡◌, IsErrOf};
 ghost use Rattle.std.specs.Option.{option_map};
 ghost use Rattle.lisp_records.specs.Result.{Reads};
-ghost use Rattle.lisp_admission.specs.Checks.{first_not_allowed, first_out_of_bounds, admitted, secret_under, secret_at, most_jump_at};
+ghost use Rattle.lisp_admission.specs.Checks.{first_not_allowed, first_out_of_bounds, admitted, secret_under, secret_at, most_jump_at, most_routers_at, most_rows_at};
 ghost use Rattle.lisp_admission.specs.declared.refused.Refused.{Refused};
 ghost use Rattle.lisp_admission.specs.Refused.{IsStoreless};
 
@@ -114,4 +114,18 @@ pub fn most_jump_at<A: Allocator>(sites: &Sites<A>, site: u64) -> Option<u64>
     ensures { result ≡ most_jump_at sites.now site }
 {
     sites.site(site)?.limits().most_jump
+}
+
+/// How many routers of the site may have live rows; `None` where the site has no such limit.
+pub fn most_routers_at<A: Allocator>(sites: &Sites<A>, site: u64) -> Option<u32>
+    ensures { result ≡ most_routers_at sites.now site }
+{
+    sites.site(site)?.limits().most_routers
+}
+
+/// How many live rows the site may have; `None` where it has no such limit.
+pub fn most_rows_at<A: Allocator>(sites: &Sites<A>, site: u64) -> Option<u32>
+    ensures { result ≡ most_rows_at sites.now site }
+{
+    sites.site(site)?.limits().most_rows
 }

@@ -20,7 +20,7 @@ mod notice_fault;
 mod pairs;
 mod refused;
 
-pub use checks::{key_at, key_under, most_jump_at};
+pub use checks::{key_at, key_under, most_jump_at, most_routers_at, most_rows_at};
 pub use limit::Limit;
 pub use nonces::{check_nonce, next_nonce, save_nonce, save_notice};
 pub use notice_fault::NoticeFault;

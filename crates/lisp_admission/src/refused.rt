@@ -7,6 +7,7 @@ ghost use Rattle.lisp_admission.specs.declared.refused.Refused.TheVariants.{OutO
 use crate::limit::Limit;
 use lisp_messages::ReadFault;
 use lisp_nonces::StoreFault;
+use lisp_policy::Full;
 use std::alloc::{AllocError, AllocFailed};
 use thiserror::Error;
 
@@ -54,6 +55,9 @@ pub enum Refused {
         /// That last nonce.
         saved: u64,
     },
+    /// The site has as many routers, or rows, as it may, and the Map-Register would bring another.
+    #[error("the site is full: {0}")]
+    Full(Full),
     /// Out of memory to read the message, to hold its records or to build the Map-Notify.
     #[error("out of memory")]
     OutOfMemory,
@@ -68,7 +72,7 @@ pub enum Refused {
 impl Refused {
     /// The number that operators see: `Read` 50, `UnknownSite` 51, `UnknownKey` 52, `BadAuth` 53,
     /// `MergeAsked` 54, `NotAllowed` 55, `StoreLoad` 56, `Replay` 57, `OutOfMemory` 58, `StoreSave` 59,
-    /// `NoNotice` 60, `NotMine` 61, `Jump` 138; of `Limited` that of the limit.
+    /// `NoNotice` 60, `NotMine` 61, `Jump` 138; of `Limited` and `Full` that of the limit.
     pub const fn number(&self) -> u16
         ensures { result ≡ refused_number self.now }
     {
@@ -83,6 +87,7 @@ impl Refused {
             Refused::StoreLoad(_) => 56,
             Refused::Replay { .. } => 57,
             Refused::Jump { .. } => 138,
+            Refused::Full(full) => full.number(),
             Refused::OutOfMemory => 58,
             Refused::StoreSave(_) => 59,
             Refused::NoNotice => 60,

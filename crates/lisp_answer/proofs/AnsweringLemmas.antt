@@ -1,12 +1,16 @@
 -- What a line that was read says of an input, where that is known.
-use Rattle.std.proofs.Common.{◌≡◌, ℕ, ◌≤◌, List, [], ◌∷◌, ◌++◌, length, Option, Some, None, subst}
-use Rattle.std.specs.Prelude.{IfSome}
+use Rattle.std.proofs.Common.{◌≡◌, ℕ, ◌≤◌, List, [], ◌∷◌, ◌++◌, length, Option, Some, None, Result, Ok, Err, IfOk, sym, subst}
+use Rattle.std.specs.Prelude.{◌⊎◌, IfSome, String, string_bytes}
+use Rattle.std.proofs.Common.{inl, inr}
 use Rattle.std.specs.Io.BufRead.{take_through}
 use Rattle.std.specs.Io.KnownBytes.{Appends, Consumes}
 use Rattle.hex.specs.Hex.{decode_of}
+use Rattle.hex.specs.declared.error.FromHexError.{FromHexError}
+use Rattle.hex.specs.declared.error.FromHexError.TheVariants.{OutOfMemory}
+use Rattle.lisp_policy.specs.Site.{SiteValue}
 use Rattle.lisp_answer.specs.Setup.{AnswerSetupValue, sites_of}
 use Rattle.lisp_answer.specs.Input.{content}
-use Rattle.lisp_answer.specs.Line.{AreWords, IsLine, Adds, AddsFront}
+use Rattle.lisp_answer.specs.Line.{AreWords, GivesWords, IsLine, IsNotHexadecimal, Adds, AddsFront}
 use Rattle.lisp_lines.specs.Output.{WroteFront}
 
 -- the words for what the line says, and a line feed, are the line that answers the input
@@ -34,3 +38,10 @@ adds may_refuse s (Some input) before after line is wrote = (is.0, is.1, subst (
 pub adds_front : (may_refuse : Type 0) (s : AnswerSetupValue) (input before after : Option (List ℕ)) (line : List ℕ) → IfSome input (λ i. IsLine may_refuse s i line) → WroteFront before after line → IfSome input (λ i. AddsFront may_refuse before after s i)
 adds_front may_refuse s None before after line is wrote = tt
 adds_front may_refuse s (Some input) before after line is wrote = (line, is, wrote)
+
+-- the words for a line that can't be decoded
+pub not_decoded : {E Z : Type 0} (may_refuse : Type 0) (sites : List SiteValue) (digits : List ℕ) (fault : FromHexError) (result : Result (String Z) E)
+    → (fault ≡ OutOfMemory) ⊎ (decode_of digits ≡ Err fault) → IfOk result (λ words. IsNotHexadecimal fault (string_bytes words)) → GivesWords may_refuse sites digits result
+not_decoded may_refuse sites digits fault (Ok words) (inl out) is = absurd (is.0 out)
+not_decoded may_refuse sites digits fault (Ok words) (inr fails) is = subst (λ d. AreWords may_refuse sites d (string_bytes words)) (sym fails) is.1
+not_decoded may_refuse sites digits fault (Err e) why is = tt

@@ -30,7 +30,7 @@ use Rattle.lisp_admission.specs.declared.refused.Refused.{Refused}
 use Rattle.lisp_admission.specs.declared.refused.Refused.TheVariants as refusals
 use Rattle.lisp_server.specs.Server.{ServerState}
 use Rattle.lisp_answer.specs.Fresh.{fresh_server, fresh_memory, source}
-use Rattle.lisp_answer.specs.Answer.{answer_to, read_answer, answer_of, RanOut}
+use Rattle.lisp_answer.specs.Answer.{answer_to, read_answer, answer_of, RanOut, FillsUp}
 
 abbrev fresh_store : StoreState
 fresh_store = memory_state fresh_memory
@@ -77,6 +77,7 @@ ack_refused sites from bytes m (refusals.Limited _) never = absurd never
 ack_refused sites from bytes m (refusals.StoreLoad _) never = absurd never
 ack_refused sites from bytes m (refusals.Replay _) never = absurd never
 ack_refused sites from bytes m (refusals.Jump _) never = absurd never
+ack_refused sites from bytes m (refusals.Full _) never = absurd never
 ack_refused sites from bytes m refusals.OutOfMemory never = absurd never
 ack_refused sites from bytes m (refusals.StoreSave _) never = absurd never
 
@@ -93,7 +94,8 @@ pub record Excuse (T : Type 0) (may : Type 0) (bytes : List ℕ) (why : Refused)
   pub load : IsErrOf {T = T} (Err why) (refusals.StoreLoad faults.OutOfMemory) → may
   pub save : IsErrOf {T = T} (Err why) (refusals.StoreSave faults.OutOfMemory) → may
 
-register_refused : {T : Type 0} (may : Type 0) (sites : List SiteValue) (bytes : List ℕ) (m : MapRegisterValue) (after : StoreState) (why : Refused) → message_at bytes ≡ Ok (Registers m) → Excuse T may bytes why → Proceeds fresh_store after → RefusesRegister (register_checked sites source bytes m) (fresh_server sites) fresh_store after why → (may × RanOut sites bytes why) ⊎ (answer_to (register_checked sites source bytes m) ≡ Err why)
+register_refused : {T : Type 0} (may : Type 0) (sites : List SiteValue) (bytes : List ℕ) (m : MapRegisterValue) (after : StoreState) (why : Refused) → message_at bytes ≡ Ok (Registers m) → Excuse T may bytes why → Proceeds fresh_store after → RefusesRegister (register_checked sites source bytes m) (fresh_server sites) fresh_store after source 0 why → (may × RanOut sites bytes why) ⊎ (FillsUp sites bytes why ⊎ (answer_to (register_checked sites source bytes m) ≡ Err why))
+unfolding FillsUp
 register_refused may sites bytes m after (refusals.StoreLoad fault) read out went r =
     let ran = only_memory after fault went r.cause in
     inl (out.load (ap (λ (f : StoreFault). Err (refusals.StoreLoad f)) ran), (ran, (m, r.passed, read, r.checks)))
@@ -103,27 +105,29 @@ register_refused may sites bytes m after (refusals.StoreSave fault) read out wen
 register_refused may sites bytes m after refusals.OutOfMemory read out went r = inl (out.own refl)
 register_refused may sites bytes m after (refusals.Replay saved) read out went r = absurd (no_base (pair_of r.passed.message) saved r.base)
 register_refused may sites bytes m after (refusals.Jump saved) read out went r = absurd (no_base (pair_of r.passed.message) saved r.base)
-register_refused may sites bytes m after (refusals.Read _) read out went r = inr (ap answer_to r.0)
-register_refused may sites bytes m after refusals.NotMine read out went r = inr (ap answer_to r.0)
-register_refused may sites bytes m after refusals.UnknownSite read out went r = inr (ap answer_to r.0)
-register_refused may sites bytes m after refusals.UnknownKey read out went r = inr (ap answer_to r.0)
-register_refused may sites bytes m after refusals.BadAuth read out went r = inr (ap answer_to r.0)
-register_refused may sites bytes m after refusals.MergeAsked read out went r = inr (ap answer_to r.0)
-register_refused may sites bytes m after (refusals.NotAllowed _) read out went r = inr (ap answer_to r.0)
-register_refused may sites bytes m after (refusals.Limited _) read out went r = inr (ap answer_to r.0)
-register_refused may sites bytes m after refusals.NoNotice read out went r = inr (ap answer_to r.0)
+register_refused may sites bytes m after (refusals.Full full) read out went r = inr (inl ((m, r.passed, read, r.checks), r.lacks))
+register_refused may sites bytes m after (refusals.Read _) read out went r = inr (inr (ap answer_to r.0))
+register_refused may sites bytes m after refusals.NotMine read out went r = inr (inr (ap answer_to r.0))
+register_refused may sites bytes m after refusals.UnknownSite read out went r = inr (inr (ap answer_to r.0))
+register_refused may sites bytes m after refusals.UnknownKey read out went r = inr (inr (ap answer_to r.0))
+register_refused may sites bytes m after refusals.BadAuth read out went r = inr (inr (ap answer_to r.0))
+register_refused may sites bytes m after refusals.MergeAsked read out went r = inr (inr (ap answer_to r.0))
+register_refused may sites bytes m after (refusals.NotAllowed _) read out went r = inr (inr (ap answer_to r.0))
+register_refused may sites bytes m after (refusals.Limited _) read out went r = inr (inr (ap answer_to r.0))
+register_refused may sites bytes m after refusals.NoNotice read out went r = inr (inr (ap answer_to r.0))
 
-read_refused : {T : Type 0} (may : Type 0) (sites : List SiteValue) (said : Result MessageValue ReadFault) (bytes : List ℕ) (after : StoreState) (why : Refused) → message_at bytes ≡ said → Excuse T may bytes why → Proceeds fresh_store after → RefusesRead said source bytes (fresh_server sites) fresh_store after why → (may × RanOut sites bytes why) ⊎ (read_answer sites bytes said ≡ Err why)
+read_refused : {T : Type 0} (may : Type 0) (sites : List SiteValue) (said : Result MessageValue ReadFault) (bytes : List ℕ) (after : StoreState) (why : Refused) → message_at bytes ≡ said → Excuse T may bytes why → Proceeds fresh_store after → RefusesRead said source bytes (fresh_server sites) fresh_store after 0 why → (may × RanOut sites bytes why) ⊎ (FillsUp sites bytes why ⊎ (read_answer sites bytes said ≡ Err why))
 read_refused may sites (Ok (Registers m)) bytes after why read out went r = register_refused may sites bytes m after why read out went r
-read_refused may sites (Ok (Notifies m)) bytes after why read out went r = inr (ap Err (ack_refused sites source bytes m why r.0))
-read_refused may sites (Err fault) bytes after why read out went r = inr (ap Err (sym r.0))
+read_refused may sites (Ok (Notifies m)) bytes after why read out went r = inr (inr (ap Err (ack_refused sites source bytes m why r.0)))
+read_refused may sites (Err fault) bytes after why read out went r = inr (inr (ap Err (sym r.0)))
 
-pub refused : {T : Type 0} (may : Type 0) (sites : List SiteValue) (bytes : List ℕ) (after : StoreState) (why : Refused) → Excuse T may bytes why → Proceeds fresh_store after → ServerRefuses (message_at bytes) source bytes (fresh_server sites) fresh_store after why → (may × RanOut sites bytes why) ⊎ (answer_of sites bytes ≡ Err why)
+pub refused : {T : Type 0} (may : Type 0) (sites : List SiteValue) (bytes : List ℕ) (after : StoreState) (why : Refused) → Excuse T may bytes why → Proceeds fresh_store after → ServerRefuses (message_at bytes) source bytes (fresh_server sites) fresh_store after 0 why → (may × RanOut sites bytes why) ⊎ (FillsUp sites bytes why ⊎ (answer_of sites bytes ≡ Err why))
 refused may sites bytes after refusals.OutOfMemory out went r = inl (out.own refl)
 refused may sites bytes after (refusals.StoreLoad x) out went r = read_refused may sites (message_at bytes) bytes after (refusals.StoreLoad x) refl out went r
 refused may sites bytes after (refusals.StoreSave x) out went r = read_refused may sites (message_at bytes) bytes after (refusals.StoreSave x) refl out went r
 refused may sites bytes after (refusals.Replay x) out went r = read_refused may sites (message_at bytes) bytes after (refusals.Replay x) refl out went r
 refused may sites bytes after (refusals.Jump x) out went r = read_refused may sites (message_at bytes) bytes after (refusals.Jump x) refl out went r
+refused may sites bytes after (refusals.Full x) out went r = read_refused may sites (message_at bytes) bytes after (refusals.Full x) refl out went r
 refused may sites bytes after (refusals.Read x) out went r = read_refused may sites (message_at bytes) bytes after (refusals.Read x) refl out went r
 refused may sites bytes after refusals.NotMine out went r = read_refused may sites (message_at bytes) bytes after refusals.NotMine refl out went r
 refused may sites bytes after refusals.UnknownSite out went r = read_refused may sites (message_at bytes) bytes after refusals.UnknownSite refl out went r

@@ -9,7 +9,8 @@ use Rattle.lisp_nonces.specs.Memory.{MemoryStoreState}
 use Rattle.lisp_server.specs.Server.{ServerState}
 use Rattle.lisp_server.specs.Checks.{Passed, register_checked, reply_of}
 use Rattle.lisp_admission.specs.declared.refused.Refused.{Refused}
-use Rattle.lisp_admission.specs.declared.refused.Refused.TheVariants.{Read, StoreLoad, OutOfMemory, StoreSave, NoNotice, NotMine}
+use Rattle.lisp_admission.specs.declared.refused.Refused.TheVariants.{Read, StoreLoad, Full, OutOfMemory, StoreSave, NoNotice, NotMine}
+use Rattle.lisp_server.specs.Receiving.{LacksSpace}
 use Rattle.lisp_answer.specs.Fresh.{fresh_server, fresh_memory, source}
 
 -- a Map-Notify, or nothing where none is wanted; or a refusal
@@ -45,10 +46,15 @@ RanOut sites bytes (StoreLoad fault) = (fault ≡ faults.OutOfMemory) × PassesA
 RanOut sites bytes (StoreSave fault) = (fault ≡ faults.OutOfMemory) × PassesAll sites bytes
 RanOut sites bytes _ = ⊥
 
--- the result is the answer, unless memory ran out that may be refused
+-- the bytes are such a Map-Register, and its site has no space for its records alone
+unfoldable pub FillsUp : List SiteValue → List ℕ → Refused → Type 0
+FillsUp sites bytes (Full full) = (p : PassesAll sites bytes) × LacksSpace (fresh_server sites) p.1.message source 0 full
+FillsUp sites bytes _ = ⊥
+
+-- the result is the answer, unless memory ran out that may be refused, or the site may not hold so much
 abbrev pub Answers : Type 0 → List SiteValue → List ℕ → Answer → Type 0
 Answers may_refuse sites bytes (Ok reply) = answer_of sites bytes ≡ Ok reply
-Answers may_refuse sites bytes (Err refused) = (may_refuse × RanOut sites bytes refused) ⊎ (answer_of sites bytes ≡ Err refused)
+Answers may_refuse sites bytes (Err refused) = (may_refuse × RanOut sites bytes refused) ⊎ (FillsUp sites bytes refused ⊎ (answer_of sites bytes ≡ Err refused))
 
 -- where a server is a fresh one of some sites, and its store an empty one, the result is what these answer
 abbrev pub AnswersIfFresh : Type 0 → ServerState → MemoryStoreState → List ℕ → Answer → Type 0

@@ -5,6 +5,7 @@ use Rattle.std.specs.Io.BufRead.{first_line}
 use Rattle.std.specs.Io.KnownBytes.{Appends, Keeps}
 use Rattle.hex.specs.Hex.{decode_of, encode_lower}
 use Rattle.hex.specs.declared.error.FromHexError.{FromHexError}
+use Rattle.hex.specs.declared.error.FromHexError.TheVariants.{OutOfMemory}
 use Rattle.lisp_policy.specs.Site.{SiteValue}
 use Rattle.lisp_answer.specs.Setup.{AnswerSetupValue, sites_of}
 use Rattle.lisp_answer.specs.Words.{refusal_words}
@@ -24,6 +25,10 @@ answer_words (Err refused) = refusal_words refused
 abbrev pub AreWords : Type 0 → List SiteValue → Result (List ℕ) FromHexError → List ℕ → Type 0
 AreWords may_refuse sites (Ok bytes) words = (answer : Answer) × Answers may_refuse sites bytes answer × (words ≡ answer_words answer)
 AreWords may_refuse sites (Err _) words = words ≡ codes "refused " ++ decimal 94
+
+-- the words for a fault of decoding, which isn't that memory ran out
+abbrev pub IsNotHexadecimal : FromHexError → List ℕ → Type 0
+IsNotHexadecimal fault words = (fault ≢ OutOfMemory) × (words ≡ codes "refused " ++ decimal 94)
 
 -- at Ok the text is the words for digits
 abbrev pub GivesWords : {E Z : Type 0} → Type 0 → List SiteValue → List ℕ → Result (String Z) E → Type 0

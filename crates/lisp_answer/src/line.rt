@@ -2,7 +2,7 @@
 
 ghost use Rattle.std.specs.Prelude.{◌≡◌, IfOk};
 ghost use Rattle.std.specs.String.{string_bytes};
-ghost use Rattle.lisp_answer.specs.Line.{answer_words, GivesWords};
+ghost use Rattle.lisp_answer.specs.Line.{answer_words, GivesWords, IsNotHexadecimal};
 
 use crate::fresh::respond;
 use crate::words::words_of_refused;
@@ -27,8 +27,17 @@ pub(crate) fn words_for<A: Memory + Copy>(
 {
     match hex::decode(alloc, digits) {
         Ok(bytes) => words_of(alloc, respond(alloc, sites, &bytes)),
-        Err(FromHexError::OutOfMemory) => Err(AllocError),
-        Err(_) => String::try_format(alloc, format_args!("refused {NOT_HEXADECIMAL}")),
+        Err(fault) => words_of_fault(alloc, fault),
+    }
+}
+
+// The words for a line that can't be decoded: it isn't hexadecimal, unless memory ran out.
+fn words_of_fault<A: Memory>(alloc: A, fault: FromHexError) -> Result<String<A>, AllocError>
+    ensures { IfOk result (λ words. IsNotHexadecimal fault (string_bytes words)) }
+{
+    match fault {
+        FromHexError::OutOfMemory => Err(AllocError),
+        _ => String::try_format(alloc, format_args!("refused {NOT_HEXADECIMAL}")),
     }
 }
 

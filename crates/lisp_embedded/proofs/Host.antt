@@ -24,8 +24,8 @@ use Rattle.lisp_embedded.specs.Receiving.{RefusesKept, of_this_call}
 use Rattle.lisp_embedded.specs.Receiving as receiving
 
 -- what was refused
-module _ (kept : Option ℕ) (from : Addr) (bytes : List ℕ) (old : ServerState) (before after : StoreState) (passes : Passes (pair_in bytes) kept before) where
-  pub refused_kept : (why : Refused) → RefusesMessage from bytes old before after why → RefusesKept kept from bytes old (of_this_call why)
+module _ (kept : Option ℕ) (from : Addr) (bytes : List ℕ) (old : ServerState) (before after : StoreState) (now : ℕ) (passes : Passes (pair_in bytes) kept before) where
+  pub refused_kept : (why : Refused) → RefusesMessage from bytes old before after now why → RefusesKept kept from bytes old now (of_this_call why)
   refused_kept (refusals.Read e) refuses = inl (before, after, passes, refuses)
   refused_kept refusals.UnknownSite refuses = inl (before, after, passes, refuses)
   refused_kept refusals.UnknownKey refuses = inl (before, after, passes, refuses)
@@ -38,6 +38,7 @@ module _ (kept : Option ℕ) (from : Addr) (bytes : List ℕ) (old : ServerState
   refused_kept (refusals.StoreLoad faults.OutOfMemory) refuses = inr refl
   refused_kept (refusals.Replay n) refuses = inl (before, after, passes, refuses)
   refused_kept (refusals.Jump n) refuses = inl (before, after, passes, refuses)
+  refused_kept (refusals.Full f) refuses = inl (before, after, passes, refuses)
   refused_kept refusals.OutOfMemory refuses = inl (before, after, passes, refuses)
   refused_kept (refusals.StoreSave faults.Device) refuses = inl (before, after, passes, refuses)
   refused_kept (refusals.StoreSave faults.Damaged) refuses = inl (before, after, passes, refuses)
@@ -84,18 +85,18 @@ module _ (old : ServerState) (before after : StoreState) (router : RouterId) (no
   no_store notices.NotDue refuses = tt
 
 -- nor is a datagram
-module _ (from : Addr) (bytes : List ℕ) (old : ServerState) (before after : StoreState) (obeys : IsTrue before.is_obedient) (done : before.fate ≡ Done) where
-  loaded : (said : Result MessageValue ReadFault) (fault : StoreFault) → fault ≢ faults.OutOfMemory → RefusesRead said from bytes old before after (refusals.StoreLoad fault) → ⊥
+module _ (from : Addr) (bytes : List ℕ) (old : ServerState) (before after : StoreState) (now : ℕ) (obeys : IsTrue before.is_obedient) (done : before.fate ≡ Done) where
+  loaded : (said : Result MessageValue ReadFault) (fault : StoreFault) → fault ≢ faults.OutOfMemory → RefusesRead said from bytes old before after now (refusals.StoreLoad fault) → ⊥
   loaded (Ok (Registers m)) fault other refuses = loads before done (refuses.armed other obeys)
   loaded (Ok (Notifies m)) fault other refuses = refuses.0
   loaded (Err e) fault other refuses = let clash : refusals.StoreLoad fault ≡ refusals.Read e = refuses.0 in absurd cc
 
-  saved : (said : Result MessageValue ReadFault) (fault : StoreFault) → fault ≢ faults.OutOfMemory → RefusesRead said from bytes old before after (refusals.StoreSave fault) → ⊥
+  saved : (said : Result MessageValue ReadFault) (fault : StoreFault) → fault ≢ faults.OutOfMemory → RefusesRead said from bytes old before after now (refusals.StoreSave fault) → ⊥
   saved (Ok (Registers m)) fault other refuses = saves before done ((refuses.doubted other).armed obeys)
   saved (Ok (Notifies m)) fault other refuses = refuses.0
   saved (Err e) fault other refuses = let clash : refusals.StoreSave fault ≡ refusals.Read e = refuses.0 in absurd cc
 
-  pub takes_no_store : (why : Refused) → RefusesMessage from bytes old before after why → receiving.IsOfNoStore (of_this_call why)
+  pub takes_no_store : (why : Refused) → RefusesMessage from bytes old before after now why → receiving.IsOfNoStore (of_this_call why)
   takes_no_store (refusals.Read e) refuses = tt
   takes_no_store refusals.UnknownSite refuses = tt
   takes_no_store refusals.UnknownKey refuses = tt
@@ -108,6 +109,7 @@ module _ (from : Addr) (bytes : List ℕ) (old : ServerState) (before after : St
   takes_no_store (refusals.StoreLoad faults.OutOfMemory) refuses = tt
   takes_no_store (refusals.Replay n) refuses = tt
   takes_no_store (refusals.Jump n) refuses = tt
+  takes_no_store (refusals.Full f) refuses = tt
   takes_no_store refusals.OutOfMemory refuses = tt
   takes_no_store (refusals.StoreSave faults.Device) refuses = saved (message_at bytes) faults.Device (λ e. absurd cc) refuses
   takes_no_store (refusals.StoreSave faults.Damaged) refuses = saved (message_at bytes) faults.Damaged (λ e. absurd cc) refuses

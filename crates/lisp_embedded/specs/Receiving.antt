@@ -15,8 +15,8 @@ abbrev pub TakesKept : {A : Type 0} → Option ℕ → Addr → List ℕ → Ser
 TakesKept kept from bytes old new now took = (before : StoreState) × (after : StoreState) × Passes (pair_in bytes) kept before × TakesMessage from bytes old new before after now took
 
 -- it is refused over such a store, or memory ran out
-abbrev pub RefusesKept : Option ℕ → Addr → List ℕ → ServerState → Refused → Type 0
-RefusesKept kept from bytes old why = ((before : StoreState) × (after : StoreState) × Passes (pair_in bytes) kept before × RefusesMessage from bytes old before after why) ⊎ (why ≡ OutOfMemory)
+abbrev pub RefusesKept : Option ℕ → Addr → List ℕ → ServerState → ℕ → Refused → Type 0
+RefusesKept kept from bytes old now why = ((before : StoreState) × (after : StoreState) × Passes (pair_in bytes) kept before × RefusesMessage from bytes old before after now why) ⊎ (why ≡ OutOfMemory)
 
 -- the store of a call lies in the memory of the call
 abbrev pub of_this_call : Refused → Refused

@@ -30,7 +30,7 @@ pub fn receive_kept<A: Memory + Copy>(
     now: u64,
 ) -> Result<Took<A>, Refused>
     ensures taken { IfOk result (TakesKept kept from bytes.now server.old server.new now) }
-    ensures refused { IfErr result (RefusesKept kept from bytes.now server.old) }
+    ensures refused { IfErr result (RefusesKept kept from bytes.now server.old now) }
     ensures err { OnErr result (server.new ≡ server.old) }
     ensures memory { IsErrOf result Refused.OutOfMemory → A.may_refuse }
     ensures storeless { IfErr result IsOfNoStore }

@@ -178,7 +178,7 @@ few_sums name (r ∷ entries) =
 pub few_are_told : FewAreTold
 few_are_told events entries left of short =
     let room = few_entries kinds events entries left of in
-    let count : length kinds ≡ 64 = refl in
+    let count : length kinds ≡ 66 = refl in
     record {
       lines = let told = few_told kinds (omega (arith, count)) events entries left of short in omega (arith, told, room, count);
       sums = λ name. let sum = few_sums name entries in omega (arith, sum, room, count);

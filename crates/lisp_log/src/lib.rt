@@ -10,7 +10,7 @@
 //! - Answers to Map-Requests (RFC 9301 sections 5.2 to 5.5, 8.2 and 8.3) are summed as refusals are: anybody may ask, and each EID-Prefix
 //!   that is asked for has a line, so that a stranger could else fill a disk. They are summed whatever the EID-Prefix is, by the address
 //!   that the line names: the ITR-RLOC, or the router that the Map-Request goes on to.
-//! - 64 pairs of what repeats and an address are told apart, and the table has 80 entries more for all others: there are 64 things that
+//! - 64 pairs of what repeats and an address are told apart, and the table has 80 entries more for all others: there are 66 things that
 //!   repeat, and one without an entry would be told each time. So at most 144 of these lines are printed in a second, and as many sums.
 //! - What was written stays before the bytes that wait until it is as much as they may be. So a reader who takes little at a
 //!   time costs no move of all that waits.

@@ -12,7 +12,7 @@ use std::marker::Model;
 const MOST_ADDRESSES: usize = 64;
 
 /// The most entries: those of addresses, and those of all others, one of each thing that repeats. There is room for these, since there are
-/// 64 such things.
+/// 66 such things.
 const MOST_ENTRIES: usize = 144;
 
 /// What repeats in a second: refusals, or what is said of EID-Prefixes that Map-Requests ask for.

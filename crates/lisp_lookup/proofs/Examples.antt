@@ -4,3 +4,4 @@ pub mod Covering
 pub mod Inside
 pub mod Records
 pub mod Holes
+pub mod Growth

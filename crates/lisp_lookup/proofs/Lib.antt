@@ -4,6 +4,8 @@ pub mod Orders
 pub mod FindLaws
 pub mod LiveFrom
 pub mod TableLaws
+pub mod GrowthLaws
+pub mod SettingLaws
 pub mod LiveLaws
 pub mod AnswerLaws
 pub mod IndexLaws

@@ -8,3 +8,5 @@ pub mod Covering
 pub mod Inside
 pub mod Hole
 pub mod Replies
+pub mod Setting
+pub mod Growth

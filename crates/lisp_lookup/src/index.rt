@@ -63,9 +63,9 @@ impl<A: Allocator> Table<A> {
         }
     }
 
-    // The number of the row of the same router and prefix; `near` becomes the place behind its own.
+    /// The number of the row of the same router and prefix; `near` becomes the place behind its own.
     #[inline(always)]
-    fn number_of(&self, row: &Row<A>, near: &mut usize) -> Option<usize>
+    pub(crate) fn number_of(&self, row: &Row<A>, near: &mut usize) -> Option<usize>
         ensures { result ≡ own_number self.now.rows row.now }
     {
         let rows: &[Row<A>] = &self.items;
@@ -150,9 +150,9 @@ fn number_at<A: Allocator>(
     }
 }
 
-// Whether two rows are of one router and prefix.
+/// Whether two rows are of one router and prefix.
 #[inline(always)]
-fn is_row_of<A: Allocator>(one: &Row<A>, other: &Row<A>) -> bool
+pub(crate) fn is_row_of<A: Allocator>(one: &Row<A>, other: &Row<A>) -> bool
     ensures { result ≡ is_row_of one.now.router one.now.mapping.eid other.now }
 {
     other.router.is_same(&one.router) && *other.mapping.eid_ref() == *one.mapping.eid_ref()

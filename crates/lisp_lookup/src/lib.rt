@@ -23,6 +23,8 @@
 //! - The prefix of a negative Map-Reply is found by halving over its length. Whether a row has a prefix in it is seen at the first live row of
 //!   the run that would be inside: rows that died and weren't taken out yet are passed one by one.
 //! - The prefixes of sites are looked at one by one for it, as for whether a site has an address: they are few beside rows.
+//! - Whether a site passes a limit on what is held of it is reckoned from its rows at that moment, and only where a Map-Register brings a
+//!   new row: then all rows are looked through. No count is kept beside the rows, since they die at any moment.
 #![tactic(auto)]
 
 mod answer;
@@ -30,6 +32,7 @@ mod best;
 mod counted_rows;
 mod edits;
 mod find;
+mod growth;
 mod hole;
 mod index;
 mod inside;

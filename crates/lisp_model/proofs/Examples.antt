@@ -19,3 +19,4 @@ pub mod LargeDatabases
 pub mod Indices
 pub mod Networks
 pub mod MemoryLines
+pub mod Limits

@@ -36,4 +36,6 @@ pub mod NoticeRising
 pub mod NoticeNonces
 pub mod CleanLaws
 pub mod RowLaws
+pub mod HeldMore
+pub mod LimitLaws
 pub mod Examples

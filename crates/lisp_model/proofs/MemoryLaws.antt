@@ -24,7 +24,7 @@ excused_by : (One Other : Excuse) (o : Opening) (T : List Step) (s : Step) → (
     → Must One o T s → Must Other o T s
 excused_by One Other o T s gives must = record {
   send = λ router server part fate is up listed there below. ⊎_map (λ e. e) gives (must.send router server part fate is up listed there below);
-  accept = λ a m is kind admits above. ⊎_map (λ e. e) gives (must.accept a m is kind admits above);
+  accept = λ a m is kind admits above space. ⊎_map (λ e. e) gives (must.accept a m is kind admits above space);
   done = λ a m n is kind read ack waits tag. ⊎_map (λ e. e) gives (must.done a m n is kind read ack waits tag);
   counted = λ a h part is kind up passes low within last. ⊎_map (λ e. e) gives (must.counted a h part is kind up passes low within last);
   noticed = λ a h is kind up passes high. ⊎_map (λ e. e) gives (must.noticed a h is kind up passes high);

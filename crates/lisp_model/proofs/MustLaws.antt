@@ -21,7 +21,8 @@ use Rattle.lisp_etr.specs.declared.send_fault.SendFault.{SendFault}
 use Rattle.lisp_etr.specs.declared.send_fault.SendFault.TheVariants as sends
 use Rattle.lisp_admission.specs.declared.refused.Refused.{Refused}
 use Rattle.lisp_admission.specs.declared.refused.Refused.TheVariants as refuseds
-use Rattle.lisp_admission.specs.Checks.{most_jump_at}
+use Rattle.lisp_admission.specs.Checks.{most_jump_at, most_routers_at, most_rows_at}
+use Rattle.lisp_lookup.proofs.GrowthLaws.{full_or_fits}
 use Rattle.lisp_admission.specs.Nonces.{IsNear, IsFar}
 use Rattle.lisp_admission.specs.Pairs.{pair_of}
 use Rattle.lisp_model.specs.declared.event.Event.TheVariants as events
@@ -33,7 +34,7 @@ use Rattle.lisp_model.specs.Timers.{Notice}
 use Rattle.lisp_model.specs.Bag.{Item, Arrival, arrival_of, arrival_in, junk_arrival, bag}
 use Rattle.lisp_model.specs.Context.{Context, values, IsBase}
 use Rattle.lisp_model.specs.Sending.{CountsFrom, HasPart, pair_at, last_sent, start_values, RefusesToSend}
-use Rattle.lisp_model.specs.Receiving.{Admits, last_in, awaiting, has_tag_for, RefusesMessage, RefusesAck, FailsNotify, FailsCheck}
+use Rattle.lisp_model.specs.Receiving.{Admits, HasSpace, LacksSpace, rows_before, rows_with, last_in, awaiting, has_tag_for, RefusesMessage, RefusesAck, FailsNotify, FailsCheck}
 use Rattle.lisp_model.specs.Legal.{MayCome, Arrives, Legal, LegalTrace, context_of}
 use Rattle.lisp_model.specs.Must.{Must, MustSend, IsExcused, Follows, is_sent, is_accepted, is_done}
 use Rattle.lisp_model.proofs.HeardLines.{Passes, comes_to}
@@ -74,7 +75,7 @@ module _ (t : Context) (reached_here : is_up t.past t.node ≡ true → Reached 
 
 -- a Map-Register that passes all checks with a fresh nonce
 module _ (t : Context) (kind : is_server t.opening.config t.node ≡ true) (a : Arrival) where
-  module _ (m : MapRegisterValue) (admits : Admits t a m) (above : Follows (most_jump_at t.opening.config.sites m.site) (last_in t (pair_of m)) (values t (pair_of m)) m.nonce) where
+  module _ (m : MapRegisterValue) (admits : Admits t a m) (above : Follows (most_jump_at t.opening.config.sites m.site) (last_in t (pair_of m)) (values t (pair_of m)) m.nonce) (space : HasSpace t a m) where
     same_register : (x : MapRegisterValue) → a.read ≡ Ok (Registers x) → m ≡ x
     same_register x read = let both : ◌≡◌ {A = Result MessageValue ReadFault} (Ok (Registers m)) (Ok (Registers x)) = sym admits.read ∙ read in cc
 
@@ -104,6 +105,9 @@ module _ (t : Context) (kind : is_server t.opening.config t.node ≡ true) (a : 
     accept_or_excused named (refuseds.Jump saved) row = absurd (not_far (most_jump_at t.opening.config.sites m.site) (last_in t (pair_of m)) (values t (pair_of m)) m.nonce saved above
         (subst (λ (x : MapRegisterValue). IsBase (last_in t (pair_of x)) (values t (pair_of x)) (Some saved)) (sym (same_register row.message row.admits.read)) row.counts)
         (subst (λ (x : MapRegisterValue). IsFar (most_jump_at t.opening.config.sites x.site) saved x.nonce) (sym (same_register row.message row.admits.read)) row.far))
+    accept_or_excused named (refuseds.Full full) row =
+        let same = sym (same_register row.message row.admits.read) in
+        absurd (full_or_fits (most_routers_at t.opening.config.sites m.site) (most_rows_at t.opening.config.sites m.site) m.site (rows_before t) (rows_with t a m) full space (subst (λ (x : MapRegisterValue). LacksSpace t a x full) same row.lacks))
     accept_or_excused named refuseds.OutOfMemory row = λ other. absurd (other refl)
     accept_or_excused named (refuseds.StoreSave fault) row = row.fails.cause
     accept_or_excused named _ row = absurd (passes_no_check _ a.read admits.read row.0)
@@ -144,6 +148,7 @@ module _ (t : Context) (kind : is_server t.opening.config t.node ≡ true) (a : 
     end_or_excused named (refuseds.StoreLoad fault) row = row.fails.cause
     end_or_excused named (refuseds.Replay saved) row = absurd (is_no_register row.message row.admits.read)
     end_or_excused named (refuseds.Jump saved) row = absurd (is_no_register row.message row.admits.read)
+    end_or_excused named (refuseds.Full full) row = absurd (is_no_register row.message row.admits.read)
     end_or_excused named refuseds.OutOfMemory row = λ other. absurd (other refl)
     end_or_excused named (refuseds.StoreSave fault) row = row.fails.cause
     end_or_excused named _ row = absurd (ends_no_check _ a.read read row.0)
@@ -223,7 +228,7 @@ module _ (t : Context) (kind : is_router t.opening.config t.node ≡ true) (a : 
 pub must : (o : Opening) (T : List Step) (s : Step) → LegalTrace o T → Legal o T s → Must IsExcused o T s
 must o T s legal l = record {
   send = must_send (context_of o T s) (reached o T legal s.actor) s.event s.line l.row;
-  accept = λ a m is kind admits above. accept_arrives (context_of o T s) kind a m admits above s.line (arrived (context_of o T s) kind a s.event s.line is l.row);
+  accept = λ a m is kind admits above space. accept_arrives (context_of o T s) kind a m admits above space s.line (arrived (context_of o T s) kind a s.event s.line is l.row);
   done = λ a m n is kind read ack waits tag. end_arrives (context_of o T s) kind a m n read ack waits tag s.line (arrived (context_of o T s) kind a s.event s.line is l.row);
   counted = λ a h part is kind up passes low within last. heard_arrives (context_of o T s) kind up a h passes is_counted (counts (context_of o T s) kind up a h passes low part within last) s.line (arrived_there (context_of o T s) kind a s.event s.line is l.row);
   noticed = λ a h is kind up passes high. heard_arrives (context_of o T s) kind up a h passes is_noticed (notices (context_of o T s) kind up a h passes high) s.line (arrived_there (context_of o T s) kind a s.event s.line is l.row);

@@ -15,6 +15,7 @@ use Rattle.lisp_nonces.specs.declared.pair.Pair.{Pair}
 use Rattle.lisp_nonces.specs.Pair.{pair_cmp}
 use Rattle.lisp_messages.specs.Message.{MapRegisterValue}
 use Rattle.lisp_lookup.specs.Table.{IsHeld, is_row_of, if_alive, row_cmp}
+use Rattle.lisp_lookup.specs.Growth.{LiveRows}
 use Rattle.lisp_admission.specs.Pairs.{router_of, pair_of}
 use Rattle.lisp_admission.specs.AcceptedRows.{row_values}
 
@@ -43,6 +44,10 @@ accepted_rows since = flat_map (λ a. reverse (row_values a.message a.from a.mom
 -- of the router that names it, if it is alive
 abbrev pub held_row : List Acceptance → RouterId → PrefixValue → ℕ → Option RowValue
 held_row since router eid now = option_and_then (if_alive now) (find (is_row_of router eid) (accepted_rows since))
+
+-- the same for each router and prefix
+abbrev pub held_rows : List Acceptance → ℕ → LiveRows
+held_rows since now router eid = held_row since router eid now
 
 -- rows by router, then prefix; of two for one router and prefix the one that comes first
 abbrev pub insert_row_by : Ordering → RowValue → RowValue → List RowValue → List RowValue → List RowValue

@@ -29,7 +29,7 @@ use Rattle.lisp_model.specs.Bag.{Arrival, arrival_in, bag}
 use Rattle.lisp_model.specs.Counted.{latest_nonce, notify_at}
 use Rattle.lisp_model.specs.Context.{Context, HasCause, values}
 use Rattle.lisp_model.specs.Sending.{pair_at, HasPart}
-use Rattle.lisp_model.specs.Receiving.{Admits, last_in, awaiting, has_tag_for}
+use Rattle.lisp_model.specs.Receiving.{Admits, HasSpace, last_in, awaiting, has_tag_for}
 use Rattle.lisp_model.specs.Legal.{context_of}
 
 -- a router's or server's refusal for out of memory, or for its store
@@ -84,11 +84,12 @@ MustSend Excused t event line = (router server part : ℕ) (fate : Fate) → eve
     → ((v : Option ℕ) → Contains (values t (pair_at t.opening t.past router)) v → number v < last_nonce)
     → (is_sent line ≡ true) ⊎ Excused t line
 
--- a server accepts a Map-Register that passes all checks, with such a nonce
+-- a server accepts a Map-Register that passes all checks, with such a nonce, where its site has space for it
 abbrev pub MustAccept : Excuse → Context → EventValue → Line → Type 0
 MustAccept Excused t event line = (a : Arrival) (m : MapRegisterValue)
     → arrival_in (bag t.opening t.past) event ≡ Some a → is_server t.opening.config t.node ≡ true → Admits t a m
-    → Follows (most_jump_at t.opening.config.sites m.site) (last_in t (pair_of m)) (values t (pair_of m)) m.nonce → (is_accepted line ≡ true) ⊎ Excused t line
+    → Follows (most_jump_at t.opening.config.sites m.site) (last_in t (pair_of m)) (values t (pair_of m)) m.nonce
+    → HasSpace t a m → (is_accepted line ≡ true) ⊎ Excused t line
 
 -- a Map-Notify-Ack ends the notice that waits for it
 abbrev pub MustEnd : Excuse → Context → EventValue → Line → Type 0

@@ -9,13 +9,16 @@ use Rattle.lisp_nonces.specs.declared.fault.StoreFault.{StoreFault}
 use Rattle.lisp_messages.specs.declared.fault.ReadFault.{ReadFault}
 use Rattle.lisp_messages.specs.Message.{MessageValue, MapRegisterValue, MapNotifyValue, Registers, Notifies}
 use Rattle.lisp_admission.specs.declared.refused.Refused.{Refused}
-use Rattle.lisp_admission.specs.declared.refused.Refused.TheVariants.{Read, NotMine, BadAuth, StoreLoad, Replay, Jump, OutOfMemory, StoreSave, NoNotice}
+use Rattle.lisp_admission.specs.declared.refused.Refused.TheVariants.{Read, NotMine, BadAuth, StoreLoad, Replay, Jump, Full as FullOf, OutOfMemory, StoreSave, NoNotice}
 use Rattle.lisp_admission.specs.Nonces.{IsBelow, IsFar, IsNear}
 use Rattle.lisp_admission.specs.Pairs.{router_of, pair_of}
-use Rattle.lisp_admission.specs.Checks.{secret_under, secret_at, most_jump_at}
+use Rattle.lisp_policy.specs.declared.full.Full.{Full}
+use Rattle.lisp_lookup.specs.Growth.{LiveRows, Fits, IsFull}
+use Rattle.lisp_admission.specs.Checks.{secret_under, secret_at, most_jump_at, most_routers_at, most_rows_at}
 use Rattle.lisp_admission.specs.Checks.{signed_by}
 use Rattle.lisp_messages.specs.Reading.{HasHead, HasRecords}
-use Rattle.lisp_model.specs.Held.{last_of}
+use Rattle.lisp_model.specs.Trace.{clock}
+use Rattle.lisp_model.specs.Held.{last_of, held_rows}
 use Rattle.lisp_model.specs.Timers.{Notice, notices}
 use Rattle.lisp_model.specs.Bag.{Item, Arrival, bag, since_start}
 use Rattle.lisp_model.specs.Context.{Context, IsAtServer, values, values_after, Same, SameOthers, MaySave, Loads, LoadFails, SaveFails, IsBase}
@@ -38,6 +41,21 @@ pub record IsFresh (t : Context) (m : MapRegisterValue) : Type 0 where
   pub near : IsNear (most_jump_at t.opening.config.sites m.site) base m.nonce
   pub loads : Loads t (last_in t (pair_of m))
 
+-- the live rows that the server holds, and would hold with a Map-Register
+abbrev pub rows_before : Context → LiveRows
+rows_before t = held_rows (since_start t.opening t.past t.node) (clock t.past)
+
+abbrev pub rows_with : Context → Arrival → MapRegisterValue → LiveRows
+rows_with t a m = held_rows (record { message = m; from = a.from; moment = clock t.past } ∷ since_start t.opening t.past t.node) (clock t.past)
+
+-- the limits of its site on what is held let it in
+abbrev pub HasSpace : Context → Arrival → MapRegisterValue → Type 0
+HasSpace t a m = Fits (most_routers_at t.opening.config.sites m.site) (most_rows_at t.opening.config.sites m.site) m.site (rows_before t) (rows_with t a m)
+
+-- or not, and which
+abbrev pub LacksSpace : Context → Arrival → MapRegisterValue → Full → Type 0
+LacksSpace t a m full = IsFull (most_routers_at t.opening.config.sites m.site) (most_rows_at t.opening.config.sites m.site) m.site (rows_before t) (rows_with t a m) full
+
 -- it is accepted: from now on its nonce alone is kept; a reply goes out where bit M asks for one
 pub record IsAccepted (t : Context) (a : Arrival) (server : ℕ) (router : RouterId) (key nonce : ℕ) (datagram : Option ℕ)
     : Type 0 where
@@ -48,6 +66,7 @@ pub record IsAccepted (t : Context) (a : Arrival) (server : ℕ) (router : Route
   pub under : key ≡ message.key_id
   pub number : nonce ≡ message.nonce
   pub fresh : IsFresh t message
+  pub space : HasSpace t a message
   pub may : MaySave t
   pub kept : values_after t (pair_of message) ≡ Some message.nonce ∷ []
   pub others : SameOthers t (pair_of message)
@@ -123,11 +142,20 @@ pub record Jumps (t : Context) (a : Arrival) (saved : ℕ) : Type 0 where
   pub far : IsFar (most_jump_at t.opening.config.sites message.site) saved message.nonce
   pub same : Same t
 
+-- its site has no space for it
+pub record Overflows (t : Context) (a : Arrival) (full : Full) : Type 0 where
+  pub message : MapRegisterValue
+  pub admits : Admits t a message
+  pub fresh : IsFresh t message
+  pub lacks : LacksSpace t a message full
+  pub same : Same t
+
 -- the nonce can't be saved
 pub record NotSaved (t : Context) (a : Arrival) (fault : StoreFault) : Type 0 where
   pub message : MapRegisterValue
   pub admits : Admits t a message
   pub fresh : IsFresh t message
+  pub space : HasSpace t a message
   pub fails : SaveFails t (pair_of message) message.nonce fault
 
 -- a Map-Register that is otherwise accepted: its rows and its reply take memory
@@ -137,11 +165,12 @@ pub record IsToAccept (t : Context) (a : Arrival) : Type 0 where
   pub fresh : IsFresh t message
 
 -- the first reason that applies: the checks; the base; the nonce; memory, which may run out in reading
--- records too, and then comes first; the store
+-- records too, and then comes first; what the site may hold; the store
 abbrev pub RefusesMessage : Context → Arrival → Refused → Type 0
 RefusesMessage t a (StoreLoad fault) = NotLoaded t a fault
 RefusesMessage t a (Replay saved) = Replays t a saved
 RefusesMessage t a (Jump saved) = Jumps t a saved
+RefusesMessage t a (FullOf full) = Overflows t a full
 RefusesMessage t a OutOfMemory = HasHead a.bytes × (HasRecords a.bytes ⊎ IsToAccept t a) × Same t
 RefusesMessage t a (StoreSave fault) = NotSaved t a fault
 RefusesMessage t a why = FailsCheck t a a.read why × Same t

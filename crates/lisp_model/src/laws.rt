@@ -7,7 +7,7 @@ ghost use Rattle.lisp_model.specs.Legal.{Legal, LegalTrace};
 ghost use Rattle.lisp_model.specs.Must.{Must, IsExcused, DeviceFailed};
 ghost use Rattle.lisp_model.specs.Memory.{MayTell};
 ghost use Rattle.lisp_model.specs.OverTraces.{OfLegalTraces, OfLegalSteps, OfCleanTraces, OfCleanSteps};
-ghost use Rattle.lisp_model.specs.Promises.{NoncesRise, ReplaysAreTried, NoticeNoncesRise, NoticesDiffer, LeavesOthers, AcceptedWasSent, HeldWasSent, HeldAgree, CountedWasAccepted, AbsentPartsRest, DoneWasNoticed};
+ghost use Rattle.lisp_model.specs.Promises.{NoncesRise, ReplaysAreTried, NoticeNoncesRise, NoticesDiffer, LeavesOthers, AcceptedWasSent, HeldWasSent, HeldAgree, CountedWasAccepted, AbsentPartsRest, DoneWasNoticed, SitesStayWithin};
 ghost use Rattle.lisp_model.specs.Bag.{bag, since_start};
 ghost use Rattle.lisp_model.specs.Counted.{acked};
 ghost use Rattle.lisp_model.specs.Story.{opening, one_taken, one_counted, server_restarted, six_steps, first_row};
@@ -63,6 +63,13 @@ pub fn must_be_done()
 /// be done.
 pub fn must_be_done_with_memory()
     ensures { OfLegalSteps (λ o T s. MayTell ⊥ ⊥ s.line → Must DeviceFailed o T s) }
+{}
+
+/// At each moment a Map-Server holds no more live rows of a site, and of no more of its routers, than the site may have, where the site
+/// has such limits.
+#[tactic(auto, using(crate::proofs::LimitLaws::sites_stay_within))]
+pub fn sites_stay_within()
+    ensures { OfLegalTraces SitesStayWithin }
 {}
 
 /// What is held at a moment is listed by router, then prefix: exactly the live records, each once (RFC 9301 section

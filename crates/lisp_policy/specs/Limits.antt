@@ -3,19 +3,23 @@ use Rattle.std.specs.Prelude.{ℕ, Bool, true, not, ◌&&◌, ◌||◌, ◌==◌
 use Rattle.std.specs.List.{list_any}
 use Rattle.std.specs.Str.{bytes_eq}
 use Rattle.lisp_records.specs.declared.address.Addr.{Addr}
+use Rattle.lisp_policy.specs.declared.full.Full.{Full}
+use Rattle.lisp_policy.specs.declared.full.Full.TheVariants.{Routers, Rows}
 use Rattle.lisp_records.specs.Address.{PrefixValue, holds}
 
--- the xTR-IDs of the routers, the addresses that their Map-Registers come from, the TTLs of their records, and how far
--- their nonces may rise at once
+-- the xTR-IDs of the routers, the addresses that their Map-Registers come from, the TTLs of their records, how far their
+-- nonces may rise at once, and how many routers with live rows, and live rows, the site may have
 pub record LimitsValue : Type 0 where
   pub routers : List (List ℕ)
   pub from : List PrefixValue
   pub least_ttl : Option ℕ
   pub most_ttl : Option ℕ
   pub most_jump : Option ℕ
+  pub most_routers : Option ℕ
+  pub most_rows : Option ℕ
 
 abbrev pub no_limits : LimitsValue
-no_limits = record { routers = []; from = []; least_ttl = None; most_ttl = None; most_jump = None }
+no_limits = record { routers = []; from = []; least_ttl = None; most_ttl = None; most_jump = None; most_routers = None; most_rows = None }
 
 -- any router may register where none is listed
 abbrev pub lists_router : List (List ℕ) → List ℕ → Bool
@@ -46,3 +50,8 @@ is_at_most (Some most) n = nat_le n most
 -- such a TTL is within both bounds
 abbrev pub lets_ttl : LimitsValue → Bool → ℕ → Bool
 lets_ttl limits use_ttl ttl = not (lives_by_ttl use_ttl ttl) || (is_at_least limits.least_ttl ttl && is_at_most limits.most_ttl ttl)
+
+-- the numbers of the limits on what is held
+abbrev pub full_number : Full → ℕ
+full_number Routers = 139
+full_number Rows = 140

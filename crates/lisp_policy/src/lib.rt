@@ -7,12 +7,14 @@
 //!   message finds its own. `proofs/Halving.antt` has the lemmas of searches by halving, also for `lisp_server`.
 #![tactic(auto)]
 
+mod full;
 mod index;
 mod limits;
 mod places;
 mod site;
 mod sites;
 
+pub use full::Full;
 pub use limits::Limits;
 pub use places::Places;
 pub use site::{Site, SiteKey, SitePrefix};

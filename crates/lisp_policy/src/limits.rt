@@ -21,6 +21,10 @@ pub struct Limits<A: Allocator = Global> {
     pub most_ttl: Option<u32>,
     /// How far above the last nonce of a router under a key the next one may be.
     pub most_jump: Option<u64>,
+    /// How many routers of the site may have live rows.
+    pub most_routers: Option<u32>,
+    /// How many live rows the site may have.
+    pub most_rows: Option<u32>,
 }
 
 impl<A: Allocator> Model for Limits<A> {
@@ -28,7 +32,7 @@ impl<A: Allocator> Model for Limits<A> {
 
     ghost Value = { LimitsValue };
 
-    ghost view = { λ l. record { routers = l.routers.items; from = l.from.items; least_ttl = l.least_ttl; most_ttl = l.most_ttl; most_jump = l.most_jump } };
+    ghost view = { λ l. record { routers = l.routers.items; from = l.from.items; least_ttl = l.least_ttl; most_ttl = l.most_ttl; most_jump = l.most_jump; most_routers = l.most_routers; most_rows = l.most_rows } };
 }
 
 impl<A: Allocator + Copy> Limits<A> {
@@ -42,6 +46,8 @@ impl<A: Allocator + Copy> Limits<A> {
             least_ttl: None,
             most_ttl: None,
             most_jump: None,
+            most_routers: None,
+            most_rows: None,
         }
     }
 }
@@ -81,6 +87,8 @@ impl<A: Allocator> Limits<A> {
             least_ttl: self.least_ttl,
             most_ttl: self.most_ttl,
             most_jump: self.most_jump,
+            most_routers: self.most_routers,
+            most_rows: self.most_rows,
         })
     }
 }

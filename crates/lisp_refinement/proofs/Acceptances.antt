@@ -25,6 +25,7 @@ use Rattle.lisp_server.specs.LastNonces.{Nonces, nonce_at, SetsNonce}
 use Rattle.lisp_server.specs.Receiving.{contact_of}
 use Rattle.lisp_admission.proofs.Turned.{turned}
 use Rattle.lisp_model.specs.Held.{Acceptance, is_of_pair, last_of, heard_last, accepted_rows, held_row}
+use Rattle.lisp_model.proofs.HeldMore.{held_more, held_other}
 use Rattle.lisp_model.proofs.KeptLemmas.{pair_itself, pair_same}
 
 -- the pair of a Map-Register isn't that of notices
@@ -49,28 +50,17 @@ module _ (m : MapRegisterValue) (from : Addr) (now : ℕ) (since : List Acceptan
       at false other = sets.others pair (λ e. true≢false (sym (ap (λ (p : Pair). eq_by_cmp pair_cmp p (pair_of m)) e ∙ pair_itself (pair_of m)) ∙ other)) ∙ was
 
   module _ (router : RouterId) (eid : PrefixValue) where
-    -- what is held is one of its rows, or was held before
-    held_more : option_and_then (if_alive now) (option_or (last_given (row_values m from now) router eid) (find (is_row_of router eid) (accepted_rows since))) ≡ held_row (one ∷ since) router eid now
-    held_more = ap (option_and_then (if_alive now)) (sym (find-append (is_row_of router eid) (reverse (row_values m from now)) (accepted_rows since)))
+    -- what is held then is what rows would show that show what is held
+    pub held_with : (old : List RowValue) → option_and_then (if_alive now) (row_at old router eid) ≡ held_row since router eid now
+        → option_and_then (if_alive now) (option_or (last_given (row_values m from now) router eid) (row_at old router eid)) ≡ held_row (one ∷ since) router eid now
+    held_with old was = first_or (if_alive now) (last_given (row_values m from now) router eid) (row_at old router eid) (find (is_row_of router eid) (accepted_rows since)) was ∙ held_more m from now since router eid
 
     -- what is held of a router and a prefix
     pub rows_after : (old new : List RowValue) → Sets old new (row_values m from now) → option_and_then (if_alive now) (row_at old router eid) ≡ held_row since router eid now
         → option_and_then (if_alive now) (row_at new router eid) ≡ held_row (one ∷ since) router eid now
     rows_after old new sets was =
         ap (option_and_then (if_alive now)) (sets router eid)
-        ∙ first_or (if_alive now) (last_given (row_values m from now) router eid) (row_at old router eid) (find (is_row_of router eid) (accepted_rows since)) was
-        ∙ held_more
-
-    -- none of them is another router's
-    none_in : router_eq (router_of m) router ≡ false → (xs : List MapRecordValue) → find (is_row_of router eid) (map (row_value m from now) xs) ≡ None
-    none_in other [] = refl
-    none_in other (x ∷ xs) = ap (λ b. cond (b && prefix_eq x.eid eid) (Some (row_value m from now x)) (find (is_row_of router eid) (map (row_value m from now) xs))) other ∙ none_in other xs
-
-    -- what is held of another router stays
-    held_other : router_eq (router_of m) router ≡ false → held_row since router eid now ≡ held_row (one ∷ since) router eid now
-    held_other other =
-        ap (λ (x : Option RowValue). option_and_then (if_alive now) (option_or x (find (is_row_of router eid) (accepted_rows since)))) (sym (ap (find (is_row_of router eid)) (sym (turned (row_value m from now) m.records)) ∙ none_in other (reverse m.records)))
-        ∙ held_more
+        ∙ held_with old was
 
     -- where routers were heard
     pub contacts_after : (old new : List Contact) → SetsContact old new (contact_of m from)
@@ -80,4 +70,4 @@ module _ (m : MapRegisterValue) (from : Addr) (now : ℕ) (since : List Acceptan
       where
         at : (b : Bool) → router_eq (router_of m) router ≡ b → contact_at new router ≡ option_map (λ a. contact_of a.message a.from) (cond b (Some one) (heard_last router since))
         at true same = ap (contact_at new) (sym ((router_eq-Decides (router_of m) router).0 same)) ∙ sets.here
-        at false other = sets.others router (λ e. true≢false (sym ((router_eq-Decides (router_of m) router).1 (sym e)) ∙ other)) ∙ was h (held_other other ∙ is)
+        at false other = sets.others router (λ e. true≢false (sym ((router_eq-Decides (router_of m) router).1 (sym e)) ∙ other)) ∙ was h (held_other m from now since router eid other ∙ is)

@@ -50,7 +50,7 @@ use Rattle.lisp_refinement.proofs.Acting.{Adds, adds_none, adds_one, by_fate}
 use Rattle.lisp_refinement.proofs.Acceptances.{not_notices, nonces_after, rows_after, contacts_after}
 use Rattle.lisp_admission.proofs.Secrets.{its_secret}
 use Rattle.lisp_refinement.proofs.Checked.{is_passed}
-use Rattle.lisp_refinement.proofs.Refusing.{arriving, turn_at, admits, is_fresh, same_store, refuses}
+use Rattle.lisp_refinement.proofs.Refusing.{arriving, turn_at, admits, is_fresh, space_in, same_store, refuses}
 use Rattle.lisp_refinement.proofs.Going.{notice_goes}
 use Rattle.lisp_refinement.proofs.StandingNotices.{awaited, signed_same, ended_same}
 
@@ -191,6 +191,7 @@ module _ (o : Opening) (T : List Step) (node : ℕ) (kind : is_server o.config n
       under = answers.under;
       number = answers.number;
       fresh = is_fresh o T node before part armed called shows (fate_of event) fated message a.fresh;
+      space = space_in o T node before part armed called shows (fate_of event) fated from bytes (Ok (Registers m)) message a.space;
       may = by_fate (λ f. f ≢ Doubt) (fate_of event) armed (shown_store o T node) shows fated a.saves;
       kept = a.kept shows.honest;
       others = subst (λ (k : Kept). SameElsewhere k called.kept (pair_of message)) shows.kept (a.others shows.honest);
@@ -242,7 +243,7 @@ module _ (o : Opening) (T : List Step) (node : ℕ) (kind : is_server o.config n
 
   -- whatever it answers
   pub received : {A : Type 0} → LegalTrace o T → (read : Result MessageValue ReadFault) (answer : Result (Took A) Refused) → arrival_in (bag o T) event ≡ Some (arriving from bytes read)
-      → IfOk answer (λ took. ServerTakes read from bytes before.core after.core armed called (clock T) took) → IfErr answer (λ why. ServerRefuses read from bytes before.core armed called why) → OnErr answer (after.core ≡ before.core)
+      → IfOk answer (λ took. ServerTakes read from bytes before.core after.core armed called (clock T) took) → IfErr answer (λ why. ServerRefuses read from bytes before.core armed called (clock T) why) → OnErr answer (after.core ≡ before.core)
       → (IsErrOf answer refuseds.OutOfMemory → HasHead bytes)
       → Received o T (step (server_line node (length (bag o T)) answer)) (arriving from bytes read) node after (replies (address_at o.config node) from answer)
   received {A = A} legal (Ok (Registers m)) (Ok (Accepted router key nonce reply)) arrives takes refusal same head = accepted {A = A} m router key nonce reply arrives takes

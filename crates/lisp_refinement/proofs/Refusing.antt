@@ -14,22 +14,26 @@ use Rattle.lisp_nonces.specs.Store.{StoreState}
 use Rattle.lisp_nonces.specs.declared.pair.Pair.{Pair}
 use Rattle.lisp_admission.specs.declared.refused.Refused.{Refused}
 use Rattle.lisp_admission.specs.declared.refused.Refused.TheVariants as refuseds
-use Rattle.lisp_admission.specs.Checks.{secret_under, most_jump_at}
+use Rattle.lisp_policy.specs.declared.full.Full.{Full}
+use Rattle.lisp_lookup.specs.Growth.{Fits, IsFull, live_rows, live_rows_with}
+use Rattle.lisp_lookup.proofs.GrowthLaws.{fits_alike, full_alike}
+use Rattle.lisp_admission.specs.Checks.{secret_under, most_jump_at, most_routers_at, most_rows_at}
+use Rattle.lisp_admission.specs.AcceptedRows.{row_values}
 use Rattle.lisp_admission.specs.Nonces.{IsFar, IsNear, KeepsLists, HasCause, IsBase as IsStoreBase, IsFresh as IsFreshFor}
 use Rattle.lisp_admission.specs.Pairs.{pair_of}
 use Rattle.lisp_server.specs.Checks.{Passed, register_checked, RefusesAck as RefusesAckOf, answers_under}
 use Rattle.lisp_server.specs.LastNonces.{nonce_at}
-use Rattle.lisp_server.specs.Receiving.{ServerRefuses, RefusesRegister}
-use Rattle.lisp_model.specs.Trace.{Step, Opening, shown_store}
+use Rattle.lisp_server.specs.Receiving.{ServerRefuses, RefusesRegister, HasSpace as HasSpaceOf, LacksSpace as LacksSpaceOf}
+use Rattle.lisp_model.specs.Trace.{Step, Opening, shown_store, clock}
 use Rattle.lisp_model.specs.Timers.{Notice}
-use Rattle.lisp_model.specs.Bag.{Arrival}
+use Rattle.lisp_model.specs.Bag.{Arrival, since_start}
 use Rattle.lisp_model.specs.Legal.{LegalTrace}
 use Rattle.lisp_model.specs.Context.{Context, Same, HasCause as HasCauseIn}
-use Rattle.lisp_model.specs.Receiving.{last_in, Admits, IsFresh, RefusesAck, FailsNotify, RefusesMessage}
+use Rattle.lisp_model.specs.Receiving.{last_in, Admits, IsFresh, HasSpace, LacksSpace, rows_before, rows_with, RefusesAck, FailsNotify, RefusesMessage}
 use Rattle.lisp_refinement.specs.World.{ServerNodeState}
 use Rattle.lisp_refinement.specs.Stands.{shown_by, Shows, StandsForServer}
 use Rattle.lisp_refinement.proofs.Acting.{by_fate}
-use Rattle.lisp_refinement.proofs.Acceptances.{not_notices}
+use Rattle.lisp_refinement.proofs.Acceptances.{not_notices, held_with}
 use Rattle.lisp_refinement.proofs.Checked.{is_passed, is_failed, base_in}
 use Rattle.lisp_refinement.proofs.StandingNotices.{awaited, none_awaited, signed_same}
 
@@ -79,6 +83,18 @@ module _ (o : Opening) (T : List Step) (node : ℕ) (before : ServerNodeState) (
   }
 
   module _ (from : Addr) (bytes : List ℕ) where
+    -- whether its site has space for a Map-Register is as the Map-Server reckons it
+    module _ (read : Result MessageValue ReadFault) (m : MapRegisterValue) where
+      pub space_in : HasSpaceOf before.core m from (clock T) → HasSpace turn (arriving from bytes read) m
+      space_in space = fits_alike (most_routers_at o.config.sites m.site) (most_rows_at o.config.sites m.site) m.site (live_rows before.core.rows (clock T)) (live_rows_with before.core.rows (row_values m from (clock T)) (clock T))
+          (rows_before turn) (rows_with turn (arriving from bytes read) m) part.rows (λ router eid. held_with m from (clock T) (since_start o T node) router eid before.core.rows (part.rows router eid))
+          (subst (λ (sites : List SiteValue). Fits (most_routers_at sites m.site) (most_rows_at sites m.site) m.site (live_rows before.core.rows (clock T)) (live_rows_with before.core.rows (row_values m from (clock T)) (clock T))) part.sites space)
+
+      lacks_in : (full : Full) → LacksSpaceOf before.core m from (clock T) full → LacksSpace turn (arriving from bytes read) m full
+      lacks_in full lacks = full_alike (most_routers_at o.config.sites m.site) (most_rows_at o.config.sites m.site) m.site (live_rows before.core.rows (clock T)) (live_rows_with before.core.rows (row_values m from (clock T)) (clock T))
+          (rows_before turn) (rows_with turn (arriving from bytes read) m) full part.rows (λ router eid. held_with m from (clock T) (since_start o T node) router eid before.core.rows (part.rows router eid))
+          (subst (λ (sites : List SiteValue). IsFull (most_routers_at sites m.site) (most_rows_at sites m.site) m.site (live_rows before.core.rows (clock T)) (live_rows_with before.core.rows (row_values m from (clock T)) (clock T)) full) part.sites lacks)
+
     module _ (m : MapRegisterValue) where
       abbrev check : Result Passed Refused
       check = register_checked before.core.sites from bytes m
@@ -98,7 +114,7 @@ module _ (o : Opening) (T : List Step) (node : ℕ) (before : ServerNodeState) (
       fails why e = (subst (λ (sites : List SiteValue). secret_under sites from bytes m ≡ Err why) part.sites (is_failed before.core.sites from bytes m why e.0), same_store e.1)
 
       -- a Map-Register is refused for the first reason that applies
-      refuses_register : (why : Refused) → RefusesRegister check before.core armed called why → (why ≡ refuseds.OutOfMemory → HasHead bytes) → RefusesMessage turn (arriving from bytes (Ok (Registers m))) why
+      refuses_register : (why : Refused) → RefusesRegister check before.core armed called from (clock T) why → (why ≡ refuseds.OutOfMemory → HasHead bytes) → RefusesMessage turn (arriving from bytes (Ok (Registers m))) why
       refuses_register (refuseds.StoreLoad fault) r head = record {
         message = r.passed.message;
         admits = admits r.passed r.checks;
@@ -121,11 +137,19 @@ module _ (o : Opening) (T : List Step) (node : ℕ) (before : ServerNodeState) (
         far = subst (λ (sites : List SiteValue). IsFar (most_jump_at sites r.passed.message.site) saved r.passed.message.nonce) part.sites r.far;
         same = same_lists r.same;
       }
+      refuses_register (refuseds.Full full) r head = record {
+        message = r.passed.message;
+        admits = admits r.passed r.checks;
+        fresh = is_fresh r.passed.message r.fresh;
+        lacks = lacks_in (Ok (Registers m)) r.passed.message full r.lacks;
+        same = same_lists r.same;
+      }
       refuses_register refuseds.OutOfMemory r head = (head refl, inr (record { message = r.passed.message; admits = admits r.passed r.checks; fresh = is_fresh r.passed.message r.fresh }), same_lists r.same)
       refuses_register (refuseds.StoreSave fault) r head = record {
         message = r.passed.message;
         admits = admits r.passed r.checks;
         fresh = is_fresh r.passed.message r.fresh;
+        space = space_in (Ok (Registers m)) r.passed.message r.space;
         fails = record {
           here = subst (λ (k : Kept). InDoubt (kept_at k (pair_of r.passed.message)) (kept_at called.kept (pair_of r.passed.message)) r.passed.message.nonce) shows.kept (r.doubt shows.honest);
           others = subst (λ (k : Kept). SameElsewhere k called.kept (pair_of r.passed.message)) shows.kept (r.others shows.honest);
@@ -164,7 +188,7 @@ module _ (o : Opening) (T : List Step) (node : ℕ) (before : ServerNodeState) (
       refuses_notify _ r = absurd r
 
     -- any message is
-    pub refuses : LegalTrace o T → (read : Result MessageValue ReadFault) (why : Refused) → ServerRefuses read from bytes before.core armed called why → (why ≡ refuseds.OutOfMemory → HasHead bytes) → RefusesMessage turn (arriving from bytes read) why
+    pub refuses : LegalTrace o T → (read : Result MessageValue ReadFault) (why : Refused) → ServerRefuses read from bytes before.core armed called (clock T) why → (why ≡ refuseds.OutOfMemory → HasHead bytes) → RefusesMessage turn (arriving from bytes read) why
     refuses legal (Ok (Registers m)) refuseds.OutOfMemory (inl untouched) head = (head refl, inl untouched.0, same_store untouched.1)
     refuses legal (Ok (Registers m)) refuseds.OutOfMemory (inr r) head = refuses_register m refuseds.OutOfMemory r head
     refuses legal (Ok (Notifies m)) refuseds.OutOfMemory (inl untouched) head = (head refl, inl untouched.0, same_store untouched.1)
@@ -176,9 +200,11 @@ module _ (o : Opening) (T : List Step) (node : ℕ) (before : ServerNodeState) (
     refuses legal (Ok (Notifies m)) (refuseds.StoreSave fault) r head = absurd r.0
     refuses legal (Ok (Notifies m)) (refuseds.Replay saved) r head = absurd r.0
     refuses legal (Ok (Notifies m)) (refuseds.Jump saved) r head = absurd r.0
+    refuses legal (Ok (Notifies m)) (refuseds.Full full) r head = absurd r.0
     refuses legal (Ok (Notifies m)) why r head = (refuses_notify legal m why r.0, same_store r.1)
     refuses legal (Err fault) (refuseds.StoreLoad other) r head = absurd (let clash : refuseds.StoreLoad other ≡ refuseds.Read fault = r.0 in cc)
     refuses legal (Err fault) (refuseds.StoreSave other) r head = absurd (let clash : refuseds.StoreSave other ≡ refuseds.Read fault = r.0 in cc)
     refuses legal (Err fault) (refuseds.Replay saved) r head = absurd (let clash : refuseds.Replay saved ≡ refuseds.Read fault = r.0 in cc)
     refuses legal (Err fault) (refuseds.Jump saved) r head = absurd (let clash : refuseds.Jump saved ≡ refuseds.Read fault = r.0 in cc)
+    refuses legal (Err fault) (refuseds.Full full) r head = absurd (let clash : refuseds.Full full ≡ refuseds.Read fault = r.0 in cc)
     refuses legal (Err fault) why r head = (r.0, same_store r.1)

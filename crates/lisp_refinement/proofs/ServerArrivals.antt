@@ -1,7 +1,7 @@
 -- The network stands for the trace with one step more after something arrives at a Map-Server, and after a datagram that
 -- is for no node.
 use Rattle.std.proofs.Common.{◌≡◌, ℕ, ◌+◌, Bool, true, false, List, ◌∷◌, length, Some, None, Ok, Err, refl, sym, ap, subst, ◌∙◌, arith}
-use Rattle.std.specs.Prelude.{nat_le, nat_lt, position, slice_get, Result, IfOk}
+use Rattle.std.specs.Prelude.{nat_le, nat_lt, position, slice_get, Result, IfOk, IfErr}
 use Rattle.std.specs.Option.{option_map}
 use Rattle.std.proofs.lemmas.Bool.{and_parts, ltb-true}
 use Rattle.std.proofs.lemmas.Option.{slice_get_within}
@@ -14,7 +14,7 @@ use Rattle.lisp_nonces.specs.declared.fate.Fate.TheVariants.{Done}
 use Rattle.lisp_admission.specs.declared.refused.Refused.{Refused}
 use Rattle.lisp_server.specs.declared.took.Took.{Took}
 use Rattle.lisp_server.specs.declared.took.Took.TheVariants.{Accepted, NoticeDone}
-use Rattle.lisp_server.specs.Receiving.{ServerTakes}
+use Rattle.lisp_server.specs.Receiving.{ServerTakes, ServerRefuses}
 use Rattle.lisp_model.specs.declared.event.Event.TheVariants as events
 use Rattle.lisp_model.specs.declared.line.Line.{Line}
 use Rattle.lisp_model.specs.declared.line.Line.TheVariants as lines
@@ -91,7 +91,8 @@ module _ (A : Type 0) (old new : WorldState) (node : ℕ) (fate : Fate) (from : 
   leaves event fated timeless arrives = received o T node (server_is old o T stand node at.acts.before at.acts.was) at.acts.before at.acts.after (stand.servers node at.acts.before at.acts.was) at.receives.started
       at.receives.armed at.receives.called uses.armed_shows event (λ obeys. uses.fated obeys ∙ sym fated) timeless from bytes stand.steps.legal (message_at bytes) at.answer arrives
       (subst (λ (now : ℕ). IfOk at.answer (λ took. ServerTakes (message_at bytes) from bytes at.acts.before.core at.acts.after.core at.receives.armed at.receives.called now took)) stand.bag.moment at.receives.taken)
-      at.receives.refused at.receives.err at.receives.head
+      (subst (λ (now : ℕ). IfErr at.answer (λ why. ServerRefuses (message_at bytes) from bytes at.acts.before.core at.receives.armed at.receives.called now why)) stand.bag.moment at.receives.refused)
+      at.receives.err at.receives.head
 
   -- the network stands for the trace with that step
   goes_on : (event : EventValue) → fate_of event ≡ fate → is_timeless event ≡ true → arrival_in (bag o T) event ≡ Some (junk_arrival from bytes)

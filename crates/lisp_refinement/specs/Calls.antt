@@ -62,7 +62,7 @@ pub record NodeReceives {A : Type 0} (old new : ServerNodeState) (fate : Fate) (
   pub called : StoreState
   pub uses : UsesStore old.store fate armed called new.store
   pub taken : IfOk answer (λ took. ServerTakes (message_at bytes) from bytes old.core new.core armed called now took)
-  pub refused : IfErr answer (λ why. ServerRefuses (message_at bytes) from bytes old.core armed called why)
+  pub refused : IfErr answer (λ why. ServerRefuses (message_at bytes) from bytes old.core armed called now why)
   pub err : OnErr answer (new.core ≡ old.core)
   pub started : new.started ≡ old.started
   pub head : IsErrOf answer refuseds.OutOfMemory → HasHead bytes

@@ -5,7 +5,7 @@ use Rattle.lisp_refusals.specs.declared.row.Section.{Section}
 
 -- refusals of a message
 abbrev pub refusals_of_a_message : List ℕ
-refusals_of_a_message = 50 ∷ 51 ∷ 52 ∷ 53 ∷ 54 ∷ 55 ∷ 56 ∷ 57 ∷ 58 ∷ 59 ∷ 60 ∷ 61 ∷ 69 ∷ 136 ∷ 137 ∷ 138 ∷ 94 ∷ []
+refusals_of_a_message = 50 ∷ 51 ∷ 52 ∷ 53 ∷ 54 ∷ 55 ∷ 56 ∷ 57 ∷ 58 ∷ 59 ∷ 60 ∷ 61 ∷ 69 ∷ 136 ∷ 137 ∷ 138 ∷ 139 ∷ 140 ∷ 94 ∷ []
 
 -- faults of a notice
 abbrev pub faults_of_a_notice : List ℕ

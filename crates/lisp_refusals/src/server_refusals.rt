@@ -11,7 +11,7 @@ Map-Server. It gives the first that applies, in this order:
 - for any message, 50;
 - for a Map-Notify, then 61;
 - for a Map-Notify-Ack, then 60, 53;
-- for a Map-Register, then 51, 52, 53, 69, 136, 54, 55, 137, 56, 57, 138, 58, 59.
+- for a Map-Register, then 51, 52, 53, 69, 136, 54, 55, 137, 56, 57, 138, 58, 139, 140, 59.
 
 Out of memory while reading is 58 too, and comes before any check. A refusal leaves rows, nonces and notices in memory
 unchanged.",
@@ -143,7 +143,23 @@ unchanged.",
             name: "Jump",
             meaning: "the nonce is further above N, the last one of that router under that key, than `most_jump` of the site",
             status: "",
-            remedy: "if the router lost no nonces, somebody else uses its key: give it a new one. If it did, give it a new key, or raise `most_jump`",
+            remedy: "if the Map-Server took nothing from the router for long, raise `most_jump` until it did, or give the router a new key. Else somebody else uses its key: give the site a new one",
+        },
+        Row {
+            number: 139,
+            carried: "",
+            name: "Routers",
+            meaning: "the router has no live row of the site, and as many other routers as may have some (`most_routers`)",
+            status: "",
+            remedy: "find out who uses the site's key, or raise `most_routers`; routers that are gone count until their rows expire",
+        },
+        Row {
+            number: 140,
+            carried: "",
+            name: "Rows",
+            meaning: "the message brings a new row, and the site would have more live rows than it may (`most_rows`)",
+            status: "",
+            remedy: "find out who uses the site's key, or raise `most_rows`; rows of routers that are gone count until they expire",
         },
         Row {
             number: 94,

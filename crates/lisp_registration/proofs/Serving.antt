@@ -16,14 +16,14 @@ use Rattle.lisp_registration.proofs.Whole.{reply_is_whole, room_for_source}
 
 -- an answer is what the Map-Server makes of it
 receives : {A : Type 0} (kept : Option ℕ) (from : Addr) (bytes : List ℕ) (now : ℕ) (old new : ServerState) (answer : Result (Took A) Refused)
-    → IfOk answer (TakesKept kept from bytes old new now) → IfErr answer (RefusesKept kept from bytes old) → IfErr answer IsOfNoStore → OnErr answer (new ≡ old) → ReceivesKept kept from bytes now old new answer
+    → IfOk answer (TakesKept kept from bytes old new now) → IfErr answer (RefusesKept kept from bytes old now) → IfErr answer IsOfNoStore → OnErr answer (new ≡ old) → ReceivesKept kept from bytes now old new answer
 receives kept from bytes now old new (Ok took) takes refuses storeless same = takes
 receives kept from bytes now old new (Err why) takes refuses storeless same = (refuses, storeless, same)
 
 module _ (kept : Option ℕ) (from : PlainAddress) (a : Addr) (bytes buffer : List ℕ) (now : ℕ) (held : Option HostedServer) (hosted : HostedServer) (received : PlainReceived) (after : ServerState) (answer : Result (Took Global) Refused) where
   -- a datagram that the Map-Server received
   pub is_received : (left : Left) → source_of from bytes buffer ≡ Ok a → held ≡ Some hosted
-      → IfOk answer (TakesKept kept a bytes hosted.server after now) → IfErr answer (RefusesKept kept a bytes hosted.server) → IfErr answer IsOfNoStore → OnErr answer (after ≡ hosted.server)
+      → IfOk answer (TakesKept kept a bytes hosted.server after now) → IfErr answer (RefusesKept kept a bytes hosted.server now) → IfErr answer IsOfNoStore → OnErr answer (after ≡ hosted.server)
       → IsBytes bytes → left ≡ ((told_received answer buffer received).0, (Some (record { server = after }), (told_received answer buffer received).1))
       → LeavesFrom kept (source_of from bytes buffer) bytes now held buffer received left
   is_received left named holds takes refuses storeless same fits told =

@@ -79,7 +79,7 @@ source_of from bytes buffer = or_fault Field (address_in from) >>= λ a. if nat_
 
 -- an answer is what a Map-Server makes of the datagram, over the nonce that was passed; a refusal is not of a store, and changes nothing
 abbrev pub ReceivesKept : {A : Type 0} → Option ℕ → Addr → List ℕ → ℕ → ServerState → ServerState → Result (Took A) Refused → Type 0
-ReceivesKept kept from bytes now old new answer = MatchResult answer (λ took. TakesKept kept from bytes old new now took) (λ why. RefusesKept kept from bytes old why × IsOfNoStore why × (new ≡ old))
+ReceivesKept kept from bytes now old new answer = MatchResult answer (λ took. TakesKept kept from bytes old new now took) (λ why. RefusesKept kept from bytes old now why × IsOfNoStore why × (new ≡ old))
 
 -- all that a call leaves
 abbrev pub Left : Type 0

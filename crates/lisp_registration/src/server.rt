@@ -76,7 +76,7 @@ pub extern "C" fn lisp_registration_server_pair(alloc: Global, bytes: &[u8], pai
 /// the Map-Server again (RFC 9301 sections 5.6, 5.7 and 8.2). 0 is done; else all is as it was: `Field` 103 where the family
 /// of the address is neither IPv4 nor IPv6, `Room` 102 where the buffer has less room than the datagram has bytes, `Null` 100
 /// where the handle holds none, `Read` 50; of a Map-Register `UnknownSite` 51, `UnknownKey` 52, `BadAuth` 53, `Router` 69, `Source`
-/// 136, `MergeAsked` 54, `NotAllowed` 55, `Ttl` 137, `Replay` 57, `Jump` 138; of a Map-Notify-Ack `NoNotice` 60, `BadAuth` 53; of a
+/// 136, `MergeAsked` 54, `NotAllowed` 55, `Ttl` 137, `Replay` 57, `Jump` 138, `Routers` 139, `Rows` 140; of a Map-Notify-Ack `NoNotice` 60, `BadAuth` 53; of a
 /// Map-Notify `NotMine` 61. `OutOfMemory` 58 may come in place of each answer from `Read` on, also in place of 0.
 #[unsafe(no_mangle)]
 pub extern "C" fn lisp_registration_server_receive(

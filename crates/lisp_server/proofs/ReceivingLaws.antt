@@ -39,7 +39,8 @@ use Rattle.lisp_admission.specs.Checks.{secret_under, admitted, check, check_all
 use Rattle.lisp_admission.specs.Checks.{reply_to}
 use Rattle.lisp_server.specs.Checks.{Passed, register_checked, Acknowledges, RefusesAck, reply_of}
 use Rattle.lisp_admission.specs.Nonces.{IsFresh, KeepsLists, Unasked, HasCause, FailsToSave, Stops, NotKept}
-use Rattle.lisp_server.specs.Receiving.{Accepts, ServerTakes, OutOfRoom, RefusesRegister, RefusesRead, ServerRefuses, SaveFailed}
+use Rattle.lisp_server.specs.ReceivedRegister.{LetsIn, KeepsOut}
+use Rattle.lisp_server.specs.Receiving.{HasSpace, Accepts, ServerTakes, OutOfRoom, RefusesRegister, RefusesRead, ServerRefuses, SaveFailed}
 
 abbrev register_passed : MapRegisterValue → List ℕ → Result Passed Refused
 register_passed m secret = Ok (record { message = m; secret = secret })
@@ -80,6 +81,7 @@ pub record Saved {A : Type 0} (sites : List SiteValue) (bytes : List ℕ) (m : M
   pub checks : secret_under sites from bytes m ≡ Ok secret
   pub fits : IsMapNotify (reply_to m)
   pub fresh : IsFresh (most_jump_at sites m.site) (nonce_at old.nonces.nonces pair) before pair nonce
+  pub space : HasSpace (state_of sites old) m from now
   pub loaded : KeepsLists before between
   pub went : Proceeds before between
   pub same : SameTables old mid
@@ -100,6 +102,7 @@ module _ {A : Type 0} {sites : List SiteValue} {bytes : List ℕ} {m : MapRegist
     checks = ap (λ r. r >>= λ (secret : List ℕ). register_passed m secret) s.checks;
     fits = s.fits;
     fresh = s.fresh;
+    space = s.space;
     answer = ap (λ (r : Option (List ℕ)). Accepted (router_of m) m.key_id m.nonce r) s.replies;
     rows = subst (λ (was : List RowValue). Sets was new.rows.rows (row_values m from now)) s.same.rows (subst (λ (given : List RowValue). Sets mid.rows.rows new.rows.rows given) s.brings s.sets);
     nonces = subst (λ (was : Nonces). SetsNonce was new.nonces.nonces (pair_of m) m.nonce) s.same.nonces s.nonces;
@@ -119,21 +122,23 @@ pub cause_later : (fault : StoreFault) (a b c : StoreState) → a.faults ≤ b.f
 cause_later fault a b c up cause other = rose_later a b c up (cause other)
 
 -- what is known where the save failed, for a pair and nonce
-pub record Unsaved {A : Type 0} (sites : List SiteValue) (from : Addr) (bytes : List ℕ) (m : MapRegisterValue) (old : Tables A) (before between after : StoreState) (why : Refused) (pair : Pair) (nonce : ℕ) : Type 0 where
+pub record Unsaved {A : Type 0} (sites : List SiteValue) (from : Addr) (now : ℕ) (bytes : List ℕ) (m : MapRegisterValue) (old : Tables A) (before between after : StoreState) (why : Refused) (pair : Pair) (nonce : ℕ) : Type 0 where
   pub secret : List ℕ
   pub checks : secret_under sites from bytes m ≡ Ok secret
   pub fresh : IsFresh (most_jump_at sites m.site) (nonce_at old.nonces.nonces pair) before pair nonce
+  pub space : HasSpace (state_of sites old) m from now
   pub loaded : KeepsLists before between
   pub went : Proceeds before between
   pub not_kept : NotKept between after pair nonce why
   pub others : IsTrue between.is_honest → SameElsewhere between.kept after.kept pair
 
-module _ {A : Type 0} {sites : List SiteValue} {from : Addr} {bytes : List ℕ} {m : MapRegisterValue} {old : Tables A} {before between after : StoreState} where
-  save_failed : (fault : StoreFault) → Unsaved sites from bytes m old before between after (refusals.StoreSave fault) (pair_of m) m.nonce → SaveFailed (register_checked sites from bytes m) (state_of sites old) before after fault
+module _ {A : Type 0} {sites : List SiteValue} {from : Addr} {now : ℕ} {bytes : List ℕ} {m : MapRegisterValue} {old : Tables A} {before between after : StoreState} where
+  save_failed : (fault : StoreFault) → Unsaved sites from now bytes m old before between after (refusals.StoreSave fault) (pair_of m) m.nonce → SaveFailed (register_checked sites from bytes m) (state_of sites old) before after from now fault
   save_failed fault s = record {
     passed = record { message = m; secret = s.secret };
     checks = ap (λ r. r >>= λ (secret : List ℕ). register_passed m secret) s.checks;
     fresh = s.fresh;
+    space = s.space;
     cause = cause_later fault before between after s.went.count s.not_kept.0;
     sound = s.not_kept.1;
     memory = λ want honest. ap (λ (x : StoreState). x.kept) (s.not_kept.3 want) ∙ s.loaded honest;
@@ -142,7 +147,7 @@ module _ {A : Type 0} {sites : List SiteValue} {from : Addr} {bytes : List ℕ} 
     doubted = fails_to_save s.went fault after (pair_of m) m.nonce s.loaded s.not_kept.4;
   }
 
-  unsaved_own : (why : Refused) → Unsaved sites from bytes m old before between after why (pair_of m) m.nonce → RefusesRegister (register_checked sites from bytes m) (state_of sites old) before after why
+  unsaved_own : (why : Refused) → Unsaved sites from now bytes m old before between after why (pair_of m) m.nonce → RefusesRegister (register_checked sites from bytes m) (state_of sites old) before after from now why
   unsaved_own (refusals.StoreSave fault) s = save_failed fault s
   unsaved_own (refusals.Read _) s = absurd s.not_kept
   unsaved_own refusals.NotMine s = absurd s.not_kept
@@ -155,11 +160,12 @@ module _ {A : Type 0} {sites : List SiteValue} {from : Addr} {bytes : List ℕ} 
   unsaved_own (refusals.StoreLoad _) s = absurd s.not_kept
   unsaved_own (refusals.Replay _) s = absurd s.not_kept
   unsaved_own (refusals.Jump _) s = absurd s.not_kept
+  unsaved_own (refusals.Full _) s = absurd s.not_kept
   unsaved_own refusals.OutOfMemory s = absurd s.not_kept
   unsaved_own refusals.NoNotice s = absurd s.not_kept
 
-  pub save_fails : (why : Refused) (pair : Pair) (nonce : ℕ) → pair ≡ pair_of m → nonce ≡ m.nonce → Unsaved sites from bytes m old before between after why pair nonce → RefusesRegister (register_checked sites from bytes m) (state_of sites old) before after why
-  save_fails why pair nonce p n = subst (λ (x : Pair × ℕ). Unsaved sites from bytes m old before between after why x.0 x.1 → RefusesRegister (register_checked sites from bytes m) (state_of sites old) before after why) (λ i. (sym p i, sym n i)) (unsaved_own why)
+  pub save_fails : (why : Refused) (pair : Pair) (nonce : ℕ) → pair ≡ pair_of m → nonce ≡ m.nonce → Unsaved sites from now bytes m old before between after why pair nonce → RefusesRegister (register_checked sites from bytes m) (state_of sites old) before after from now why
+  save_fails why pair nonce p n = subst (λ (x : Pair × ℕ). Unsaved sites from now bytes m old before between after why x.0 x.1 → RefusesRegister (register_checked sites from bytes m) (state_of sites old) before after from now why) (λ i. (sym p i, sym n i)) (unsaved_own why)
 
 -- the refusals that the checks of a Map-Register give
 abbrev IsCheck : Refused → Type 0
@@ -211,34 +217,35 @@ only_of : {X : Type 0} (r : Result X Refused) (e : Refused) → OnlyChecks r →
 unfolding OnlyChecks
 only_of r e only is = subst (λ (x : Result _ Refused). OnlyChecks x) is only
 
-refuses_check : (e : Refused) (c : Result Passed Refused) (old : ServerState) (before : StoreState) → IsCheck e → c ≡ Err e → RefusesRegister c old before before e
-refuses_check refusals.UnknownSite c old before is at = (at, refl)
-refuses_check refusals.UnknownKey c old before is at = (at, refl)
-refuses_check refusals.BadAuth c old before is at = (at, refl)
-refuses_check refusals.MergeAsked c old before is at = (at, refl)
-refuses_check (refusals.NotAllowed _) c old before is at = (at, refl)
-refuses_check (refusals.Limited _) c old before is at = (at, refl)
-refuses_check (refusals.Read _) c old before is at = absurd is
-refuses_check refusals.NotMine c old before is at = absurd is
-refuses_check (refusals.StoreLoad _) c old before is at = absurd is
-refuses_check (refusals.Replay _) c old before is at = absurd is
-refuses_check (refusals.Jump _) c old before is at = absurd is
-refuses_check refusals.OutOfMemory c old before is at = absurd is
-refuses_check (refusals.StoreSave _) c old before is at = absurd is
-refuses_check refusals.NoNotice c old before is at = absurd is
+refuses_check : (e : Refused) (c : Result Passed Refused) (old : ServerState) (before : StoreState) (from : Addr) (now : ℕ) → IsCheck e → c ≡ Err e → RefusesRegister c old before before from now e
+refuses_check refusals.UnknownSite c old before from now is at = (at, refl)
+refuses_check refusals.UnknownKey c old before from now is at = (at, refl)
+refuses_check refusals.BadAuth c old before from now is at = (at, refl)
+refuses_check refusals.MergeAsked c old before from now is at = (at, refl)
+refuses_check (refusals.NotAllowed _) c old before from now is at = (at, refl)
+refuses_check (refusals.Limited _) c old before from now is at = (at, refl)
+refuses_check (refusals.Read _) c old before from now is at = absurd is
+refuses_check refusals.NotMine c old before from now is at = absurd is
+refuses_check (refusals.StoreLoad _) c old before from now is at = absurd is
+refuses_check (refusals.Replay _) c old before from now is at = absurd is
+refuses_check (refusals.Jump _) c old before from now is at = absurd is
+refuses_check (refusals.Full _) c old before from now is at = absurd is
+refuses_check refusals.OutOfMemory c old before from now is at = absurd is
+refuses_check (refusals.StoreSave _) c old before from now is at = absurd is
+refuses_check refusals.NoNotice c old before from now is at = absurd is
 
 -- a Map-Register fails a check
-pub check_fails : (sites : List SiteValue) (from : Addr) (bytes : List ℕ) (m : MapRegisterValue) (e : Refused) (old : ServerState) (before : StoreState) → secret_under sites from bytes m ≡ Err e → RefusesRegister (register_checked sites from bytes m) old before before e
-check_fails sites from bytes m e old before at = refuses_check e (register_checked sites from bytes m) old before (only_of (secret_under sites from bytes m) e (secret_only sites from bytes m) at) (ap (λ r. r >>= λ (secret : List ℕ). register_passed m secret) at)
+pub check_fails : (sites : List SiteValue) (from : Addr) (now : ℕ) (bytes : List ℕ) (m : MapRegisterValue) (e : Refused) (old : ServerState) (before : StoreState) → secret_under sites from bytes m ≡ Err e → RefusesRegister (register_checked sites from bytes m) old before before from now e
+check_fails sites from now bytes m e old before at = refuses_check e (register_checked sites from bytes m) old before from now (only_of (secret_under sites from bytes m) e (secret_only sites from bytes m) at) (ap (λ r. r >>= λ (secret : List ℕ). register_passed m secret) at)
 
 -- the nonce isn't let through
-pub stops : (sites : List SiteValue) (from : Addr) (bytes : List ℕ) (m : MapRegisterValue) (secret : List ℕ) (old : ServerState) (before after : StoreState) (pair : Pair) (nonce : ℕ) (e : Refused) → pair ≡ pair_of m → nonce ≡ m.nonce → secret_under sites from bytes m ≡ Ok secret → KeepsLists before after → Unasked (nonce_at old.nonces pair) before after → Stops (most_jump_at old.sites m.site) (nonce_at old.nonces pair) before after pair nonce e → RefusesRegister (register_checked sites from bytes m) old before after e
-stops sites from bytes m secret old before after pair nonce e p n checks same = subst (λ (x : Pair × ℕ). Unasked (nonce_at old.nonces x.0) before after → Stops (most_jump_at old.sites m.site) (nonce_at old.nonces x.0) before after x.0 x.1 e → RefusesRegister (register_checked sites from bytes m) old before after e) (λ i. (sym p i, sym n i)) (own e)
+pub stops : (sites : List SiteValue) (from : Addr) (now : ℕ) (bytes : List ℕ) (m : MapRegisterValue) (secret : List ℕ) (old : ServerState) (before after : StoreState) (pair : Pair) (nonce : ℕ) (e : Refused) → pair ≡ pair_of m → nonce ≡ m.nonce → secret_under sites from bytes m ≡ Ok secret → KeepsLists before after → Unasked (nonce_at old.nonces pair) before after → Stops (most_jump_at old.sites m.site) (nonce_at old.nonces pair) before after pair nonce e → RefusesRegister (register_checked sites from bytes m) old before after from now e
+stops sites from now bytes m secret old before after pair nonce e p n checks same = subst (λ (x : Pair × ℕ). Unasked (nonce_at old.nonces x.0) before after → Stops (most_jump_at old.sites m.site) (nonce_at old.nonces x.0) before after x.0 x.1 e → RefusesRegister (register_checked sites from bytes m) old before after from now e) (λ i. (sym p i, sym n i)) (own e)
   where
     passes : register_checked sites from bytes m ≡ register_passed m secret
     passes = ap (λ r. r >>= λ (s : List ℕ). register_passed m s) checks
 
-    own : (e : Refused) → Unasked (nonce_at old.nonces (pair_of m)) before after → Stops (most_jump_at old.sites m.site) (nonce_at old.nonces (pair_of m)) before after (pair_of m) m.nonce e → RefusesRegister (register_checked sites from bytes m) old before after e
+    own : (e : Refused) → Unasked (nonce_at old.nonces (pair_of m)) before after → Stops (most_jump_at old.sites m.site) (nonce_at old.nonces (pair_of m)) before after (pair_of m) m.nonce e → RefusesRegister (register_checked sites from bytes m) old before after from now e
     own (refusals.StoreLoad fault) unasked (unknown, cause, unchanged, armed) = record { passed = record { message = m; secret = secret }; checks = passes; unknown = unknown; cause = cause; memory = unchanged; same = same; armed = armed }
     own (refusals.Replay saved) unasked (base, stale) = record { passed = record { message = m; secret = secret }; checks = passes; base = base; stale = stale; unasked = unasked; same = same }
     own (refusals.Jump saved) unasked (base, far) = record { passed = record { message = m; secret = secret }; checks = passes; base = base; far = far; unasked = unasked; same = same }
@@ -250,6 +257,7 @@ stops sites from bytes m secret old before after pair nonce e p n checks same = 
     own refusals.MergeAsked unasked never = absurd never
     own (refusals.NotAllowed _) unasked never = absurd never
     own (refusals.Limited _) unasked never = absurd never
+    own (refusals.Full _) unasked never = absurd never
     own refusals.OutOfMemory unasked never = absurd never
     own (refusals.StoreSave _) unasked never = absurd never
     own refusals.NoNotice unasked never = absurd never
@@ -264,22 +272,58 @@ no_room sites from bytes m secret old before after pair nonce p n checks fresh u
   same = same;
 }
 
+-- the nonce was let through, and the site has no space
+module _ (sites : List SiteValue) (from : Addr) (now : ℕ) (bytes : List ℕ) (m : MapRegisterValue) (secret : List ℕ) (old : ServerState) (before after : StoreState) (pair : Pair) (nonce : ℕ) (p : pair ≡ pair_of m) (n : nonce ≡ m.nonce) (checks : secret_under sites from bytes m ≡ Ok secret)
+    (fresh : IsFresh (most_jump_at old.sites m.site) (nonce_at old.nonces pair) before pair nonce) (unasked : Unasked (nonce_at old.nonces pair) before after) (same : KeepsLists before after) where
+  pub overflows : (why : Refused) → KeepsOut old.sites old.rows (row_values m from now) m.site now why → RefusesRegister (register_checked sites from bytes m) old before after from now why
+  overflows (refusals.Full full) lacks = record {
+    passed = record { message = m; secret = secret };
+    checks = ap (λ r. r >>= λ (s : List ℕ). register_passed m s) checks;
+    fresh = subst (λ (x : Pair × ℕ). IsFresh (most_jump_at old.sites m.site) (nonce_at old.nonces x.0) before x.0 x.1) (λ i. (p i, n i)) fresh;
+    lacks = lacks;
+    unasked = subst (λ (q : Pair). Unasked (nonce_at old.nonces q) before after) p unasked;
+    same = same;
+  }
+  overflows refusals.OutOfMemory lacks = no_room sites from bytes m secret old before after pair nonce p n checks fresh unasked same
+  overflows (refusals.Read _) never = absurd never
+  overflows refusals.NotMine never = absurd never
+  overflows refusals.UnknownSite never = absurd never
+  overflows refusals.UnknownKey never = absurd never
+  overflows refusals.BadAuth never = absurd never
+  overflows refusals.MergeAsked never = absurd never
+  overflows (refusals.NotAllowed _) never = absurd never
+  overflows (refusals.Limited _) never = absurd never
+  overflows (refusals.StoreLoad _) never = absurd never
+  overflows (refusals.Replay _) never = absurd never
+  overflows (refusals.Jump _) never = absurd never
+  overflows (refusals.StoreSave _) never = absurd never
+  overflows refusals.NoNotice never = absurd never
+
+-- what is told of the rows of tables that only got room is told of those before
+module _ {A : Type 0} (sites : List SiteValue) (from : Addr) (now : ℕ) (m : MapRegisterValue) (old mid : Tables A) (same : SameTables old mid) (given : List RowValue) (brings : given ≡ row_values m from now) (site : ℕ) (its : site ≡ m.site) where
+  pub let_in : LetsIn sites mid.rows.rows given site now → HasSpace (state_of sites old) m from now
+  let_in = subst (λ (x : List RowValue × (List RowValue × ℕ)). LetsIn sites x.0 x.1.0 x.1.1 now) (λ i. (same.rows i, (brings i, its i)))
+
+  pub kept_out : (why : Refused) → KeepsOut sites mid.rows.rows given site now why → KeepsOut sites old.rows.rows (row_values m from now) m.site now why
+  kept_out why = subst (λ (x : List RowValue × (List RowValue × ℕ)). KeepsOut sites x.0 x.1.0 x.1.1 now why) (λ i. (same.rows i, (brings i, its i)))
+
 -- the refusal of a message that was read
-refuses_read : (said : Result MessageValue ReadFault) (from : Addr) (bytes : List ℕ) (old : ServerState) (before after : StoreState) (why : Refused) → RefusesRead said from bytes old before after why → ServerRefuses said from bytes old before after why
-refuses_read said from bytes old before after refusals.OutOfMemory r = inr r
-refuses_read said from bytes old before after refusals.UnknownSite r = r
-refuses_read said from bytes old before after refusals.UnknownKey r = r
-refuses_read said from bytes old before after refusals.BadAuth r = r
-refuses_read said from bytes old before after refusals.MergeAsked r = r
-refuses_read said from bytes old before after (refusals.NotAllowed _) r = r
-refuses_read said from bytes old before after (refusals.Limited _) r = r
-refuses_read said from bytes old before after (refusals.Read _) r = r
-refuses_read said from bytes old before after refusals.NotMine r = r
-refuses_read said from bytes old before after (refusals.StoreLoad _) r = r
-refuses_read said from bytes old before after (refusals.Replay _) r = r
-refuses_read said from bytes old before after (refusals.Jump _) r = r
-refuses_read said from bytes old before after (refusals.StoreSave _) r = r
-refuses_read said from bytes old before after refusals.NoNotice r = r
+refuses_read : (said : Result MessageValue ReadFault) (from : Addr) (bytes : List ℕ) (old : ServerState) (before after : StoreState) (now : ℕ) (why : Refused) → RefusesRead said from bytes old before after now why → ServerRefuses said from bytes old before after now why
+refuses_read said from bytes old before after now refusals.OutOfMemory r = inr r
+refuses_read said from bytes old before after now refusals.UnknownSite r = r
+refuses_read said from bytes old before after now refusals.UnknownKey r = r
+refuses_read said from bytes old before after now refusals.BadAuth r = r
+refuses_read said from bytes old before after now refusals.MergeAsked r = r
+refuses_read said from bytes old before after now (refusals.NotAllowed _) r = r
+refuses_read said from bytes old before after now (refusals.Limited _) r = r
+refuses_read said from bytes old before after now (refusals.Read _) r = r
+refuses_read said from bytes old before after now refusals.NotMine r = r
+refuses_read said from bytes old before after now (refusals.StoreLoad _) r = r
+refuses_read said from bytes old before after now (refusals.Replay _) r = r
+refuses_read said from bytes old before after now (refusals.Jump _) r = r
+refuses_read said from bytes old before after now (refusals.Full _) r = r
+refuses_read said from bytes old before after now (refusals.StoreSave _) r = r
+refuses_read said from bytes old before after now refusals.NoNotice r = r
 
 -- a Map-Register that was taken
 pub takes_register : {A : Type 0} (said : Result MessageValue ReadFault) (m : MapRegisterValue) (from : Addr) (bytes : List ℕ) (old new : ServerState) (before after : StoreState) (now : ℕ) (took : Took A) → said ≡ Ok (Registers m) → Accepts (register_checked old.sites from bytes m) old new before after from now took → ServerTakes said from bytes old new before after now took
@@ -319,23 +363,23 @@ pub err_of : {X : Type 0} (r : Result X Refused) (why : Refused) (P : Refused �
 err_of {X = X} r why P refused is = subst (λ (r : Result X Refused). IfErr r P) is refused
 
 -- what a Map-Register was refused for
-pub refuses_register : (said : Result MessageValue ReadFault) (m : MapRegisterValue) (from : Addr) (bytes : List ℕ) (old : ServerState) (before after : StoreState) (why : Refused) → said ≡ Ok (Registers m) → RefusesRegister (register_checked old.sites from bytes m) old before after why → ServerRefuses said from bytes old before after why
-refuses_register said m from bytes old before after why at r = subst (λ (s : Result MessageValue ReadFault). ServerRefuses s from bytes old before after why) (sym at) (refuses_read (Ok (Registers m)) from bytes old before after why r)
+pub refuses_register : (said : Result MessageValue ReadFault) (m : MapRegisterValue) (from : Addr) (bytes : List ℕ) (old : ServerState) (before after : StoreState) (now : ℕ) (why : Refused) → said ≡ Ok (Registers m) → RefusesRegister (register_checked old.sites from bytes m) old before after from now why → ServerRefuses said from bytes old before after now why
+refuses_register said m from bytes old before after now why at r = subst (λ (s : Result MessageValue ReadFault). ServerRefuses s from bytes old before after now why) (sym at) (refuses_read (Ok (Registers m)) from bytes old before after now why r)
 
 -- what a Map-Notify or Map-Notify-Ack was refused for
-pub refuses_notify : (said : Result MessageValue ReadFault) (m : MapNotifyValue) (from : Addr) (bytes : List ℕ) (old : ServerState) (before : StoreState) (why : Refused) → said ≡ Ok (Notifies m) → RefusesAck old.sites old.notices from bytes m why → ServerRefuses said from bytes old before before why
-refuses_notify said m from bytes old before why at r = subst (λ (s : Result MessageValue ReadFault). ServerRefuses s from bytes old before before why) (sym at) (refuses_read (Ok (Notifies m)) from bytes old before before why (r, refl))
+pub refuses_notify : (said : Result MessageValue ReadFault) (m : MapNotifyValue) (from : Addr) (bytes : List ℕ) (old : ServerState) (before : StoreState) (now : ℕ) (why : Refused) → said ≡ Ok (Notifies m) → RefusesAck old.sites old.notices from bytes m why → ServerRefuses said from bytes old before before now why
+refuses_notify said m from bytes old before now why at r = subst (λ (s : Result MessageValue ReadFault). ServerRefuses s from bytes old before before now why) (sym at) (refuses_read (Ok (Notifies m)) from bytes old before before now why (r, refl))
 
 -- bytes that can't be read
-pub read_fails : (fault : ReadFault) (said : Result MessageValue ReadFault) (from : Addr) (bytes : List ℕ) (old : ServerState) (before : StoreState) → (fault ≡ reads.OutOfMemory → HasRecords bytes) → Fails fault said → ServerRefuses said from bytes old before before (refused_of_read fault)
-read_fails reads.OutOfMemory said from bytes old before grows at = inl (grows refl, refl)
-read_fails reads.Short said from bytes old before grows at = subst (λ (s : Result MessageValue ReadFault). ServerRefuses s from bytes old before before (refusals.Read reads.Short)) (sym at) (refl, refl)
-read_fails reads.Kind said from bytes old before grows at = subst (λ (s : Result MessageValue ReadFault). ServerRefuses s from bytes old before before (refusals.Read reads.Kind)) (sym at) (refl, refl)
-read_fails reads.Algorithm said from bytes old before grows at = subst (λ (s : Result MessageValue ReadFault). ServerRefuses s from bytes old before before (refusals.Read reads.Algorithm)) (sym at) (refl, refl)
-read_fails reads.AuthLength said from bytes old before grows at = subst (λ (s : Result MessageValue ReadFault). ServerRefuses s from bytes old before before (refusals.Read reads.AuthLength)) (sym at) (refl, refl)
-read_fails reads.NoIds said from bytes old before grows at = subst (λ (s : Result MessageValue ReadFault). ServerRefuses s from bytes old before before (refusals.Read reads.NoIds)) (sym at) (refl, refl)
-read_fails reads.Trailing said from bytes old before grows at = subst (λ (s : Result MessageValue ReadFault). ServerRefuses s from bytes old before before (refusals.Read reads.Trailing)) (sym at) (refl, refl)
-read_fails (reads.Record i fault) said from bytes old before grows at = subst (λ (s : Result MessageValue ReadFault). ServerRefuses s from bytes old before before (refusals.Read (reads.Record i fault))) (sym at) (refl, refl)
+pub read_fails : (fault : ReadFault) (said : Result MessageValue ReadFault) (from : Addr) (bytes : List ℕ) (old : ServerState) (before : StoreState) (now : ℕ) → (fault ≡ reads.OutOfMemory → HasRecords bytes) → Fails fault said → ServerRefuses said from bytes old before before now (refused_of_read fault)
+read_fails reads.OutOfMemory said from bytes old before now grows at = inl (grows refl, refl)
+read_fails reads.Short said from bytes old before now grows at = subst (λ (s : Result MessageValue ReadFault). ServerRefuses s from bytes old before before now (refusals.Read reads.Short)) (sym at) (refl, refl)
+read_fails reads.Kind said from bytes old before now grows at = subst (λ (s : Result MessageValue ReadFault). ServerRefuses s from bytes old before before now (refusals.Read reads.Kind)) (sym at) (refl, refl)
+read_fails reads.Algorithm said from bytes old before now grows at = subst (λ (s : Result MessageValue ReadFault). ServerRefuses s from bytes old before before now (refusals.Read reads.Algorithm)) (sym at) (refl, refl)
+read_fails reads.AuthLength said from bytes old before now grows at = subst (λ (s : Result MessageValue ReadFault). ServerRefuses s from bytes old before before now (refusals.Read reads.AuthLength)) (sym at) (refl, refl)
+read_fails reads.NoIds said from bytes old before now grows at = subst (λ (s : Result MessageValue ReadFault). ServerRefuses s from bytes old before before now (refusals.Read reads.NoIds)) (sym at) (refl, refl)
+read_fails reads.Trailing said from bytes old before now grows at = subst (λ (s : Result MessageValue ReadFault). ServerRefuses s from bytes old before before now (refusals.Read reads.Trailing)) (sym at) (refl, refl)
+read_fails (reads.Record i fault) said from bytes old before now grows at = subst (λ (s : Result MessageValue ReadFault). ServerRefuses s from bytes old before before now (refusals.Read (reads.Record i fault))) (sym at) (refl, refl)
 
 -- the Map-Notify of a Map-Register that was read from bytes fits the format
 pub notification_fits : (bytes : List ℕ) (m : MapRegisterValue) → IsBytes bytes → Spells bytes (Registers m) → IsMapNotify (reply_to m)
@@ -394,3 +438,6 @@ module _ (A S : Type 0) where
 
   pub told_memory : A → MemoryTold refusals.OutOfMemory
   told_memory may = ((λ _. may), (λ is. absurd (subst IsOutOfMemory is tt)), (λ is. absurd (subst IsOutOfMemory is tt)))
+
+  pub told_kept_out : (sites : List SiteValue) (rows given : List RowValue) (site now : ℕ) (e : Refused) → KeepsOut sites rows given site now e → (e ≡ refusals.OutOfMemory → A) → MemoryTold e
+  told_kept_out sites rows given site now e why memory = (memory, (λ is. absurd (subst (KeepsOut sites rows given site now) is why)), (λ is. absurd (subst (KeepsOut sites rows given site now) is why)))

@@ -11,19 +11,21 @@ use Rattle.lisp_nonces.specs.declared.fault.StoreFault.TheVariants as faults
 use Rattle.lisp_nonces.specs.Kept.{kept_at, SameElsewhere, InDoubt}
 use Rattle.lisp_nonces.specs.Store.{StoreState, Rose, MaySave}
 use Rattle.lisp_admission.specs.declared.refused.Refused.{Refused}
-use Rattle.lisp_admission.specs.declared.refused.Refused.TheVariants.{Read, StoreLoad, Replay, Jump, OutOfMemory, StoreSave}
+use Rattle.lisp_admission.specs.declared.refused.Refused.TheVariants.{Read, StoreLoad, Replay, Jump, Full as FullOf, OutOfMemory, StoreSave}
 use Rattle.lisp_admission.specs.Refused.{refused_of_read}
 use Rattle.lisp_server.specs.declared.took.Took.{Took}
 use Rattle.lisp_server.specs.declared.took.Took.TheVariants.{Accepted, NoticeDone}
 use Rattle.lisp_server.specs.declared.contacts.Contact.{Contact}
 use Rattle.lisp_admission.specs.Pairs.{router_of, pair_of}
 use Rattle.lisp_admission.specs.AcceptedRows.{row_values}
+use Rattle.lisp_policy.specs.declared.full.Full.{Full}
 use Rattle.lisp_lookup.specs.Table.{Sets}
+use Rattle.lisp_lookup.specs.Growth.{LiveRows, live_rows, live_rows_with, Fits, IsFull}
 use Rattle.lisp_server.specs.LastNonces.{nonce_at, SetsNonce}
 use Rattle.lisp_server.specs.Contacts.{SetsContact}
 use Rattle.lisp_server.specs.Notices.{StandingNoticeValue, EndsNotice}
 use Rattle.lisp_server.specs.Server.{ServerState}
-use Rattle.lisp_admission.specs.Checks.{reply_to, most_jump_at}
+use Rattle.lisp_admission.specs.Checks.{reply_to, most_jump_at, most_routers_at, most_rows_at}
 use Rattle.lisp_server.specs.Checks.{Passed, register_checked, Acknowledges, RefusesAck, reply_of}
 use Rattle.lisp_admission.specs.Nonces.{IsBase, IsBelow, IsFar, IsFresh, IsNear, KeepsLists, Unasked, HasCause, FailsToLoad, FailsToSave}
 
@@ -31,18 +33,31 @@ use Rattle.lisp_admission.specs.Nonces.{IsBase, IsBelow, IsFar, IsFresh, IsNear,
 abbrev pub FollowsAnyBase : Option ℕ → Option ℕ → StoreState → Pair → ℕ → Type 0
 FollowsAnyBase jump last store pair nonce = (base : Option ℕ) → IsBase last store pair base → IsBelow base nonce × IsNear jump base nonce
 
+-- the live rows that are held at a moment once a Map-Register is accepted
+abbrev pub rows_with : ServerState → MapRegisterValue → Addr → ℕ → LiveRows
+rows_with s m from now = live_rows_with s.rows (row_values m from now) now
+
+-- the limits of its site on what is held let it in
+abbrev pub HasSpace : ServerState → MapRegisterValue → Addr → ℕ → Type 0
+HasSpace s m from now = Fits (most_routers_at s.sites m.site) (most_rows_at s.sites m.site) m.site (live_rows s.rows now) (rows_with s m from now)
+
+-- or not, and which
+abbrev pub LacksSpace : ServerState → MapRegisterValue → Addr → ℕ → Full → Type 0
+LacksSpace s m from now full = IsFull (most_routers_at s.sites m.site) (most_rows_at s.sites m.site) m.site (live_rows s.rows now) (rows_with s m from now) full
+
 -- where a router was heard last
 abbrev pub contact_of : MapRegisterValue → Addr → Contact
 contact_of m from = record { router = router_of m; key = m.key_id; from = from }
 
 -- a Map-Register was accepted: it passed all checks with a fresh nonce, which an honest store keeps
--- alone for its pair from now on; its records were set, and no others; the answer is its own, and fits the
--- format
+-- alone for its pair from now on; its site has space for its records, which were set, and no others; the answer is its own,
+-- and fits the format
 pub record Accepts {A : Type 0} (check : Result Passed Refused) (old new : ServerState) (before after : StoreState) (from : Addr) (now : ℕ) (took : Took A) : Type 0 where
   pub passed : Passed
   pub checks : check ≡ Ok passed
   pub fits : IsMapNotify (reply_to passed.message)
   pub fresh : IsFresh (most_jump_at old.sites passed.message.site) (nonce_at old.nonces (pair_of passed.message)) before (pair_of passed.message) passed.message.nonce
+  pub space : HasSpace old passed.message from now
   pub answer : took ≡ Accepted (router_of passed.message) passed.message.key_id passed.message.nonce (reply_of passed.secret passed.message)
   pub rows : Sets old.rows new.rows (row_values passed.message from now)
   pub nonces : SetsNonce old.nonces new.nonces (pair_of passed.message) passed.message.nonce
@@ -103,11 +118,21 @@ pub record Jumps (check : Result Passed Refused) (old : ServerState) (before aft
   pub unasked : Unasked (nonce_at old.nonces (pair_of passed.message)) before after
   pub same : KeepsLists before after
 
--- the nonce was fresh, and it is open whether it is kept; not where memory ran out: then no list changed
-pub record SaveFailed (check : Result Passed Refused) (old : ServerState) (before after : StoreState) (fault : StoreFault) : Type 0 where
+-- the nonce was fresh, and the site has no space for the records
+pub record Overflows (check : Result Passed Refused) (old : ServerState) (before after : StoreState) (from : Addr) (now : ℕ) (full : Full) : Type 0 where
   pub passed : Passed
   pub checks : check ≡ Ok passed
   pub fresh : IsFresh (most_jump_at old.sites passed.message.site) (nonce_at old.nonces (pair_of passed.message)) before (pair_of passed.message) passed.message.nonce
+  pub lacks : LacksSpace old passed.message from now full
+  pub unasked : Unasked (nonce_at old.nonces (pair_of passed.message)) before after
+  pub same : KeepsLists before after
+
+-- the nonce was fresh, and it is open whether it is kept; not where memory ran out: then no list changed
+pub record SaveFailed (check : Result Passed Refused) (old : ServerState) (before after : StoreState) (from : Addr) (now : ℕ) (fault : StoreFault) : Type 0 where
+  pub passed : Passed
+  pub checks : check ≡ Ok passed
+  pub fresh : IsFresh (most_jump_at old.sites passed.message.site) (nonce_at old.nonces (pair_of passed.message)) before (pair_of passed.message) passed.message.nonce
+  pub space : HasSpace old passed.message from now
   pub cause : HasCause fault before after
   pub sound : fault ≢ faults.Damaged
   pub memory : fault ≡ faults.OutOfMemory → KeepsLists before after
@@ -125,42 +150,45 @@ pub record OutOfRoom (check : Result Passed Refused) (old : ServerState) (before
   pub same : KeepsLists before after
 
 -- a Map-Register was refused: what the refusal means, and what it leaves of the store
-abbrev pub RefusesRegister : Result Passed Refused → ServerState → StoreState → StoreState → Refused → Type 0
-RefusesRegister check old before after (StoreLoad fault) = LoadFailed check old before after fault
-RefusesRegister check old before after (Replay saved) = Replays check old before after saved
-RefusesRegister check old before after (Jump saved) = Jumps check old before after saved
-RefusesRegister check old before after OutOfMemory = OutOfRoom check old before after
-RefusesRegister check old before after (StoreSave fault) = SaveFailed check old before after fault
-RefusesRegister check old before after refused = (check ≡ Err refused) × (after ≡ before)
+abbrev pub RefusesRegister : Result Passed Refused → ServerState → StoreState → StoreState → Addr → ℕ → Refused → Type 0
+RefusesRegister check old before after from now (StoreLoad fault) = LoadFailed check old before after fault
+RefusesRegister check old before after from now (Replay saved) = Replays check old before after saved
+RefusesRegister check old before after from now (Jump saved) = Jumps check old before after saved
+RefusesRegister check old before after from now OutOfMemory = OutOfRoom check old before after
+RefusesRegister check old before after from now (FullOf full) = Overflows check old before after from now full
+RefusesRegister check old before after from now (StoreSave fault) = SaveFailed check old before after from now fault
+RefusesRegister check old before after from now refused = (check ≡ Err refused) × (after ≡ before)
 
 -- bytes with a fault before their records are refused for it
 abbrev pub RefusesBadHead : {X : Type 0} → List ℕ → Result X Refused → Type 0
 RefusesBadHead bytes answer = (fault : ReadFault) → kind_at bytes ≡ Err fault → answer ≡ Err (refused_of_read fault)
 
 -- what was read was refused
-abbrev pub RefusesRead : Result MessageValue ReadFault → Addr → List ℕ → ServerState → StoreState → StoreState → Refused → Type 0
-RefusesRead (Ok (Registers m)) from bytes old before after why = RefusesRegister (register_checked old.sites from bytes m) old before after why
-RefusesRead (Ok (Notifies m)) from bytes old before after why = RefusesAck old.sites old.notices from bytes m why × (after ≡ before)
-RefusesRead (Err fault) from bytes old before after why = (why ≡ Read fault) × (after ≡ before)
+abbrev pub RefusesRead : Result MessageValue ReadFault → Addr → List ℕ → ServerState → StoreState → StoreState → ℕ → Refused → Type 0
+RefusesRead (Ok (Registers m)) from bytes old before after now why = RefusesRegister (register_checked old.sites from bytes m) old before after from now why
+RefusesRead (Ok (Notifies m)) from bytes old before after now why = RefusesAck old.sites old.notices from bytes m why × (after ≡ before)
+RefusesRead (Err fault) from bytes old before after now why = (why ≡ Read fault) × (after ≡ before)
 
 -- the message that bytes from an address spell was refused: as what was read, but that memory may also
 -- have run out in reading records, which leaves the store untouched
-abbrev pub ServerRefuses : Result MessageValue ReadFault → Addr → List ℕ → ServerState → StoreState → StoreState → Refused → Type 0
-ServerRefuses said from bytes old before after OutOfMemory = (HasRecords bytes × (after ≡ before)) ⊎ RefusesRead said from bytes old before after OutOfMemory
-ServerRefuses said from bytes old before after why = RefusesRead said from bytes old before after why
+abbrev pub ServerRefuses : Result MessageValue ReadFault → Addr → List ℕ → ServerState → StoreState → StoreState → ℕ → Refused → Type 0
+ServerRefuses said from bytes old before after now OutOfMemory = (HasRecords bytes × (after ≡ before)) ⊎ RefusesRead said from bytes old before after now OutOfMemory
+ServerRefuses said from bytes old before after now why = RefusesRead said from bytes old before after now why
 
 -- the message is the one that the bytes spell
-abbrev pub RefusesMessage : Addr → List ℕ → ServerState → StoreState → StoreState → Refused → Type 0
-RefusesMessage from bytes old before after why = ServerRefuses (message_at bytes) from bytes old before after why
+abbrev pub RefusesMessage : Addr → List ℕ → ServerState → StoreState → StoreState → ℕ → Refused → Type 0
+RefusesMessage from bytes old before after now why = ServerRefuses (message_at bytes) from bytes old before after now why
 
--- what was read from an address is a Map-Register that passes all checks, with a nonce that follows each value that may be its base
-pub record IsAcceptable (said : Result MessageValue ReadFault) (from : Addr) (bytes : List ℕ) (s : ServerState) (store : StoreState) : Type 0 where
+-- what was read from an address is a Map-Register that passes all checks, with a nonce that follows each value that may be its base,
+-- and its site has space for its records
+pub record IsAcceptable (said : Result MessageValue ReadFault) (from : Addr) (bytes : List ℕ) (s : ServerState) (store : StoreState) (now : ℕ) : Type 0 where
   pub register : MapRegisterValue
   pub spelled : said ≡ Ok (Registers register)
   pub passed : Passed
   pub checks : register_checked s.sites from bytes register ≡ Ok passed
   pub fresh : FollowsAnyBase (most_jump_at s.sites passed.message.site) (nonce_at s.nonces (pair_of passed.message)) store (pair_of passed.message) passed.message.nonce
+  pub space : HasSpace s passed.message from now
 
 -- it is accepted, unless a device failed in between
-abbrev pub AcceptsUnlessFailed : {X E : Type 0} → Addr → List ℕ → ServerState → StoreState → StoreState → Result X E → Type 0
-AcceptsUnlessFailed from bytes s before after answer = (Rose before after → ⊥) → IsAcceptable (message_at bytes) from bytes s before → IsOk answer
+abbrev pub AcceptsUnlessFailed : {X E : Type 0} → Addr → List ℕ → ServerState → StoreState → StoreState → ℕ → Result X E → Type 0
+AcceptsUnlessFailed from bytes s before after now answer = (Rose before after → ⊥) → IsAcceptable (message_at bytes) from bytes s before now → IsOk answer

@@ -28,7 +28,7 @@ pub fn notices_keep_time()
 {}
 
 /// Over memory that is never refused, a Map-Register that passes all checks with a nonce above each value that
-/// may be its base, and not too far above it, is accepted, unless the store's device failed.
+/// may be its base, and not too far above it, is accepted if its site has space for its records, unless the store's device failed.
 pub fn accepts_exactly<S: NonceStore, A: Memory + Copy>(
     server: &mut Server<A>,
     store: &mut S,
@@ -37,7 +37,8 @@ pub fn accepts_exactly<S: NonceStore, A: Memory + Copy>(
     now: u64,
 ) -> Result<Took<A>, Refused>
     ensures accepts { Unrefused A.may_refuse S.may_refuse
-        (AcceptsUnlessFailed from bytes.now server.old (S.seen store.old) (S.seen store.new) result) }
+        (AcceptsUnlessFailed from bytes.now server.old (S.seen store.old) (S.seen store.new) now
+        result) }
     ensures only { IfOk result (TakesMessage from bytes.now server.old server.new
         (S.seen store.old) (S.seen store.new) now) }
 {

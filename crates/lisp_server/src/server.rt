@@ -184,8 +184,9 @@ impl<A: Memory + Copy> Server<A> {
     /// A Map-Register is refused in this order: `UnknownSite`, `UnknownKey`, `BadAuth`, `Limited` (its router, then its
     /// source address), `MergeAsked`, `NotAllowed` (the first record whose prefix its site doesn't allow), `Limited` (the
     /// first record that would live for a TTL out of bounds), `StoreLoad` (only where the last nonce isn't in memory),
-    /// `Replay` (the nonce isn't above the last one), `Jump` (it is too far above it), `OutOfMemory`, `StoreSave`. An
-    /// accepted one sets the row of each prefix that it names, of several records for one prefix the last,
+    /// `Replay` (the nonce isn't above the last one), `Jump` (it is too far above it), `OutOfMemory`, `Full` (a router of its site has its
+    /// first live row in it, and more would have one than may; then a live row is new, and the site would have more than it may),
+    /// `StoreSave`. An accepted one sets the row of each prefix that it names, of several records for one prefix the last,
     /// and no other row; its nonce was saved before (RFC 9301 sections 5.6 and 8.2).
     ///
     /// A Map-Notify-Ack is refused in this order: `NoNotice` (no notice that went to this address and stands has
@@ -208,7 +209,7 @@ impl<A: Memory + Copy> Server<A> {
 
         // Refused: why, and what is left of the store.
         ensures refused { IfErr result (RefusesMessage from bytes.now self.old
-            (S.seen store.old) (S.seen store.new)) }
+            (S.seen store.old) (S.seen store.new) now) }
 
         ensures err { OnErr result (self.new ≡ self.old) }
         ensures memory { IsErrOf result Refused.OutOfMemory → A.may_refuse }

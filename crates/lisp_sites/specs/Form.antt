@@ -41,6 +41,10 @@ limit_as most d = option_map Some (as_integer d >>= limit_from most)
 abbrev pub minutes_as : Data → Option (Option ℕ)
 minutes_as = limit_as 4294967294
 
+-- of how many are held of a site
+abbrev pub held_as : Data → Option (Option ℕ)
+held_as = limit_as (2 ^ 32 - 1)
+
 -- of what a nonce may rise by
 abbrev pub jump_as : Data → Option (Option ℕ)
 jump_as = limit_as (2 ^ 63 - 1)

@@ -23,7 +23,7 @@ use Rattle.lisp_policy.specs.declared.site.SitePrefix.{SitePrefix}
 use Rattle.lisp_policy.specs.Limits.{LimitsValue, lists_router, is_at_most}
 use Rattle.lisp_policy.specs.Site.{SiteKeyValue, SiteValue, site_of, has_key}
 use Rattle.lisp_policy.specs.Configuration.{ServerEntryValue, RouterEntryValue, ConfigValue}
-use Rattle.lisp_sites.specs.Form.{name_of, text_as, byte_as, nonce_block_as, minutes_as, jump_as}
+use Rattle.lisp_sites.specs.Form.{name_of, text_as, byte_as, nonce_block_as, minutes_as, jump_as, held_as}
 
 -- a field that has to be there: its name, its key in the entry, and the form of its value; Missing
 -- where it is absent, BadValue where it isn't of the form
@@ -155,13 +155,21 @@ site_ttls_of entry = do
 abbrev pub most_jump_of : Data → Result (Option ℕ) ConfigFault
 most_jump_of entry = optional fields.SiteMostJump (codes "most_jump") jump_as None entry
 
+-- site.most_routers, site.most_rows
+unfoldable pub most_held_of : Data → Result (Option ℕ × Option ℕ) ConfigFault
+most_held_of entry = do
+  routers ← optional fields.SiteMostRouters (codes "most_routers") held_as None entry
+  rows ← optional fields.SiteMostRows (codes "most_rows") held_as None entry
+  Ok (routers, rows)
+
 unfoldable pub limits_of : Data → Result LimitsValue PlacedFault
 limits_of entry = do
   routers ← site_routers_of entry
   from ← site_from_of entry
   ttls ← placed_nowhere (site_ttls_of entry)
   most_jump ← placed_nowhere (most_jump_of entry)
-  Ok (record { routers = routers; from = from; least_ttl = ttls.0; most_ttl = ttls.1; most_jump = most_jump })
+  held ← placed_nowhere (most_held_of entry)
+  Ok (record { routers = routers; from = from; least_ttl = ttls.0; most_ttl = ttls.1; most_jump = most_jump; most_routers = held.0; most_rows = held.1 })
 
 -- site: id, no two alike; its keys; its prefixes; its limits
 abbrev pub has_site : List SiteValue → ℕ → Bool

@@ -3,8 +3,8 @@
 ghost use Rattle.std.specs.Prelude.{◌≡◌, None, [], IfErr, IsErrOf};
 ghost use Rattle.toml.specs.View.{view};
 ghost use Rattle.lisp_policy.specs.Limits.{lists_router};
-ghost use Rattle.lisp_sites.specs.Form.{minutes_as, jump_as};
-ghost use Rattle.lisp_sites.specs.Table.{GivesAt, optional, flat, listed_xtr, xtr_at, site_routers_of, site_from_of, are_bounds, site_ttls_of, most_jump_of, limits_of};
+ghost use Rattle.lisp_sites.specs.Form.{limit_as, jump_as};
+ghost use Rattle.lisp_sites.specs.Table.{GivesAt, optional, flat, listed_xtr, xtr_at, site_routers_of, site_from_of, are_bounds, site_ttls_of, most_jump_of, most_held_of, limits_of};
 ghost use Rattle.lisp_sites.specs.declared.fault.ConfigFault.TheVariants.{OutOfMemory};
 
 use crate::entries::{Entries, read_each};
@@ -21,7 +21,7 @@ use std::alloc::Allocator;
 use toml::Value;
 
 /// The most minutes that a limit of TTLs may be; one more, 0xffffffff, is no time (RFC 9301 section 5.6).
-const MOST_MINUTES: i64 = 4_294_967_294;
+const MOST_MINUTES: u32 = 4_294_967_294;
 
 /// The limits of a site; each is off where it is absent.
 #[tactic(auto, unfolding(crate::specs::Table::limits_of))]
@@ -36,12 +36,15 @@ pub(crate) fn read_limits<A: Memory + Copy>(
     let from = read_from(alloc, entry)?;
     let (least_ttl, most_ttl) = read_ttls(entry)?;
     let most_jump = read_jump(entry)?;
+    let (most_routers, most_rows) = read_most_held(entry)?;
     Ok(Limits {
         routers,
         from,
         least_ttl,
         most_ttl,
         most_jump,
+        most_routers,
+        most_rows,
     })
 }
 
@@ -135,8 +138,8 @@ fn read_ttls(entry: &Value) -> Result<(Option<u32>, Option<u32>), ConfigFault>
     ensures value { result ≡ site_ttls_of (view entry.now) }
     ensures plain { ¬ (IsErrOf result OutOfMemory) }
 {
-    let least = minutes(entry, "least_ttl", Field::SiteLeastTtl)?;
-    let most = minutes(entry, "most_ttl", Field::SiteMostTtl)?;
+    let least = limit(entry, "least_ttl", Field::SiteLeastTtl, MOST_MINUTES)?;
+    let most = limit(entry, "most_ttl", Field::SiteMostTtl, MOST_MINUTES)?;
     if !are_bounds(least, most) {
         return Err(ConfigFault::BadValue(Field::SiteMostTtl));
     }
@@ -153,15 +156,26 @@ fn are_bounds(least: Option<u32>, most: Option<u32>) -> bool
     }
 }
 
-// A number of minutes, if it is there.
-fn minutes(entry: &Value, key: &str, name: Field) -> Result<Option<u32>, ConfigFault>
-    ensures value { result ≡ optional name key.now minutes_as None (view entry.now) }
+// How many of its routers may have live rows, and how many live rows it may have.
+#[tactic(auto, unfolding(crate::specs::Table::most_held_of))]
+fn read_most_held(entry: &Value) -> Result<(Option<u32>, Option<u32>), ConfigFault>
+    ensures value { result ≡ most_held_of (view entry.now) }
+    ensures plain { ¬ (IsErrOf result OutOfMemory) }
+{
+    let routers = limit(entry, "most_routers", Field::SiteMostRouters, u32::MAX)?;
+    let rows = limit(entry, "most_rows", Field::SiteMostRows, u32::MAX)?;
+    Ok((routers, rows))
+}
+
+// A whole number from 1 to a greatest one, if it is there.
+fn limit(entry: &Value, key: &str, name: Field, most: u32) -> Result<Option<u32>, ConfigFault>
+    ensures value { result ≡ optional name key.now (limit_as most) None (view entry.now) }
     ensures plain { ¬ (IsErrOf result OutOfMemory) }
 {
     match entry.get(key) {
         None => Ok(None),
         Some(value) => match value.as_integer() {
-            Some(number @ 1..=MOST_MINUTES) => Ok(Some(number as u32)),
+            Some(number) if 1 <= number && number <= i64::from(most) => Ok(Some(number as u32)),
             _ => Err(ConfigFault::BadValue(name)),
         },
     }

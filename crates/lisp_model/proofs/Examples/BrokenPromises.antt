@@ -446,11 +446,11 @@ not_sent must = not_done (must.send 2 0 0 fates.Done refl refl refl wide_whole.t
 -- a Map-Server calls the next nonce a replay, and the first one
 not_accepted : Must IsExcused opening sent_twice (replays sent_twice 2 0 1) → ⊥
 unfolding cut cut_from written
-not_accepted must = not_done (must.accept _ (registers (mapping wide 1440 ∷ []) 2) refl refl (record { read = refl; secret = secret; checks = admitted (register_item opening one_taken 2 0 0 2) (mapping wide 1440 ∷ []) 2 refl refl }) (omega arith))
+not_accepted must = not_done (must.accept _ (registers (mapping wide 1440 ∷ []) 2) refl refl (record { read = refl; secret = secret; checks = admitted (register_item opening one_taken 2 0 0 2) (mapping wide 1440 ∷ []) 2 refl refl }) (omega arith) (record { routers = tt; rows = tt }))
 
 first_not_accepted : Must IsExcused opening one_sent (replays one_sent 0 0 1) → ⊥
 unfolding cut cut_from written
-first_not_accepted must = not_done (must.accept _ (registers (mapping wide 1440 ∷ []) 1) refl refl (record { read = refl; secret = secret; checks = admitted (register_item opening [] 2 0 0 1) (mapping wide 1440 ∷ []) 1 refl refl }) (λ v has. (below v has, tt)))
+first_not_accepted must = not_done (must.accept _ (registers (mapping wide 1440 ∷ []) 1) refl refl (record { read = refl; secret = secret; checks = admitted (register_item opening [] 2 0 0 1) (mapping wide 1440 ∷ []) 1 refl refl }) (λ v has. (below v has, tt)) (record { routers = tt; rows = tt }))
   where
     below : (v : Option ℕ) → Contains (kept_at empty (got_from one)) v → IsBelow v 1
     below v has = subst (λ (w : Option ℕ). IsBelow w 1) (sym (only_value None v (subst (λ (vs : List (Option ℕ)). Contains vs v) (kept_at-empty (got_from one)) has))) tt
@@ -475,7 +475,7 @@ sent_after_restart = sends restarted 0 2 2 ∷ restarted
 
 next_not_accepted : Must IsExcused opening sent_after_restart (replays sent_after_restart 2 0 1) → ⊥
 unfolding cut cut_from written
-next_not_accepted must = not_done (must.accept _ (registers (mapping wide 1440 ∷ []) 2) refl refl (record { read = refl; secret = secret; checks = admitted (register_item opening restarted 2 0 0 2) (mapping wide 1440 ∷ []) 2 refl refl }) (λ v has. (below v has, tt)))
+next_not_accepted must = not_done (must.accept _ (registers (mapping wide 1440 ∷ []) 2) refl refl (record { read = refl; secret = secret; checks = admitted (register_item opening restarted 2 0 0 2) (mapping wide 1440 ∷ []) 2 refl refl }) (λ v has. (below v has, tt)) (record { routers = tt; rows = tt }))
   where
     below : (v : Option ℕ) → Contains (kept_at (insert empty (got_from one) (Some 1 ∷ [])) (got_from one)) v → IsBelow v 2
     below v has = subst (λ (w : Option ℕ). IsBelow w 2) (sym (only_value (Some 1) v (subst (λ (vs : List (Option ℕ)). Contains vs v) (set_here empty (got_from one) (Some 1 ∷ [])) has))) (omega arith)

@@ -179,6 +179,7 @@ takes_under_legal T before k key nonce datagram base sent is known allowed count
       under = sym is;
       number = refl;
       fresh = subst (λ (k : ℕ). IsFresh (context_of rotating T (takes_under T k key nonce datagram)) (map_register_of (etr_config_under rotating.config (router_at rotating.config 2) k) (part_at (database rotating before 2) 0) nonce)) (sym is) (record { base = base; counts = counted; above = below; near = tt; loads = λ none obeys clash. absurd cc });
+      space = record { routers = tt; rows = tt };
       may = λ obeys clash. absurd cc;
       kept = subst (λ (k : ℕ). kept_at (keeps (shows T 0) (under key (got_from one)) nonce).kept (under k (got_from one)) ≡ Some nonce ∷ []) (sym is) (set_here (shows T 0).kept (under key (got_from one)) (Some nonce ∷ []));
       others = subst (λ (k : ℕ). SameElsewhere (shows T 0).kept (keeps (shows T 0) (under key (got_from one)) nonce).kept (under k (got_from one))) (sym is) (set_others (shows T 0).kept (under key (got_from one)) (Some nonce ∷ []));

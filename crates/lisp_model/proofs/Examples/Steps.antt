@@ -91,6 +91,7 @@ takes_legal T k server nonce datagram i db base sent there kind says key allowed
       under = refl;
       number = refl;
       fresh = record { base = base; counts = counts; above = below; near = tt; loads = λ none obeys clash. absurd cc };
+      space = record { routers = tt; rows = tt };
       may = λ obeys clash. absurd cc;
       kept = set_here (at T server).kept (got_from one) (Some nonce ∷ []);
       others = set_others (at T server).kept (got_from one) (Some nonce ∷ []);
@@ -178,6 +179,7 @@ doubts_take_legal T k server nonce i db base sent there kind says key allowed co
         message = registers db nonce;
         admits = record { read = ap Ok says; secret = secret; checks = admitted i db nonce key allowed };
         fresh = record { base = base; counts = counts; above = below; near = tt; loads = λ none obeys clash. absurd cc };
+        space = record { routers = tt; rows = tt };
         fails = in_doubt _ (got_from one) nonce unbound refl (omega arith);
       },
     );

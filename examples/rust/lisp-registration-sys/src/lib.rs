@@ -86,6 +86,10 @@ pub const LISP_SOURCE: u16 = 136;
 pub const LISP_TTL: u16 = 137;
 /// The nonce is further above the last one than the site lets it jump.
 pub const LISP_JUMP: u16 = 138;
+/// As many routers of the site have live rows as may, and this one would be another.
+pub const LISP_ROUTERS: u16 = 139;
+/// The site would have more live rows than it may.
+pub const LISP_ROWS: u16 = 140;
 /// A Map-Notify-Ack that no notice waits for.
 pub const LISP_NO_NOTICE: u16 = 60;
 /// A Map-Notify, which is for routers.

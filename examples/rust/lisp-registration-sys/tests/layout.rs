@@ -87,6 +87,8 @@ fn claims() -> Vec<String> {
         LISP_SOURCE,
         LISP_TTL,
         LISP_JUMP,
+        LISP_ROUTERS,
+        LISP_ROWS,
         LISP_NO_NOTICE,
         LISP_NOT_MINE,
         LISP_NOT_REGISTERED,

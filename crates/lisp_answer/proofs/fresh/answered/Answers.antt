@@ -18,6 +18,6 @@ pub returns-in-Err : goal.returns-in-Err
 returns-in-Err g c sites server store =
     let after = memory_state c.receive.new.store in
     let went = subst (λ (m : MemoryStoreState). Proceeds (memory_state m) after) store c.in-Err.ensures.proceeds in
-    let why = subst (λ (x : ServerState × MemoryStoreState). ServerRefuses (message_at c.args.bytes.now) source c.args.bytes.now x.0 (memory_state x.1) after c.in-Err.refused) (λ i. (server i, store i)) c.in-Err.ensures.refused in
+    let why = subst (λ (x : ServerState × MemoryStoreState). ServerRefuses (message_at c.args.bytes.now) source c.args.bytes.now x.0 (memory_state x.1) after 0 c.in-Err.refused) (λ i. (server i, store i)) c.in-Err.ensures.refused in
     let out : Excuse _ _ c.args.bytes.now c.in-Err.refused = record { own = λ e. (c.in-Err.ensures.memory e, c.in-Err.ensures.head e); load = c.in-Err.ensures.load_memory; save = c.in-Err.ensures.save_memory } in
     refused _ sites c.args.bytes.now after c.in-Err.refused out went why

@@ -1,4 +1,4 @@
-use Rattle.std.proofs.Common.{◌≡◌, ◌+◌, ◌-◌, ℕ, true, refl, sym, subst, arith}
+use Rattle.std.proofs.Common.{◌≡◌, ◌-◌, ℕ, true, refl, sym, subst, arith}
 use Rattle.lisp_records.specs.Address.{PrefixValue, prefix_around}
 use Rattle.lisp_policy.proofs.Found.{not_true}
 use Rattle.lisp_lookup.specs.Covering.{may_answer_for}

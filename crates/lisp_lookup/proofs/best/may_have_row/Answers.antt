@@ -1,4 +1,4 @@
-use Rattle.std.proofs.Common.{◌-◌, ◌<◌, length, sym, ap, ◌∙◌, subst, arith}
+use Rattle.std.proofs.Common.{◌<◌, length, sym, ap, ◌∙◌, subst, arith}
 use Rattle.lisp_records.specs.Address.{PrefixValue, IsPrefix, IsWhole, covers}
 use Rattle.lisp_records.specs.Row.{RowValue}
 use Rattle.lisp_lookup.specs.Index.{row_prefix_cmp}

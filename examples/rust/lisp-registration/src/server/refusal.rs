@@ -35,6 +35,10 @@ pub enum Refusal {
     Replay,
     /// The nonce is further above that last one than the site lets it jump.
     Jump,
+    /// The router has no live row of the site, and as many other routers as may have some.
+    TooManyRouters,
+    /// The datagram brings a new row, and the site would have more live rows than it may.
+    TooManyRows,
     /// The library got no memory to read the datagram, to hold its records or to build its answer.
     OutOfMemory,
     /// A Map-Notify-Ack that no notice waits for (RFC 9301 section 5.7).
@@ -63,6 +67,8 @@ impl Refusal {
             Refusal::TtlOutOfBounds => LISP_TTL,
             Refusal::Replay => LISP_REPLAY,
             Refusal::Jump => LISP_JUMP,
+            Refusal::TooManyRouters => LISP_ROUTERS,
+            Refusal::TooManyRows => LISP_ROWS,
             Refusal::OutOfMemory => RECEIVE_OUT_OF_MEMORY,
             Refusal::NoNotice => LISP_NO_NOTICE,
             Refusal::NotMine => LISP_NOT_MINE,
@@ -83,6 +89,8 @@ impl Refusal {
             LISP_TTL => Refusal::TtlOutOfBounds,
             LISP_REPLAY => Refusal::Replay,
             LISP_JUMP => Refusal::Jump,
+            LISP_ROUTERS => Refusal::TooManyRouters,
+            LISP_ROWS => Refusal::TooManyRows,
             RECEIVE_OUT_OF_MEMORY => Refusal::OutOfMemory,
             LISP_NO_NOTICE => Refusal::NoNotice,
             LISP_NOT_MINE => Refusal::NotMine,
@@ -105,6 +113,8 @@ impl fmt::Display for Refusal {
             Refusal::TtlOutOfBounds => f.write_str("the site doesn't let a record have its TTL"),
             Refusal::Replay => f.write_str("the nonce is not above the last one"),
             Refusal::Jump => f.write_str("the nonce is too far above the last one"),
+            Refusal::TooManyRouters => f.write_str("the site may have no more routers"),
+            Refusal::TooManyRows => f.write_str("the site may have no more rows"),
             Refusal::OutOfMemory => f.write_str("out of memory"),
             Refusal::NoNotice => f.write_str("no notice waits for the Map-Notify-Ack"),
             Refusal::NotMine => f.write_str("a Map-Notify is for routers"),

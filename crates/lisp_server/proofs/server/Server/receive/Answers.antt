@@ -15,16 +15,16 @@ pub returns-in-Ok-Register-clause-taken : goal.returns-in-Ok-Register-clause-tak
 returns-in-Ok-Register-clause-taken g c = rw (← c.self.view_is) (IfOk-weaker c.receive_register.result _ _ (λ took. takes_register _ c.in-Ok-Register.message _ _ _ _ _ _ _ took (c.in-Ok-Register.ensures.exact ∙ ap (λ m. Ok (message_value m)) c.in-Ok-Register.field-0-is)) (answer_ok c.receive_register.result _ _ c.receive_register.ensures.answer))
 
 pub returns-in-Ok-Register-clause-refused : goal.returns-in-Ok-Register-clause-refused
-returns-in-Ok-Register-clause-refused g c = rw (← c.self.view_is) (answer_err c.receive_register.result _ _ c.receive_register.ensures.answer (λ why left. refuses_register _ c.in-Ok-Register.message _ _ _ _ _ why (c.in-Ok-Register.ensures.exact ∙ ap (λ m. Ok (message_value m)) c.in-Ok-Register.field-0-is) left.1))
+returns-in-Ok-Register-clause-refused g c = rw (← c.self.view_is) (answer_err c.receive_register.result _ _ c.receive_register.ensures.answer (λ why left. refuses_register _ c.in-Ok-Register.message _ _ _ _ _ _ why (c.in-Ok-Register.ensures.exact ∙ ap (λ m. Ok (message_value m)) c.in-Ok-Register.field-0-is) left.1))
 
 pub returns-in-Ok-Notify-clause-taken : goal.returns-in-Ok-Notify-clause-taken
 returns-in-Ok-Notify-clause-taken g c = rw (← c.self.view_is) (IfOk-weaker c.receive_ack.result _ _ (λ took. takes_notify _ c.in-Ok-Notify.notify _ _ _ c.receive_ack.new.notices.notices _ _ took (c.in-Ok-Notify.ensures.exact ∙ ap (λ m. Ok (message_value m)) c.in-Ok-Notify.field-0-is)) c.receive_ack.ensures.done)
 
 pub returns-in-Ok-Notify-clause-refused : goal.returns-in-Ok-Notify-clause-refused
-returns-in-Ok-Notify-clause-refused g c = rw (← c.self.view_is) (IfErr-weaker c.receive_ack.result _ _ (λ why. refuses_notify _ c.in-Ok-Notify.notify _ _ _ _ why (c.in-Ok-Notify.ensures.exact ∙ ap (λ m. Ok (message_value m)) c.in-Ok-Notify.field-0-is)) c.receive_ack.ensures.refused)
+returns-in-Ok-Notify-clause-refused g c = rw (← c.self.view_is) (IfErr-weaker c.receive_ack.result _ _ (λ why. refuses_notify _ c.in-Ok-Notify.notify _ _ _ _ _ why (c.in-Ok-Notify.ensures.exact ∙ ap (λ m. Ok (message_value m)) c.in-Ok-Notify.field-0-is)) c.receive_ack.ensures.refused)
 
 pub returns-in-Err-clause-refused : goal.returns-in-Err-clause-refused
-returns-in-Err-clause-refused g c = rw c.of_read.ensures (read_fails c.in-Err.fault _ _ _ c.args.self.now (g.S.NonceStore.seen c.args.store.now) (λ is. (c.in-Err.ensures.grows (ap Err is)).1) c.in-Err.ensures.exact)
+returns-in-Err-clause-refused g c = rw c.of_read.ensures (read_fails c.in-Err.fault _ _ _ c.args.self.now (g.S.NonceStore.seen c.args.store.now) c.args.now (λ is. (c.in-Err.ensures.grows (ap Err is)).1) c.in-Err.ensures.exact)
 
 pub returns-in-Err-clause-early : goal.returns-in-Err-clause-early
 returns-in-Err-clause-early g c = λ fault at. ap Err (c.of_read.ensures ∙ ap refused_of_read (let e = c.in-Err.ensures.early fault at in cc))

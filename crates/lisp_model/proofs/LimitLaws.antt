@@ -1,0 +1,147 @@
+-- At each moment a server holds no more of a site than the site may have.
+use Rattle.std.proofs.Common.{◌≡◌, ℕ, ◌+◌, ◌-◌, ◌<◌, ◌≤◌, Bool, true, false, List, [], ◌∷◌, ◌++◌, Option, Some, None, Ok, refl, sym, ap, subst, inl, inr, ◌∙◌, true≢false, arith}
+use Rattle.std.specs.Prelude.{◌≢◌, ◌==◌, ◌⊎◌, if◌then◌else◌, slice_get}
+use Rattle.std.specs.List.{find}
+use Rattle.std.specs.Option.{is_some, option_and_then, option_map}
+use Rattle.std.proofs.lemmas.Bool.{cases_eq}
+use Rattle.std.proofs.lemmas.Bool.Decides.{Decides-ltb}
+use Rattle.lisp_records.specs.declared.address.Addr.{Addr}
+use Rattle.lisp_records.specs.declared.router.RouterId.{RouterId}
+use Rattle.lisp_records.specs.Address.{PrefixValue}
+use Rattle.lisp_records.specs.Router.{router_eq}
+use Rattle.lisp_records.specs.Row.{RowValue, is_alive}
+use Rattle.lisp_records.proofs.RouterLaws.{router_eq-Decides}
+use Rattle.lisp_policy.specs.Configuration.{ConfigValue}
+use Rattle.lisp_messages.specs.Message.{MapRegisterValue}
+use Rattle.lisp_lookup.specs.Growth.{AtMost, Fits, HasRow, HasRouter, StaysWithin}
+use Rattle.lisp_lookup.specs.Table.{is_row_of, if_alive}
+use Rattle.lisp_lookup.proofs.GrowthLaws.{renewed_fits, fits_at_most}
+use Rattle.lisp_admission.specs.Checks.{most_routers_at, most_rows_at}
+use Rattle.lisp_admission.specs.Pairs.{router_of}
+use Rattle.lisp_model.specs.declared.event.Event.TheVariants as events
+use Rattle.lisp_model.specs.declared.line.Line.{Line}
+use Rattle.lisp_model.specs.declared.line.Line.TheVariants as lines
+use Rattle.lisp_model.specs.Trace.{EventValue, Step, Opening, clock, time_of}
+use Rattle.lisp_model.specs.Held.{Acceptance, accepted_rows, held_rows}
+use Rattle.lisp_model.specs.Bag.{Arrival, acceptances_in, arrival_in, arrival_of, bag, junk_arrival, since_start, since_start_after}
+use Rattle.lisp_model.specs.Context.{Context}
+use Rattle.lisp_model.specs.Receiving.{IsAccepted}
+use Rattle.lisp_model.specs.Legal.{Legal, LegalTrace, MayCome, context_of}
+use Rattle.lisp_model.specs.Promises.{IsWithin, SitesStayWithin}
+use Rattle.lisp_model.proofs.HeldMore.{held_other}
+use Rattle.lisp_model.proofs.Locality.{same_number, unless}
+use Rattle.lisp_model.proofs.RisingSteps.{taken_one}
+
+-- what is alive at a moment was alive before
+alive_before : (h : RowValue) (now later : ℕ) → now ≤ later → is_alive h later ≡ true → is_alive h now ≡ true
+alive_before h now later before lives = let lt = (Decides-ltb (later - h.accepted) h.life).0 lives in (Decides-ltb (now - h.accepted) h.life).1 (omega (arith, lt, before))
+
+live_before : (since : List Acceptance) (now later : ℕ) → now ≤ later → (router : RouterId) (eid : PrefixValue) → is_some (held_rows since later router eid) ≡ true → is_some (held_rows since now router eid) ≡ true
+live_before since now later before router eid some = by (find (is_row_of router eid) (accepted_rows since)) some
+  where
+    at : (h : RowValue) (b c : Bool) → (b ≡ true → c ≡ true) → is_some (if b then Some h else None) ≡ true → is_some (if c then Some h else None) ≡ true
+    at h b true keeps some = refl
+    at h true false keeps some = absurd (true≢false (sym (keeps refl)))
+    at h false false keeps some = absurd (true≢false (sym some))
+
+    by : (o : Option RowValue) → is_some (option_and_then (if_alive later) o) ≡ true → is_some (option_and_then (if_alive now) o) ≡ true
+    by None some = absurd (true≢false (sym some))
+    by (Some h) some = at h (is_alive h later) (is_alive h now) (alive_before h now later before) some
+
+module _ (c : ConfigValue) (site : ℕ) where
+  -- time takes rows away alone
+  passes : (since : List Acceptance) (now later : ℕ) → now ≤ later → IsWithin c since now site → IsWithin c since later site
+  passes since now later before was = record {
+    routers = λ most is. renewed_fits most (HasRouter (held_rows since now) site) (HasRouter (held_rows since later) site) (was.routers most is) (λ router has. (has.0, has.1, live_before since now later before router has.1 has.2));
+    rows = λ most is. renewed_fits most (HasRow (held_rows since now) site) (HasRow (held_rows since later) site) (was.rows most is) (λ key has. (has.0, live_before since now later before key.0 key.1 has.1));
+  }
+
+  -- nothing is held at first
+  none_within : (now : ℕ) → IsWithin c [] now site
+  none_within now = record {
+    routers = λ most is. ([], omega arith, λ router has. absurd (true≢false (sym has.2)));
+    rows = λ most is. ([], omega arith, λ key has. absurd (true≢false (sym has.1)));
+  }
+
+  -- a Map-Register is accepted where its site has space for it
+  module _ (m : MapRegisterValue) (from : Addr) (now : ℕ) (since : List Acceptance) (was : IsWithin c since now site)
+      (fits : Fits (most_routers_at c.sites m.site) (most_rows_at c.sites m.site) m.site (held_rows since now) (held_rows (record { message = m; from = from; moment = now } ∷ since) now)) where
+    abbrev more : List Acceptance
+    more = record { message = m; from = from; moment = now } ∷ since
+
+    own : site ≡ m.site → IsWithin c more now site
+    own is = record {
+      routers = λ most limit. fits_at_most most (HasRouter (held_rows since now) site) (HasRouter (held_rows more now) site) (was.routers most limit)
+          (subst (λ (o : Option ℕ). StaysWithin o (HasRouter (held_rows since now) site) (HasRouter (held_rows more now) site)) limit
+          (subst (λ (s : ℕ). StaysWithin (most_routers_at c.sites s) (HasRouter (held_rows since now) s) (HasRouter (held_rows more now) s)) (sym is) fits.routers));
+      rows = λ most limit. fits_at_most most (HasRow (held_rows since now) site) (HasRow (held_rows more now) site) (was.rows most limit)
+          (subst (λ (o : Option ℕ). StaysWithin o (HasRow (held_rows since now) site) (HasRow (held_rows more now) site)) limit
+          (subst (λ (s : ℕ). StaysWithin (most_rows_at c.sites s) (HasRow (held_rows since now) s) (HasRow (held_rows more now) s)) (sym is) fits.rows));
+    }
+
+    -- the rows of another site stay
+    not_its : (router : RouterId) → router.site ≡ site → site ≢ m.site → router_eq (router_of m) router ≡ false
+    not_its router of differ = at (router_eq (router_of m) router) refl
+      where
+        at : (b : Bool) → router_eq (router_of m) router ≡ b → b ≡ false
+        at true same = absurd (differ (sym of ∙ sym (ap (λ (r : RouterId). r.site) ((router_eq-Decides (router_of m) router).0 same))))
+        at false other = refl
+
+    stays : site ≢ m.site → (router : RouterId) (eid : PrefixValue) → router.site ≡ site → is_some (held_rows more now router eid) ≡ true → is_some (held_rows since now router eid) ≡ true
+    stays differ router eid of some = ap is_some (held_other m from now since router eid (not_its router of differ)) ∙ some
+
+    others : site ≢ m.site → IsWithin c more now site
+    others differ = record {
+      routers = λ most limit. renewed_fits most (HasRouter (held_rows since now) site) (HasRouter (held_rows more now) site) (was.routers most limit) (λ router has. (has.0, has.1, stays differ router has.1 has.0 has.2));
+      rows = λ most limit. renewed_fits most (HasRow (held_rows since now) site) (HasRow (held_rows more now) site) (was.rows most limit) (λ key has. (has.0, stays differ key.0 key.1 has.0 has.1));
+    }
+
+    one_more : IsWithin c more now site
+    one_more = either (cases_eq site m.site)
+      where
+        either : (site ≡ m.site) ⊎ (site ≢ m.site) → IsWithin c more now site
+        either (inl is) = own is
+        either (inr differ) = others differ
+
+-- a legal step keeps to the limits
+module _ (o : Opening) (T : List Step) (s : Step) (server site : ℕ) (was : IsWithin o.config (since_start o T server) (clock T) site) where
+  abbrev now : ℕ
+  now = clock T
+
+  abbrev old : List Acceptance
+  old = since_start o T server
+
+  later : (since : List Acceptance) (e : EventValue) → IsWithin o.config since now site → IsWithin o.config since (now + time_of e) site
+  later since e within = passes o.config site since now (now + time_of e) (omega arith) within
+
+  accepts : (a : Arrival) (named : ℕ) (router : RouterId) (key nonce : ℕ) (datagram : Option ℕ) → IsAccepted (context_of o T s) a named router key nonce datagram
+      → IsWithin o.config (if named == server then acceptances_in (Some a) now ++ old else old) now site
+  accepts a named router key nonce datagram row = either (cases_eq named server)
+    where
+      taken : named ≡ server → IsWithin o.config (record { message = row.message; from = a.from; moment = now } ∷ old) now site
+      taken is = one_more o.config site row.message a.from now old was
+          (subst (λ (node : ℕ). Fits (most_routers_at o.config.sites row.message.site) (most_rows_at o.config.sites row.message.site) row.message.site (held_rows (since_start o T node) now) (held_rows (record { message = row.message; from = a.from; moment = now } ∷ since_start o T node) now)) (row.acts.acts ∙ is) row.space)
+
+      either : (named ≡ server) ⊎ (named ≢ server) → IsWithin o.config (if named == server then acceptances_in (Some a) now ++ old else old) now site
+      either (inl is) = subst (λ (b : Bool). IsWithin o.config (if b then acceptances_in (Some a) now ++ old else old) now site) (sym (ap (λ (n : ℕ). n == server) is ∙ same_number server))
+          (subst (λ (new : List Acceptance). IsWithin o.config (new ++ old) now site) (sym (taken_one a now row.message row.admits.read)) (taken is))
+      either (inr differ) = subst (λ (since : List Acceptance). IsWithin o.config since now site) (sym (unless named server (acceptances_in (Some a) now ++ old) old differ)) was
+
+  restarts : (named : ℕ) → IsWithin o.config (if named == server then [] else old) now site
+  restarts named = by (named == server)
+    where
+      by : (b : Bool) → IsWithin o.config (if b then [] else old) now site
+      by true = none_within o.config site now
+      by false = was
+
+  within_after : (e : EventValue) (line : Line) → MayCome (context_of o T s) e line → IsWithin o.config (since_start_after line (acceptances_in (arrival_in (bag o T) e) now) server old) (now + time_of e) site
+  within_after (events.Deliver k fate) (lines.Accepted named router key nonce datagram) row = later _ (events.Deliver k fate)
+      (subst (λ (a : Option Arrival). IsWithin o.config (if named == server then acceptances_in a now ++ old else old) now site) (sym (ap (option_map arrival_of) row.sent)) (accepts (arrival_of row.item) named router key nonce datagram row.arrives))
+  within_after (events.Junk to from bytes) (lines.Accepted named router key nonce datagram) row = later _ (events.Junk to from bytes) (accepts (junk_arrival from bytes) named router key nonce datagram row.arrives)
+  within_after e (lines.Accepted named router key nonce datagram) row = absurd row
+  within_after e (lines.Restarted named) row = later _ e (restarts named)
+  within_after e _ row = later old e was
+
+pub sites_stay_within : (o : Opening) (T : List Step) → LegalTrace o T → SitesStayWithin o T
+sites_stay_within o [] legal server site = none_within o.config site 0
+sites_stay_within o (s ∷ T) legal server site = within_after o T s server site (sites_stay_within o T legal.1 server site) s.event s.line legal.0.row
