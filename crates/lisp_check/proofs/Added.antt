@@ -95,6 +95,11 @@ module _ (c : ConfigValue) where
   pub adds_if : (w : Warning) (a b : List Warning) (is : Bool) → (IsTrue is ↔ IsWarned c w) → b ≡ a ++ given_if is w → AddsThose c (w ∷ []) a b
   adds_if w a b is decides new = (given_if is w, new, those_one (IsWarned c) w is decides)
 
+  -- two of them, one after the other
+  pub adds_two : (v w : Warning) (a b d : List Warning) (one other : Bool) → (IsTrue one ↔ IsWarned c v) → (IsTrue other ↔ IsWarned c w)
+      → b ≡ a ++ given_if one v → d ≡ b ++ given_if other w → AddsThose c (v ∷ w ∷ []) a d
+  adds_two v w a b d one other is_one is_other first second = adds_both (v ∷ []) (w ∷ []) a b d (adds_if v a b one is_one first) (adds_if w b d other is_other second)
+
   -- those of one more place
   pub adds_more : (of : ℕ → List Warning) (a b d : List Warning) (i : ℕ) → AddsThose c (of_each of i) a b → AddsThose c (of i) b d → AddsThose c (of_each of (i + 1)) a d
   adds_more of a b d i before next =

@@ -1,6 +1,6 @@
--- The warnings of one node's ITR-RLOCs, and of all nodes; and that a node that is warned of is there.
-use Rattle.std.proofs.Common.{◌≡◌, ◌<◌, ℕ, Bool, List, [], ◌∷◌, ◌++◌, length, Option, Some, None, ap, sym, subst, ◌∙◌}
-use Rattle.std.specs.Prelude.{◌↔◌, IsTrue, IsSomeAnd}
+-- The warnings of all nodes; and that a node that is warned of is there.
+use Rattle.std.proofs.Common.{◌≡◌, ◌<◌, ℕ, List, length, Option, Some, None, ap, sym, subst, ◌∙◌}
+use Rattle.std.specs.Prelude.{IsSomeAnd}
 use Rattle.std.specs.Option.{option_map}
 use Rattle.std.proofs.lemmas.Option.{slice_get_within}
 use Rattle.lisp_records.specs.declared.address.Addr.{Addr}
@@ -9,21 +9,14 @@ use Rattle.lisp_model.specs.Trace.{addresses}
 use Rattle.lisp_sites.specs.Numbers.{NodeValue, address_of, node_at}
 use Rattle.lisp_sites.proofs.NumberLaws.{address_at-addresses}
 use Rattle.lisp_check.specs.declared.warning.Warning.{Warning}
-use Rattle.lisp_check.specs.declared.warning.Warning.TheVariants.{AnyItrRloc, NoItrRloc}
-use Rattle.lisp_check.specs.Warning.{IsWarned, of_resolve, of_node, of_nodes, of_each}
-use Rattle.lisp_check.specs.Adding.{AddsThose, given_if}
-use Rattle.lisp_check.proofs.Added.{adds_both, adds_if, adds_all}
+use Rattle.lisp_check.specs.Warning.{of_node, of_nodes, of_each}
+use Rattle.lisp_check.specs.Adding.{AddsThose}
+use Rattle.lisp_check.proofs.Added.{adds_all}
 
 -- the number of a node is one of the addresses'
 pub node_within : (c : ConfigValue) (node : ℕ) (P : NodeValue → Type 0) (o : Option NodeValue) → node_at c node ≡ o → IsSomeAnd o P → node < length (addresses c)
 node_within c node P (Some n) e h = slice_get_within (addresses c) node (address_of n) (sym (address_at-addresses c node) ∙ ap (option_map address_of) e)
 node_within c node P None e h = absurd h
-
-pub adds_itr_rlocs : (c : ConfigValue) (node : ℕ) (a b d : List Warning) (any none : Bool)
-    → (IsTrue any ↔ IsWarned c (AnyItrRloc node)) → (IsTrue none ↔ IsWarned c (NoItrRloc node))
-    → b ≡ a ++ given_if any (AnyItrRloc node) → d ≡ b ++ given_if none (NoItrRloc node) → AddsThose c (of_resolve node) a d
-adds_itr_rlocs c node a b d any none is_any is_none first second =
-    adds_both c (AnyItrRloc node ∷ []) (NoItrRloc node ∷ []) a b d (adds_if c (AnyItrRloc node) a b any is_any first) (adds_if c (NoItrRloc node) b d none is_none second)
 
 -- the numbers of all addresses are all nodes
 pub adds_nodes : (c : ConfigValue) (addrs : List Addr) (a b : List Warning) (n : ℕ) → addrs ≡ addresses c → n ≡ length addrs

@@ -8,9 +8,9 @@ use Rattle.lisp_policy.specs.Site.{SiteValue}
 use Rattle.lisp_policy.specs.Configuration.{ConfigValue}
 use Rattle.lisp_check.specs.declared.warning.Warning.{Warning}
 use Rattle.lisp_check.specs.declared.warning.Warning.TheVariants.{NoKeys, NoPrefixes, SamePrefix, Inside}
-use Rattle.lisp_check.specs.Warning.{IsWarned, IsFirstWith, IsFirstAround, IsFirstWithThat, IsFirstAroundThat, has_prefix, has_around, of_site, of_prefix, of_prefixes, of_around, of_each}
+use Rattle.lisp_check.specs.Warning.{IsWarned, IsFirstWith, IsFirstAround, IsFirstWithThat, IsFirstAroundThat, has_prefix, has_around, of_site, of_prefix, of_prefixes, of_around, of_counts, of_each}
 use Rattle.lisp_check.specs.Adding.{AddsThose, given_if, inside_of}
-use Rattle.lisp_check.proofs.Added.{adds_none, adds_both, adds_if, those_first, those_found, those_missing}
+use Rattle.lisp_check.proofs.Added.{adds_none, adds_both, adds_two, those_first, those_found, those_missing}
 use Rattle.lisp_check.proofs.RouterWarnings.{inside as low}
 
 -- the prefix of a site has a fact of a first site
@@ -82,11 +82,12 @@ adds_prefixes c site entry at a b n all adds =
 pub adds_no_prefix : (c : ConfigValue) (site : ℕ) → slice_get c.sites site ≡ None → (a : List Warning) → AddsThose c (of_prefixes (length c.sites) site (slice_get c.sites site)) a a
 adds_no_prefix c site none a = subst (λ (o : Option SiteValue). AddsThose c (of_prefixes (length c.sites) site o) a a) (sym none) (adds_none c a)
 
-pub adds_site : (c : ConfigValue) (site : ℕ) (a b d e : List Warning) (keys prefixes : Bool)
+pub adds_site : (c : ConfigValue) (site : ℕ) (a b d e f : List Warning) (keys prefixes : Bool)
     → (IsTrue keys ↔ IsWarned c (NoKeys site)) → (IsTrue prefixes ↔ IsWarned c (NoPrefixes site))
     → b ≡ a ++ given_if keys (NoKeys site) → d ≡ b ++ given_if prefixes (NoPrefixes site)
-    → AddsThose c (of_prefixes (length c.sites) site (slice_get c.sites site)) d e
-    → AddsThose c (of_site c.sites site) a e
-adds_site c site a b d e keys prefixes no_keys no_prefixes first second third =
-    adds_both c (NoKeys site ∷ []) (NoPrefixes site ∷ of_prefixes (length c.sites) site (slice_get c.sites site)) a b e (adds_if c (NoKeys site) a b keys no_keys first)
-    (adds_both c (NoPrefixes site ∷ []) (of_prefixes (length c.sites) site (slice_get c.sites site)) b d e (adds_if c (NoPrefixes site) b d prefixes no_prefixes second) third)
+    → AddsThose c (of_prefixes (length c.sites) site (slice_get c.sites site)) d e → AddsThose c (of_counts site) e f
+    → AddsThose c (of_site c.sites site) a f
+adds_site c site a b d e f keys prefixes no_keys no_prefixes first second third fourth =
+    adds_both c (NoKeys site ∷ NoPrefixes site ∷ []) (of_prefixes (length c.sites) site (slice_get c.sites site) ++ of_counts site) a d f
+    (adds_two c (NoKeys site) (NoPrefixes site) a b d keys prefixes no_keys no_prefixes first second)
+    (adds_both c (of_prefixes (length c.sites) site (slice_get c.sites site)) (of_counts site) d e f third fourth)

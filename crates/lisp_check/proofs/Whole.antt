@@ -4,13 +4,15 @@ use Rattle.std.specs.Prelude.{◌↔◌, IsTrue, IsSome, IsSomeAnd, slice_get}
 use Rattle.std.specs.List.{Contains, flat_map, range_with_len, position}
 use Rattle.std.proofs.Math.Nat.{eq-or-lt_of_le}
 use Rattle.std.proofs.lemmas.List.Elements.{Contains-append_left, Contains-append_right}
+use Rattle.lisp_records.specs.Record.{MapRecordValue}
+use Rattle.lisp_policy.specs.Limits.{lets_ttl}
 use Rattle.lisp_policy.specs.Site.{SiteValue}
 use Rattle.lisp_policy.specs.Configuration.{ConfigValue, RouterEntryValue}
 use Rattle.lisp_model.specs.Trace.{addresses}
 use Rattle.lisp_sites.specs.Numbers.{node_at}
 use Rattle.lisp_check.specs.declared.warning.Warning.{Warning}
-use Rattle.lisp_check.specs.declared.warning.Warning.TheVariants.{NoNodes, NoKeys, NoPrefixes, SamePrefix, Inside, NoUnicast, SameAddress, AnyItrRloc, NoItrRloc, SameIdentity, NotAllowed, OtherFamily, SameKey, NoServers}
-use Rattle.lisp_check.specs.Warning.{IsWarned, IsFirstAt, IsFirstRouter, IsFirstWith, IsFirstAround, IsFirstWithPrefix, IsFirstAroundPrefix, IsRefused, HasOtherFamily, ListsNoOwn, any_of, is_no_unicast, same_key, AreThose, of_site, of_prefix, of_prefixes, of_around, of_address, of_resolve, of_node, of_nodes, of_records, of_servers, of_entry, of_sharing, of_router, of_each, of_all}
+use Rattle.lisp_check.specs.declared.warning.Warning.TheVariants.{NoNodes, NoKeys, NoPrefixes, SamePrefix, Inside, NoUnicast, SameAddress, AnyItrRloc, NoItrRloc, SameIdentity, NotAllowed, OtherFamily, SameKey, NoServers, NoMostRows, ManyRouters, NotListed, OtherSource, OutOfBounds, ManyRows}
+use Rattle.lisp_check.specs.Warning.{IsWarned, IsFirstAt, IsFirstRouter, IsFirstWith, IsFirstAround, IsFirstWithPrefix, IsFirstAroundPrefix, MayRegister, HasOtherFamily, ListsNoOwn, IsBarred, IsNotListed, IsOfOtherSource, HasManyRows, any_of, is_no_unicast, is_unbounded, has_more_routers, same_key, AreThose, of_site, of_prefix, of_prefixes, of_around, of_counts, of_address, of_resolve, of_node, of_nodes, of_record, of_records, of_servers, of_entry, of_sharing, of_limits, of_router, of_each, of_all}
 use Rattle.lisp_check.specs.Adding.{AddsThose, given_if}
 use Rattle.lisp_check.proofs.Added.{adds_both, adds_if}
 use Rattle.lisp_check.proofs.AddressWarnings.{first_within}
@@ -98,20 +100,49 @@ module _ (c : ConfigValue) where
   in_prefixes site place (Some s) w low held = in_each (of_prefix (length c.sites) site) w (length s.prefixes) place low held
   in_prefixes site place None w low held = absurd low
 
-  in_site : (site : ℕ) (w : Warning) → site < length c.sites → Contains (of_prefixes (length c.sites) site (slice_get c.sites site)) w → Contains (of_all c) w
-  in_site site w low held =
-      in_sites site w low (behind (NoKeys site) w (NoPrefixes site ∷ of_prefixes (length c.sites) site (slice_get c.sites site))
-      (behind (NoPrefixes site) w (of_prefixes (length c.sites) site (slice_get c.sites site)) held))
+  abbrev prefixes_could : ℕ → List Warning
+  prefixes_could site = of_prefixes (length c.sites) site (slice_get c.sites site)
+
+  in_behind : (site : ℕ) (w : Warning) → site < length c.sites → Contains (prefixes_could site ++ of_counts site) w → Contains (of_all c) w
+  in_behind site w low held =
+      in_sites site w low (behind (NoKeys site) w (NoPrefixes site ∷ (prefixes_could site ++ of_counts site)) (behind (NoPrefixes site) w (prefixes_could site ++ of_counts site) held))
+
+  in_site : (site : ℕ) (w : Warning) → site < length c.sites → Contains (prefixes_could site) w → Contains (of_all c) w
+  in_site site w low held = in_behind site w low (Contains-append_left (prefixes_could site) (of_counts site) w held)
+
+  in_counts : (site : ℕ) (w : Warning) → site < length c.sites → Contains (of_counts site) w → Contains (of_all c) w
+  in_counts site w low held = in_behind site w low (Contains-append_right (prefixes_could site) (of_counts site) w held)
+
+  in_front : (router : ℕ) (w : Warning) → router < length c.routers → Contains (of_entry c.routers router ++ of_sharing (length c.routers) router) w → Contains (of_all c) w
+  in_front router w low held = in_routers router w low (Contains-append_left (of_entry c.routers router ++ of_sharing (length c.routers) router) (of_limits router) w held)
 
   in_entry : (router : ℕ) (w : Warning) → router < length c.routers → Contains (of_entry c.routers router) w → Contains (of_all c) w
-  in_entry router w low held = in_routers router w low (Contains-append_left (of_entry c.routers router) (of_sharing (length c.routers) router) w held)
+  in_entry router w low held = in_front router w low (Contains-append_left (of_entry c.routers router) (of_sharing (length c.routers) router) w held)
 
   in_sharing : (router : ℕ) (w : Warning) → router < length c.routers → Contains (of_sharing (length c.routers) router) w → Contains (of_all c) w
-  in_sharing router w low held = in_routers router w low (Contains-append_right (of_entry c.routers router) (of_sharing (length c.routers) router) w held)
+  in_sharing router w low held = in_front router w low (Contains-append_right (of_entry c.routers router) (of_sharing (length c.routers) router) w held)
 
-  in_records : (router place : ℕ) (o : Option RouterEntryValue) → IsSomeAnd o (λ r. IsRefused c.sites r place) → Contains (of_records router o) (NotAllowed router place)
-  in_records router place (Some r) refused = in_numbers (λ k. NotAllowed router k) 0 (length r.database) place (omega arith) (let low = inside r.database place _ (slice_get r.database place) refl refused in omega (arith, low))
-  in_records router place None refused = absurd refused
+  in_limits : (router : ℕ) (w : Warning) (P : RouterEntryValue → Type 0) → IsSomeAnd (slice_get c.routers router) P → Contains (of_limits router) w → Contains (of_all c) w
+  in_limits router w P warned held =
+      in_routers router w (inside c.routers router P (slice_get c.routers router) refl warned)
+      (Contains-append_right (of_entry c.routers router ++ of_sharing (length c.routers) router) (of_limits router) w held)
+
+  in_records : (router place : ℕ) (w : Warning) (o : Option RouterEntryValue) → IsSomeAnd o (λ r. place < length r.database) → Contains (of_record router place) w → Contains (of_records router o) w
+  in_records router place w (Some r) low held = in_each (of_record router) w (length r.database) place low held
+  in_records router place w None low held = absurd low
+
+  -- a record of a router of which something holds
+  has_record : (place : ℕ) (P : RouterEntryValue → MapRecordValue → Type 0) (o : Option RouterEntryValue) → IsSomeAnd o (λ r. IsSomeAnd (slice_get r.database place) (P r)) → IsSomeAnd o (λ r. place < length r.database)
+  has_record place P (Some r) holds = inside r.database place (P r) (slice_get r.database place) refl holds
+  has_record place P None holds = absurd holds
+
+  in_record : (router place : ℕ) (w : Warning) (P : RouterEntryValue → MapRecordValue → Type 0) → IsSomeAnd (slice_get c.routers router) (λ r. IsSomeAnd (slice_get r.database place) (P r))
+      → Contains (of_record router place) w → Contains (of_all c) w
+  in_record router place w P warned held =
+      in_entry router w (inside c.routers router (λ r. IsSomeAnd (slice_get r.database place) (P r)) (slice_get c.routers router) refl warned) (
+      Contains-append_left (identities_could router ++ of_records router (slice_get c.routers router)) (of_servers router (slice_get c.routers router)) w (
+      Contains-append_right (identities_could router) (of_records router (slice_get c.routers router)) w
+      (in_records router place w (slice_get c.routers router) (has_record place P (slice_get c.routers router) warned) held)))
 
   in_servers : (router server : ℕ) (o : Option RouterEntryValue) → IsSomeAnd o (λ r. HasOtherFamily c.servers r server) → Contains (of_servers router o) (OtherFamily router server)
   in_servers router server (Some r) has = in_map (λ s. OtherFamily router s) r.servers server has.0
@@ -147,10 +178,7 @@ module _ (c : ConfigValue) where
       Contains-append_left (identities_could router ++ of_records router (slice_get c.routers router)) (of_servers router (slice_get c.routers router)) (SameIdentity first router) (
       Contains-append_left (identities_could router) (of_records router (slice_get c.routers router)) (SameIdentity first router) (
       in_numbers (λ k. SameIdentity k router) 0 (length c.routers) first (omega arith) (omega (arith, low)))))
-  could (NotAllowed router place) warned =
-      in_entry router (NotAllowed router place) (inside c.routers router (λ r. IsRefused c.sites r place) (slice_get c.routers router) refl warned) (
-      Contains-append_left (identities_could router ++ of_records router (slice_get c.routers router)) (of_servers router (slice_get c.routers router)) (NotAllowed router place) (
-      Contains-append_right (identities_could router) (of_records router (slice_get c.routers router)) (NotAllowed router place) (in_records router place (slice_get c.routers router) warned)))
+  could (NotAllowed router place) warned = in_record router place (NotAllowed router place) (λ r m. ¬ MayRegister c.sites r.me.site m.eid) warned (0, omega arith, refl)
   could (OtherFamily router server) warned =
       in_entry router (OtherFamily router server) (inside c.routers router (λ r. HasOtherFamily c.servers r server) (slice_get c.routers router) refl warned) (
       Contains-append_right (identities_could router ++ of_records router (slice_get c.routers router)) (of_servers router (slice_get c.routers router)) (OtherFamily router server) (in_servers router server (slice_get c.routers router) warned))
@@ -162,6 +190,13 @@ module _ (c : ConfigValue) where
   could (NoServers router) warned =
       in_sharing router (NoServers router) (inside c.routers router (λ r. r.servers ≡ []) (slice_get c.routers router) refl warned) (
       Contains-append_right (map (λ k. SameKey k router) (range_with_len 0 (length c.routers))) (NoServers router ∷ []) (NoServers router) (0, omega arith, refl))
+  could (NoMostRows site) warned = in_counts site (NoMostRows site) (inside c.sites site (λ s. IsTrue (is_unbounded s)) (slice_get c.sites site) refl warned) (0, omega arith, refl)
+  could (ManyRouters site) warned = in_counts site (ManyRouters site) (inside c.sites site (λ s. IsTrue (has_more_routers c.routers s)) (slice_get c.sites site) refl warned) (1, omega arith, refl)
+  could (NotListed router) warned = in_limits router (NotListed router) (IsNotListed c.sites) warned (0, omega arith, refl)
+  could (OtherSource router) warned = in_limits router (OtherSource router) (IsOfOtherSource c.sites) warned (1, omega arith, refl)
+  could (OutOfBounds router place) warned =
+      in_record router place (OutOfBounds router place) (λ r m. IsBarred c.sites r (λ limits. lets_ttl limits r.use_ttl m.ttl)) warned (1, omega arith, refl)
+  could (ManyRows router) warned = in_limits router (ManyRows router) (HasManyRows c.sites) warned (2, omega arith, refl)
 
 -- what was added to no warning, part by part
 module _ (c : ConfigValue) (a b d e : List Warning) (none : Bool)

@@ -1,18 +1,21 @@
 -- What in a configuration may not be meant, though it can be read.
-use Rattle.std.specs.Prelude.{◌≡◌, ◌≢◌, ◌⊎◌, ℕ, ◌==◌, Bool, true, false, not, ◌&&◌, ◌||◌, List, [], ◌∷◌, ◌++◌, length, map, IsTrue, IsSome, IsSomeAnd, slice_get, slice_index, position, Option, Some, None}
+use Rattle.std.specs.Prelude.{◌≡◌, ◌≢◌, ◌⊎◌, ℕ, ◌==◌, nat_lt, Bool, true, false, not, ◌&&◌, ◌||◌, List, [], ◌∷◌, ◌++◌, count_by, length, map, IsTrue, IsSome, IsSomeAnd, is_none, slice_get, slice_index, position, Option, Some, None}
 use Rattle.std.specs.List.{Contains, find, list_all, list_any, flat_map, range_with_len}
 use Rattle.std.specs.Int.{is_in_range}
+use Rattle.std.specs.Option.{option_map}
 use Rattle.lisp_records.specs.declared.address.Addr.{Addr}
 use Rattle.lisp_records.specs.declared.address.Addr.TheVariants.{V4, V6}
 use Rattle.lisp_records.specs.Address.{PrefixValue, addr_eq, prefix_eq, covers, family}
+use Rattle.lisp_records.specs.Record.{MapRecordValue}
 use Rattle.lisp_records.specs.Router.{router_eq}
 use Rattle.lisp_policy.specs.declared.site.SitePrefix.{SitePrefix}
+use Rattle.lisp_policy.specs.Limits.{LimitsValue, is_at_most, lets_router, lets_source, lets_ttl}
 use Rattle.lisp_policy.specs.Site.{SiteValue, Allowed, site_of}
 use Rattle.lisp_policy.specs.Configuration.{ConfigValue, ServerEntryValue, RouterEntryValue}
 use Rattle.lisp_model.specs.Trace.{addresses}
 use Rattle.lisp_sites.specs.Numbers.{NodeValue, Server, Router, address_of, node_at}
 use Rattle.lisp_check.specs.declared.warning.Warning.{Warning}
-use Rattle.lisp_check.specs.declared.warning.Warning.TheVariants.{NoNodes, NoKeys, NoPrefixes, SamePrefix, Inside, NoUnicast, SameAddress, AnyItrRloc, NoItrRloc, SameIdentity, NotAllowed, OtherFamily, SameKey, NoServers}
+use Rattle.lisp_check.specs.declared.warning.Warning.TheVariants.{NoNodes, NoKeys, NoPrefixes, SamePrefix, Inside, NoUnicast, SameAddress, AnyItrRloc, NoItrRloc, SameIdentity, NotAllowed, OtherFamily, SameKey, NoServers, NoMostRows, ManyRouters, NotListed, OtherSource, OutOfBounds, ManyRows}
 
 -- an address that no node has: unspecified (all zero), broadcast, or multicast (224.0.0.0/4, ff00::/8)
 abbrev pub is_no_unicast : Addr → Bool
@@ -113,6 +116,45 @@ same_key router other = (other.me.site == router.me.site) && (other.key_id == ro
 abbrev pub IsFirstSharer : List RouterEntryValue → ℕ → ℕ → Type 0
 IsFirstSharer routers router first = IsSomeAnd (slice_get routers router) (λ r. position (same_key r) routers ≡ Some first)
 
+-- a site that may get many rows: a prefix of it has more-specifics, or it has several keys
+abbrev pub may_get_many : SiteValue → Bool
+may_get_many s = list_any (λ p. p.more_specifics) s.prefixes || nat_lt 1 (length s.keys)
+
+-- and it has no bound on them
+abbrev pub is_unbounded : SiteValue → Bool
+is_unbounded s = may_get_many s && is_none s.limits.most_rows
+
+-- how many routers of a site there are, and that these are more than may have rows
+abbrev pub routers_of : List RouterEntryValue → ℕ → ℕ
+routers_of routers site = count_by (λ r. r.me.site == site) routers
+
+abbrev pub has_more_routers : List RouterEntryValue → SiteValue → Bool
+has_more_routers routers s = not (is_at_most s.limits.most_routers (routers_of routers s.id))
+
+-- the limits of a router's site don't let something of it through
+abbrev pub limits_of : List SiteValue → RouterEntryValue → Option LimitsValue
+limits_of sites router = option_map (λ s. s.limits) (site_of sites router.me.site)
+
+abbrev pub IsBarred : List SiteValue → RouterEntryValue → (LimitsValue → Bool) → Type 0
+IsBarred sites router lets = IsSomeAnd (limits_of sites router) (λ limits. lets limits ≡ false)
+
+-- its xTR-ID, its address, and the TTL of a record
+abbrev pub IsNotListed : List SiteValue → RouterEntryValue → Type 0
+IsNotListed sites router = IsBarred sites router (λ limits. lets_router limits router.me.xtr)
+
+abbrev pub IsOfOtherSource : List SiteValue → RouterEntryValue → Type 0
+IsOfOtherSource sites router = IsBarred sites router (λ limits. lets_source limits router.address)
+
+abbrev pub IsOutOfBounds : List SiteValue → RouterEntryValue → ℕ → Type 0
+IsOutOfBounds sites router place = IsSomeAnd (slice_get router.database place) (λ r. IsBarred sites router (λ limits. lets_ttl limits router.use_ttl r.ttl))
+
+-- nor all of its rows: one for each record that withdraws nothing
+abbrev pub row_count : List MapRecordValue → ℕ
+row_count records = count_by (λ r. not (r.ttl == 0)) records
+
+abbrev pub HasManyRows : List SiteValue → RouterEntryValue → Type 0
+HasManyRows sites router = IsBarred sites router (λ limits. is_at_most limits.most_rows (row_count router.database))
+
 -- when a configuration has a warning; nodes are numbered as in a network, Map-Servers first
 abbrev pub IsWarned : ConfigValue → Warning → Type 0
 IsWarned c NoNodes = addresses c ≡ []
@@ -129,13 +171,20 @@ IsWarned c (NotAllowed router place) = IsSomeAnd (slice_get c.routers router) (�
 IsWarned c (OtherFamily router server) = IsSomeAnd (slice_get c.routers router) (λ r. HasOtherFamily c.servers r server)
 IsWarned c (SameKey first router) = (first ≢ router) × IsFirstSharer c.routers router first
 IsWarned c (NoServers router) = IsSomeAnd (slice_get c.routers router) (λ r. r.servers ≡ [])
+IsWarned c (NoMostRows site) = IsSomeAnd (slice_get c.sites site) (λ s. IsTrue (is_unbounded s))
+IsWarned c (ManyRouters site) = IsSomeAnd (slice_get c.sites site) (λ s. IsTrue (has_more_routers c.routers s))
+IsWarned c (NotListed router) = IsSomeAnd (slice_get c.routers router) (IsNotListed c.sites)
+IsWarned c (OtherSource router) = IsSomeAnd (slice_get c.routers router) (IsOfOtherSource c.sites)
+IsWarned c (OutOfBounds router place) = IsSomeAnd (slice_get c.routers router) (λ r. IsOutOfBounds c.sites r place)
+IsWarned c (ManyRows router) = IsSomeAnd (slice_get c.routers router) (HasManyRows c.sites)
 
 -- of so many places all that could be warned of
 abbrev pub of_each : (ℕ → List Warning) → ℕ → List Warning
 of_each of count = flat_map of (range_with_len 0 count)
 
--- what could be warned of a prefix among so many sites, of a site's prefixes, and of a site; of the address of a node among so
--- many, of what it replies to, and of a node; of a router's records, of its Map-Servers, and of a router
+-- what could be warned of a prefix among so many sites, of a site's prefixes, of how many rows and routers it has, and of a
+-- site; of the address of a node among so many, of what it replies to, and of a node; of a router's records, of its Map-Servers,
+-- of what its site's limits don't let through, and of a router
 abbrev pub of_around : ℕ → ℕ → ℕ → List Warning
 of_around count site place = map (λ around. Inside around site place) (range_with_len 0 count)
 
@@ -146,8 +195,11 @@ abbrev pub of_prefixes : ℕ → ℕ → Option SiteValue → List Warning
 of_prefixes count site (Some s) = of_each (of_prefix count site) (length s.prefixes)
 of_prefixes count site None = []
 
+abbrev pub of_counts : ℕ → List Warning
+of_counts place = NoMostRows place ∷ ManyRouters place ∷ []
+
 abbrev pub of_site : List SiteValue → ℕ → List Warning
-of_site sites place = NoKeys place ∷ NoPrefixes place ∷ of_prefixes (length sites) place (slice_get sites place)
+of_site sites place = NoKeys place ∷ NoPrefixes place ∷ (of_prefixes (length sites) place (slice_get sites place) ++ of_counts place)
 
 abbrev pub of_address : ℕ → ℕ → List Warning
 of_address count place = NoUnicast place ∷ map (λ first. SameAddress first place) (range_with_len 0 count)
@@ -158,8 +210,11 @@ of_resolve place = AnyItrRloc place ∷ NoItrRloc place ∷ []
 abbrev pub of_node : ℕ → ℕ → List Warning
 of_node count place = of_address count place ++ of_resolve place
 
+abbrev pub of_record : ℕ → ℕ → List Warning
+of_record router place = NotAllowed router place ∷ OutOfBounds router place ∷ []
+
 abbrev pub of_records : ℕ → Option RouterEntryValue → List Warning
-of_records place (Some r) = map (λ k. NotAllowed place k) (range_with_len 0 (length r.database))
+of_records place (Some r) = of_each (of_record place) (length r.database)
 of_records place None = []
 
 abbrev pub of_servers : ℕ → Option RouterEntryValue → List Warning
@@ -173,8 +228,11 @@ of_entry routers place =
 abbrev pub of_sharing : ℕ → ℕ → List Warning
 of_sharing count place = map (λ first. SameKey first place) (range_with_len 0 count) ++ NoServers place ∷ []
 
+abbrev pub of_limits : ℕ → List Warning
+of_limits place = NotListed place ∷ OtherSource place ∷ ManyRows place ∷ []
+
 abbrev pub of_router : List RouterEntryValue → ℕ → List Warning
-of_router routers place = of_entry routers place ++ of_sharing (length routers) place
+of_router routers place = of_entry routers place ++ of_sharing (length routers) place ++ of_limits place
 
 -- of all sites, of all nodes, and of all routers
 abbrev pub of_sites : ConfigValue → List Warning

@@ -10,7 +10,7 @@ use Rattle.lisp_policy.specs.Configuration.{ConfigValue, ServerEntryValue, Route
 use Rattle.lisp_sites.specs.Numbers.{NodeValue, name_at, address_at, node_at}
 use Rattle.lisp_check.specs.Warning.{any_of}
 use Rattle.lisp_check.specs.declared.warning.Warning.{Warning}
-use Rattle.lisp_check.specs.declared.warning.Warning.TheVariants.{NoNodes, NoKeys, NoPrefixes, SamePrefix, Inside, NoUnicast, SameAddress, AnyItrRloc, NoItrRloc, SameIdentity, NotAllowed, OtherFamily, SameKey, NoServers}
+use Rattle.lisp_check.specs.declared.warning.Warning.TheVariants.{NoNodes, NoKeys, NoPrefixes, SamePrefix, Inside, NoUnicast, SameAddress, AnyItrRloc, NoItrRloc, SameIdentity, NotAllowed, OtherFamily, SameKey, NoServers, NoMostRows, ManyRouters, NotListed, OtherSource, OutOfBounds, ManyRows}
 
 -- at Ok a text is these words
 abbrev pub GivesText : {E Z : Type 0} → Result (String Z) E → List ℕ → Type 0
@@ -132,6 +132,29 @@ same_key_words name key first =
 abbrev pub no_servers_words : List ℕ → List ℕ
 no_servers_words name = codes "router " ++ (name ++ codes ": no Map-Servers: it registers nowhere")
 
+abbrev pub no_most_rows_words : List ℕ → List ℕ
+no_most_rows_words site = site ++ codes ": no most_rows: a stolen key may fill a Map-Server's memory with rows"
+
+abbrev pub many_routers_words : List ℕ → List ℕ
+many_routers_words site = site ++ codes ": more routers than most_routers: not all of them can have rows at once (139)"
+
+abbrev pub not_listed_words : List ℕ → List ℕ → List ℕ
+not_listed_words name site =
+    codes "router " ++ (name ++ (codes ": xtr isn't in the routers of site " ++ (site ++ codes ": a Map-Server refuses each Map-Register (69)")))
+
+abbrev pub other_source_words : List ℕ → List ℕ → List ℕ → List ℕ
+other_source_words name address site =
+    codes "router " ++ (name ++ (codes ": address " ++ (address ++ (codes " isn't in the from of site "
+    ++ (site ++ codes ": a Map-Server refuses each Map-Register that comes from it (136)")))))
+
+abbrev pub out_of_bounds_words : List ℕ → List ℕ → List ℕ → List ℕ
+out_of_bounds_words name eid site =
+    codes "router " ++ (name ++ (codes ": record " ++ (eid ++ (codes " has a TTL below least_ttl or above most_ttl of site "
+    ++ (site ++ codes ": a Map-Server refuses the whole Map-Register, all its records (137)")))))
+
+abbrev pub many_rows_words : List ℕ → List ℕ → List ℕ
+many_rows_words name site = codes "router " ++ (name ++ (codes ": more records than most_rows of site " ++ (site ++ codes ": not all of them can have rows at once (140)")))
+
 -- and of a configuration
 abbrev pub no_unicast_text : ConfigValue → ℕ → List ℕ
 no_unicast_text c node = no_unicast_words (kind_words (slice_get c.servers node)) (node_words c node) (addressed c node)
@@ -172,6 +195,20 @@ same_key_text c first router =
 abbrev pub no_servers_text : ConfigValue → ℕ → List ℕ
 no_servers_text c router = no_servers_words (router_words (slice_get c.routers router))
 
+abbrev pub not_listed_text : ConfigValue → ℕ → List ℕ
+not_listed_text c router = not_listed_words (router_words (slice_get c.routers router)) (site_id_words (site_id_of (slice_get c.routers router)))
+
+abbrev pub other_source_text : ConfigValue → ℕ → List ℕ
+other_source_text c router =
+    other_source_words (router_words (slice_get c.routers router)) (router_address_words (slice_get c.routers router)) (site_id_words (site_id_of (slice_get c.routers router)))
+
+abbrev pub out_of_bounds_text : ConfigValue → ℕ → ℕ → List ℕ
+out_of_bounds_text c router place =
+    out_of_bounds_words (router_words (slice_get c.routers router)) (eid_words (slice_get c.routers router) place) (site_id_words (site_id_of (slice_get c.routers router)))
+
+abbrev pub many_rows_text : ConfigValue → ℕ → List ℕ
+many_rows_text c router = many_rows_words (router_words (slice_get c.routers router)) (site_id_words (site_id_of (slice_get c.routers router)))
+
 abbrev pub warning_text : ConfigValue → Warning → List ℕ
 warning_text c NoNodes = codes "no server and no router"
 warning_text c (NoKeys site) = no_keys_words (site_words site)
@@ -187,3 +224,9 @@ warning_text c (NotAllowed router place) = not_allowed_text c router place
 warning_text c (OtherFamily router server) = other_family_text c router server
 warning_text c (SameKey first router) = same_key_text c first router
 warning_text c (NoServers router) = no_servers_text c router
+warning_text c (NoMostRows site) = no_most_rows_words (site_words site)
+warning_text c (ManyRouters site) = many_routers_words (site_words site)
+warning_text c (NotListed router) = not_listed_text c router
+warning_text c (OtherSource router) = other_source_text c router
+warning_text c (OutOfBounds router place) = out_of_bounds_text c router place
+warning_text c (ManyRows router) = many_rows_text c router

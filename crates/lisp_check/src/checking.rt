@@ -17,8 +17,9 @@ use lisp_sites::Config;
 use std::alloc::{AllocError, Allocator};
 
 /// What may not be meant in a configuration, in memory of `alloc`, each once: first that there are no nodes, then what is of
-/// sites, of nodes, and of routers, one after another; of a node first its address, then the ITR-RLOCs that it replies to; of a
-/// router first its identity, then its records, then its Map-Servers.
+/// sites, of nodes, and of routers, one after another; of a site first its keys and prefixes, then its limits; of a node first its
+/// address, then the ITR-RLOCs that it replies to; of a router first its identity, then its records, then its Map-Servers, then the
+/// limits of its site.
 pub fn warnings<M: Memory + Copy, A: Allocator>(
     alloc: M,
     config: &Config<A>,

@@ -22,6 +22,8 @@ const SITE_KEYS: &[&str] = &[
     "least_ttl",
     "most_ttl",
     "most_jump",
+    "most_routers",
+    "most_rows",
 ];
 
 const KEY_KEYS: &[&str] = &["id", "secret"];

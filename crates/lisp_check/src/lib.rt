@@ -14,6 +14,8 @@
 //!   would vanish. Nodes ignore both, so that a file of a later version still starts them.
 //! - A configuration keeps no secret, only what is made of it for tags. So secrets are read in the text again, to warn of those
 //!   that are short or that two keys have.
+//! - A site's `from` is compared with its routers' addresses, as if their Map-Registers came from there: a configuration doesn't say
+//!   what a NAT makes of them.
 //! - Warnings go to standard output, since they are the answer; with `--strict` they are a fault.
 #![tactic(auto)]
 
@@ -26,6 +28,8 @@ mod header;
 mod itr_rlocs;
 mod keys;
 mod law;
+mod limit_words;
+mod limits;
 mod line;
 mod mode;
 mod nearest;

@@ -14,7 +14,10 @@ pub(crate) const NOWHERE: Place = Place {
 pub fn warning_place(config: &Config, warning: Warning) -> Place {
     match warning {
         Warning::NoNodes => NOWHERE,
-        Warning::NoKeys { site } | Warning::NoPrefixes { site } => entry_place(Field::Site, site),
+        Warning::NoKeys { site }
+        | Warning::NoPrefixes { site }
+        | Warning::NoMostRows { site }
+        | Warning::ManyRouters { site } => entry_place(Field::Site, site),
         Warning::SamePrefix { site, prefix, .. } | Warning::Inside { site, prefix, .. } => {
             part_place(site, Field::SitePrefix, prefix)
         }
@@ -26,7 +29,11 @@ pub fn warning_place(config: &Config, warning: Warning) -> Place {
         | Warning::NotAllowed { router, .. }
         | Warning::OtherFamily { router, .. }
         | Warning::SameKey { router, .. }
-        | Warning::NoServers { router } => entry_place(Field::Router, router),
+        | Warning::NoServers { router }
+        | Warning::NotListed { router }
+        | Warning::OtherSource { router }
+        | Warning::OutOfBounds { router, .. }
+        | Warning::ManyRows { router } => entry_place(Field::Router, router),
     }
 }
 

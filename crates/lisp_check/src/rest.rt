@@ -191,6 +191,8 @@ fn may_be_absent(field: Field) -> bool {
             | Field::SiteLeastTtl
             | Field::SiteMostTtl
             | Field::SiteMostJump
+            | Field::SiteMostRouters
+            | Field::SiteMostRows
             | Field::ServerResolve
             | Field::RouterProxy
             | Field::RouterUseTtl

@@ -8,6 +8,7 @@ ghost use Rattle.lisp_check.specs.declared.warning.Warning.TheVariants.{NoServer
 ghost use Rattle.lisp_check.specs.Adding.{AddsWarned, NamesFirst};
 
 use crate::adding::warn_if;
+use crate::limits::{is_out_of_bounds, warn_of_limits};
 use crate::place::at;
 use crate::warning::Warning;
 use lisp_memory::Memory;
@@ -47,7 +48,8 @@ fn warn_of_router<M: Memory, A: Allocator>(
     )?;
     warn_of_records(warnings, config, router)?;
     warn_of_servers(warnings, config, router)?;
-    warn_of_sharing(warnings, config, router)
+    warn_of_sharing(warnings, config, router)?;
+    warn_of_limits(warnings, config, router)
 }
 
 // Adds that a router has the key of another one, and that it has no Map-Servers.
@@ -152,6 +154,14 @@ fn warn_of_records<M: Memory, A: Allocator>(
             warnings,
             is_refused(config, entry, place),
             Warning::NotAllowed {
+                router,
+                record: place,
+            },
+        )?;
+        warn_if(
+            warnings,
+            is_out_of_bounds(config, entry, place),
+            Warning::OutOfBounds {
                 router,
                 record: place,
             },

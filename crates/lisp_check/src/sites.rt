@@ -6,6 +6,7 @@ ghost use Rattle.lisp_check.specs.Adding.{AddsWarned};
 ghost use Rattle.lisp_check.specs.declared.warning.Warning.TheVariants.{NoKeys, NoPrefixes};
 
 use crate::adding::warn_if;
+use crate::limits::warn_of_counts;
 use crate::place::at;
 use crate::prefixes::warn_of_prefixes;
 use crate::warning::Warning;
@@ -46,7 +47,8 @@ fn warn_of_site<M: Memory, A: Allocator>(
         has_no_prefixes(config, site),
         Warning::NoPrefixes { site },
     )?;
-    warn_of_prefixes(warnings, config, site)
+    warn_of_prefixes(warnings, config, site)?;
+    warn_of_counts(warnings, config, site)
 }
 
 fn has_no_keys<A: Allocator>(config: &Config<A>, site: usize) -> bool

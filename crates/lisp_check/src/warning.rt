@@ -67,4 +67,29 @@ pub enum Warning {
     NoServers {
         router: usize,
     },
+    /// The site has no `most_rows`, and a prefix with more-specifics or several keys.
+    NoMostRows {
+        site: usize,
+    },
+    /// The site has more routers than its `most_routers`.
+    ManyRouters {
+        site: usize,
+    },
+    /// The router's site lists xTR-IDs, and not that of the router: a Map-Server refuses each of its Map-Registers (69).
+    NotListed {
+        router: usize,
+    },
+    /// The router's site lists source addresses, and not that of the router: a Map-Server refuses each Map-Register from it (136).
+    OtherSource {
+        router: usize,
+    },
+    /// The record would live for a TTL that the router's site doesn't let through: a Map-Server refuses the whole Map-Register (137).
+    OutOfBounds {
+        router: usize,
+        record: usize,
+    },
+    /// The router has more records that withdraw nothing than the `most_rows` of its site.
+    ManyRows {
+        router: usize,
+    },
 }

@@ -5,6 +5,9 @@ ghost use Rattle.lisp_sites.specs.Numbers.{node_at, node_value};
 ghost use Rattle.lisp_check.specs.Words.{GivesText, lined, no_keys_words, no_prefixes_words, site_words, prefix_number_words, site_prefix_words, same_prefix_text, inside_text, same_key_text, no_servers_text, site_id_words, key_of, router_address_words, kind_words, node_words, router_words, addressed, site_id_of, eid_words, no_unicast_text, same_address_text, any_words, any_itr_rloc_text, no_itr_rloc_text, same_identity_text, not_allowed_text, other_family_text, warning_text};
 
 use crate::itr_rlocs::any_of;
+use crate::limit_words::{
+    many_routers, many_rows, no_most_rows, not_listed, other_source, out_of_bounds,
+};
 use crate::warning::Warning;
 use lisp_memory::FallibleString;
 use lisp_policy::Site;
@@ -48,8 +51,8 @@ impl Display for PrefixNumber {
 
 /// A Site-ID.
 #[derive(Drop)]
-struct SiteId {
-    id: u64,
+pub(crate) struct SiteId {
+    pub(crate) id: u64,
 }
 
 impl Display for SiteId {
@@ -98,6 +101,12 @@ pub fn warning_line(alloc: Global, config: &Config, warning: Warning) -> Result<
         Warning::OtherFamily { router, server } => other_family(alloc, config, router, server),
         Warning::SameKey { first, router } => same_key(alloc, config, first, router),
         Warning::NoServers { router } => no_servers(alloc, config, router),
+        Warning::NoMostRows { site } => no_most_rows(alloc, site),
+        Warning::ManyRouters { site } => many_routers(alloc, site),
+        Warning::NotListed { router } => not_listed(alloc, config, router),
+        Warning::OtherSource { router } => other_source(alloc, config, router),
+        Warning::OutOfBounds { router, record } => out_of_bounds(alloc, config, router, record),
+        Warning::ManyRows { router } => many_rows(alloc, config, router),
     }
 }
 
@@ -350,8 +359,8 @@ fn any_text(alloc: Global, node: &ConfigNode<'_>) -> Result<String, AllocError>
     }
 }
 
-// The Site-ID of a router.
-fn site_of(config: &Config, router: usize) -> u64
+/// The Site-ID of a router.
+pub(crate) fn site_of(config: &Config, router: usize) -> u64
     ensures { result ≡ site_id_of (slice_get config.now.routers router) }
 {
     match config.routers().get(router) {
@@ -369,8 +378,8 @@ fn key_of(config: &Config, router: usize) -> u8
     }
 }
 
-// The prefix of a router's record.
-fn eid_text(
+/// The prefix of a router's record.
+pub(crate) fn eid_text(
     alloc: Global,
     config: &Config,
     router: usize,
@@ -412,7 +421,7 @@ fn node_name(config: &Config, node: usize) -> &str
     }
 }
 
-fn router_name(config: &Config, router: usize) -> &str
+pub(crate) fn router_name(config: &Config, router: usize) -> &str
     ensures { result.now ≡ router_words (slice_get config.now.routers router) }
 {
     match config.routers().get(router) {
@@ -430,7 +439,11 @@ fn node_address(alloc: Global, config: &Config, node: usize) -> Result<String, A
     }
 }
 
-fn router_address(alloc: Global, config: &Config, router: usize) -> Result<String, AllocError>
+pub(crate) fn router_address(
+    alloc: Global,
+    config: &Config,
+    router: usize,
+) -> Result<String, AllocError>
     ensures { GivesText result (router_address_words (slice_get config.now.routers router)) }
 {
     match config.routers().get(router) {

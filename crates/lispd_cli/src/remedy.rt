@@ -46,6 +46,9 @@ const fn form(field: Field) -> &'static str {
             "the value is a whole number of minutes from 1 to 4294967294, and most_ttl is at least least_ttl"
         }
         Field::SiteMostJump => "the value is a whole number from 1 to 9223372036854775807",
+        Field::SiteMostRouters | Field::SiteMostRows => {
+            "the value is a whole number from 1 to 4294967295"
+        }
         Field::Server => "Map-Servers are an array of tables: [[server]]",
         Field::ServerName | Field::RouterName => {
             "a name is 1 to 32 of the characters a to z, 0 to 9 and -"

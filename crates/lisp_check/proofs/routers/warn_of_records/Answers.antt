@@ -7,7 +7,8 @@ pub loop-place-init : goal.loop-place-init
 loop-place-init g c = adds_none c.args.config.now _
 
 pub loop-place-preserved : goal.loop-place-preserved
-loop-place-preserved g c = adds_record c.args.config.now c.args.router c.in-Some.entry.now (sym c.in-Some.ensures) _ _ _ c.loop-place.place c.is_refused.result c.is_refused.ensures c.loop-place.invariant c.in_ok-warn_if.ensures.added
+loop-place-preserved g c =
+    adds_record c.args.config.now c.args.router c.in-Some.entry.now (sym c.in-Some.ensures) _ _ _ _ c.loop-place.place c.is_refused.result c.is_out_of_bounds.result c.is_refused.ensures c.is_out_of_bounds.ensures c.loop-place.invariant c.in_ok-warn_if.ensures.added c.in_ok-warn_if-2.ensures.added
 
 pub returns-in_default-clause-added : goal.returns-in_default-clause-added
 returns-in_default-clause-added g c = adds_no_record c.args.config.now c.args.router (sym c.in_default.ensures) _
