@@ -16,7 +16,9 @@ use lisp_model::{Line, WorldFault};
 use lisp_script::ScriptWhat;
 use lisp_server::Server;
 use lisp_sites::Config;
-use lisp_statistics::{Figure, Format, Gathering, Gauge, Statistics, count_replays, counts_text};
+use lisp_statistics::{
+    Figure, Format, Gathering, Gauge, Statistics, count_replays, counts_text, put_site_counts,
+};
 use std::alloc::{AllocError, Global};
 
 /// The lines that answer a question to the router with a number at a moment, in ms, by its core, if it is
@@ -84,7 +86,8 @@ fn router_counts(
 }
 
 /// What is counted of the Map-Server with a number, and what it has at a moment, in ms, by its core, its rows as they
-/// were counted, and the runs of Map-Registers that it refuses as replays.
+/// were counted, and the runs of Map-Registers that it refuses as replays; then what is held of each site that has a
+/// limit on its routers or rows.
 pub(crate) fn server_counts(
     alloc: Global,
     config: &Config,
@@ -109,7 +112,9 @@ pub(crate) fn server_counts(
         gauge(Figure::Requests, statistics.requests()),
         gauge(Figure::SlowestReply, statistics.slowest_reply()),
     ];
-    counts_text(alloc, config, number, format, statistics, &gauges)
+    let mut text = counts_text(alloc, config, number, format, statistics, &gauges)?;
+    put_site_counts(&mut text, config, number, format, rows)?;
+    Ok(text)
 }
 
 fn gauge(figure: Figure, value: u64) -> Gauge

@@ -3,3 +3,4 @@ pub mod Words
 pub mod Gathered
 pub mod Listed
 pub mod WholeList
+pub mod SiteCounting

@@ -8,3 +8,4 @@ pub mod Routers
 pub mod Sites
 pub mod Gathering
 pub mod RouterList
+pub mod SiteCounts

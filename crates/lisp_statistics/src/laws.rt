@@ -1,9 +1,10 @@
-//! What a kind of lines has to do with their text, and what all parts of a list are together, as laws: the contract of each is the law,
-//! and its body is empty.
+//! What a kind of lines has to do with their text, what all parts of a list are together, and which routers are a site's, as laws: the
+//! contract of each is the law, and its body is empty.
 
 ghost use Rattle.std.specs.Global.{Global};
 ghost use Rattle.lisp_statistics.specs.Kind.{KindsByWord, WordsBeginAsked, WordsBeginLines};
 ghost use Rattle.lisp_statistics.specs.RouterList.{PartsListAll};
+ghost use Rattle.lisp_statistics.specs.SiteCounts.{RoutersOfSite};
 
 use crate::kind::LineKind;
 
@@ -28,4 +29,10 @@ pub fn kinds_by_word()
 /// was heard, by Site-ID, then xTR-ID, then those of the runs of replays, then the number of all these lines.
 pub fn parts_list_all()
     ensures { PartsListAll Global }
+{}
+
+/// The routers whose rows are counted as a site's are those with its Site-ID.
+#[tactic(auto, using(crate::proofs::SiteCounting::routers_of_site))]
+pub fn routers_of_site()
+    ensures { RoutersOfSite }
 {}

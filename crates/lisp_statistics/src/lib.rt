@@ -1,5 +1,6 @@
 //! What is counted of a node that runs, since its start: the lines of each kind that it prints, the routers that it heard, how long its
-//! longest save took, how many Map-Requests came, and how long the slowest answer to one took; and the text of this.
+//! longest save took, how many Map-Requests came, and how long the slowest answer to one took; beside it the node as it stands, and what is
+//! held of sites; and the text of this.
 //!
 //! # Decisions
 //!
@@ -10,6 +11,8 @@
 //! - Prometheus gets the longest save in seconds as `12e-3`: its format takes that, and the ms stay whole numbers. So it is with the
 //!   slowest answer, in us: an answer in less than 1 ms is the rule.
 //! - Map-Requests are counted as they come, and not by their lines: one may ask for several EID-Prefixes, or be dropped without a line.
+//! - What is held of a site is reported where it has a limit on its routers or rows: there may be thousands of sites, and the answer is one
+//!   part. It is taken from the counts by router, where the first router of a site is found by halving.
 #![tactic(auto)]
 
 // What is kept.
@@ -27,6 +30,7 @@ pub mod laws;
 mod replays;
 mod router_list;
 mod routers;
+mod site_counts;
 
 pub use counts::{Format, counts_text};
 pub use gathering::Gathering;
@@ -36,4 +40,5 @@ pub use kind::LineKind;
 pub use replays::count_replays;
 pub use router_list::{RouterList, RoutersPart, is_long_list, next_routers, routers_by_parts};
 pub use routers::routers_text;
+pub use site_counts::put_site_counts;
 pub use statistics::Statistics;

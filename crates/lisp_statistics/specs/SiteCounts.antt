@@ -1,0 +1,97 @@
+-- What is held of the sites that have a limit on it: how many live rows, and how many routers have them.
+use Rattle.std.specs.Prelude.{◌≡◌, ℕ, ◌-◌, ◌<◌, ◌==◌, Bool, false, ◌||◌, List, [], ◌∷◌, ◌++◌, length, replicate, codes, if◌then◌else◌}
+use Rattle.std.specs.BTreeMap.Range.{entries_between}
+use Rattle.std.specs.Fmt.{decimal, digits}
+use Rattle.std.specs.List.{AllByRecursion, filter, flat_map, list_any, sum_by}
+use Rattle.std.specs.Option.{is_some}
+use Rattle.std.specs.declared.ops.Bound.TheVariants.{Included}
+use Rattle.lisp_policy.specs.Site.{SiteValue}
+use Rattle.lisp_records.specs.declared.router.RouterId.{RouterId}
+use Rattle.lisp_records.specs.Router.{router_cmp}
+use Rattle.lisp_lines.specs.Walk.{up_to_most}
+use Rattle.lisp_statistics.specs.declared.counts.Format.{Format}
+use Rattle.lisp_statistics.specs.declared.counts.Format.TheVariants as formats
+use Rattle.lisp_statistics.specs.declared.site_counts.Held.{Held}
+use Rattle.lisp_statistics.specs.declared.site_counts.SiteShape.{SiteShape}
+use Rattle.lisp_statistics.specs.declared.site_counts.SiteShape.TheVariants as shapes
+
+-- a site has a limit on its routers or rows
+abbrev pub is_limited : SiteValue → Bool
+is_limited site = is_some site.limits.most_routers || is_some site.limits.most_rows
+
+-- ---- what is held of a site, by how many rows each router has
+
+-- the first and the last router that a site may have, in the order of routers
+abbrev pub first_router : ℕ → RouterId
+first_router site = record { site = site; xtr = replicate 16 0 }
+
+abbrev pub last_router : ℕ → RouterId
+last_router site = record { site = site; xtr = replicate 16 255 }
+
+-- the routers of a site, with the rows of each
+abbrev pub routers_of : List (RouterId × ℕ) → ℕ → List (RouterId × ℕ)
+routers_of counts site = entries_between router_cmp (Included (first_router site)) (Included (last_router site)) counts
+
+-- the site has the rows of all of them; up to 2^64 - 1
+abbrev pub site_rows : List (RouterId × ℕ) → ℕ → ℕ
+site_rows counts site = up_to_most (sum_by (λ e. e.1) (routers_of counts site))
+
+-- and so many routers
+abbrev pub site_routers : List (RouterId × ℕ) → ℕ → ℕ
+site_routers counts site = up_to_most (length (routers_of counts site))
+
+abbrev pub held_of : List (RouterId × ℕ) → ℕ → Held
+held_of counts site = record { rows = site_rows counts site; routers = site_routers counts site }
+
+-- an xTR-ID has 16 bytes
+pub record IsXtr (xtr : List ℕ) : Type 0 where
+  pub long : length xtr ≡ 16
+  pub bytes : AllByRecursion (λ n. n < 256) xtr
+
+-- the routers of a site are those with its Site-ID, in their order
+abbrev pub RoutersOfSite : Type 0
+RoutersOfSite = (counts : List (RouterId × ℕ)) (site : ℕ) → AllByRecursion (λ e. IsXtr e.0.xtr) counts → routers_of counts site ≡ filter (λ e. e.0.site == site) counts
+
+-- ---- its text
+
+-- a Site-ID as 16 lower case hexadecimal digits: before those of the number come zeros (48)
+abbrev pub site_id_text : ℕ → List ℕ
+site_id_text site = replicate (16 - length (digits 16 false site)) 48 ++ digits 16 false site
+
+abbrev pub site_line : List ℕ → ℕ → List ℕ → ℕ → List ℕ
+site_line name site word count = codes "counts " ++ name ++ codes " site " ++ site_id_text site ++ codes " " ++ word ++ codes " " ++ decimal count ++ 10 ∷ []
+
+abbrev pub site_lines : List ℕ → ℕ → Held → List ℕ
+site_lines name site held = site_line name site (codes "rows") held.rows ++ site_line name site (codes "routers") held.routers
+
+abbrev pub site_sample : List ℕ → List ℕ → ℕ → ℕ → List ℕ
+site_sample metric name site count = metric ++ codes "{node=\"" ++ name ++ codes "\",site=\"" ++ site_id_text site ++ codes "\"} " ++ decimal count ++ 10 ∷ []
+
+abbrev pub held_text : SiteShape → List ℕ → ℕ → Held → List ℕ
+held_text shapes.Lines name site held = site_lines name site held
+held_text shapes.Rows name site held = site_sample (codes "lisp_site_rows") name site held.rows
+held_text shapes.Routers name site held = site_sample (codes "lisp_site_routers") name site held.routers
+
+-- of a site without such a limit nothing is printed
+abbrev pub limited_text : SiteShape → List ℕ → List (RouterId × ℕ) → SiteValue → List ℕ
+limited_text shape name counts site = if is_limited site then held_text shape name site.id (held_of counts site.id) else []
+
+-- ---- the text of all sites, in the order of the configuration
+
+-- what helps to read the samples, and their type
+abbrev pub rows_head : List ℕ
+rows_head = codes "# HELP lisp_site_rows Live rows of each site that has a limit on its rows or routers.\n# TYPE lisp_site_rows gauge\n"
+
+abbrev pub site_routers_head : List ℕ
+site_routers_head = codes "# HELP lisp_site_routers Routers with live rows of each site that has a limit on its rows or routers.\n# TYPE lisp_site_routers gauge\n"
+
+abbrev pub site_family : List ℕ → SiteShape → List ℕ → List SiteValue → List (RouterId × ℕ) → List ℕ
+site_family head shape name sites counts = head ++ flat_map (limited_text shape name counts) sites
+
+-- where no site has such a limit there are no heads either
+abbrev pub site_families : List ℕ → List SiteValue → List (RouterId × ℕ) → List ℕ
+site_families name sites counts = if list_any is_limited sites then site_family rows_head shapes.Rows name sites counts ++ site_family site_routers_head shapes.Routers name sites counts else []
+
+abbrev pub site_counts_text : Format → List ℕ → List SiteValue → List (RouterId × ℕ) → List ℕ
+site_counts_text formats.Lines name sites counts = flat_map (limited_text shapes.Lines name counts) sites
+site_counts_text formats.Prometheus name sites counts = site_families name sites counts

@@ -1,0 +1,235 @@
+//! What is held of the sites that have a limit on it.
+
+ghost use Rattle.std.specs.Prelude.{◌≡◌, OnErr};
+ghost use Rattle.std.specs.List.{flat_map, list_any};
+ghost use Rattle.lisp_lines.specs.Front.{Adds};
+ghost use Rattle.lisp_lines.specs.Name.{node_name};
+ghost use Rattle.lisp_statistics.specs.SiteCounts.{held_of, held_text, is_limited, limited_text, site_counts_text, site_families, site_family, site_line, site_lines, site_sample};
+
+use crate::counts::Format;
+use crate::gathering::Gathering;
+use lisp_lines::node_name;
+use lisp_memory::{FallibleString, Memory};
+use lisp_policy::Site;
+use lisp_records::RouterId;
+use lisp_sites::Config;
+use std::alloc::{AllocError, Allocator};
+use std::collections::BTreeMap;
+use std::ops::Bound;
+
+/// What is held of a site.
+#[derive(Clone, Copy, Debug, PartialEq, Eq)]
+struct Held {
+    /// How many live rows.
+    rows: u64,
+    /// How many routers have them.
+    routers: u64,
+}
+
+/// How it is printed.
+#[derive(Clone, Copy, Debug, PartialEq, Eq)]
+enum SiteShape {
+    /// In a line for the rows, and one for the routers.
+    Lines,
+    /// As a sample of the rows.
+    Rows,
+    /// As a sample of the routers.
+    Routers,
+}
+
+// What stands before the samples of rows.
+const ROWS_HEAD: &str =
+    "# HELP lisp_site_rows Live rows of each site that has a limit on its rows or routers.\n# TYPE lisp_site_rows gauge\n";
+
+// And before those of routers.
+const ROUTERS_HEAD: &str =
+    "# HELP lisp_site_routers Routers with live rows of each site that has a limit on its rows or routers.\n# TYPE lisp_site_routers gauge\n";
+
+/// Appends how many live rows each site has that has a limit on its routers or rows, and how many routers have them, by the rows of the
+/// Map-Server with a number that were counted: in lines `counts NAME site SITE-ID rows COUNT` and `counts NAME site SITE-ID routers COUNT`,
+/// in the order of the configuration; or as metrics. Out of memory, it may leave a part of them.
+pub fn put_site_counts<A: Memory, C: Memory + Copy, E: Allocator>(
+    text: &mut String<A>,
+    config: &Config<E>,
+    number: usize,
+    format: Format,
+    rows: &Gathering<C>,
+) -> Result<(), AllocError>
+    ensures text { Adds result text.old text.new
+        (site_counts_text format (node_name config.now number) config.now.sites
+        rows.now.routers.entries) }
+    ensures memory { OnErr result A.may_refuse }
+{
+    let name = node_name(config, number);
+    let sites = config.sites().as_slice();
+    match format {
+        Format::Lines => put_sites(text, SiteShape::Lines, name, sites, &rows.routers),
+        Format::Prometheus => put_site_families(text, name, sites, &rows.routers),
+    }
+}
+
+// Appends the samples of rows, and those of routers, where a site has such a limit. Out of memory, it may leave a part of them.
+fn put_site_families<A: Memory, C: Memory + Copy, E: Allocator>(
+    text: &mut String<A>,
+    name: &str,
+    sites: &[Site<E>],
+    counts: &BTreeMap<RouterId, u64, C>,
+) -> Result<(), AllocError>
+    ensures text { Adds result text.old text.new
+        (site_families name.now sites.now counts.now.entries) }
+    ensures memory { OnErr result A.may_refuse }
+{
+    if !some_limited(sites) {
+        return Ok(());
+    }
+    put_site_family(text, ROWS_HEAD, SiteShape::Rows, name, sites, counts)?;
+    put_site_family(text, ROUTERS_HEAD, SiteShape::Routers, name, sites, counts)
+}
+
+// Whether a site has such a limit.
+fn some_limited<E: Allocator>(sites: &[Site<E>]) -> bool
+    ensures { result ≡ list_any is_limited sites.now }
+{
+    sites.iter().any(|site| is_limited(site))
+}
+
+// Appends samples after their head. Out of memory, it may leave a part of them.
+fn put_site_family<A: Memory, C: Memory + Copy, E: Allocator>(
+    text: &mut String<A>,
+    head: &str,
+    shape: SiteShape,
+    name: &str,
+    sites: &[Site<E>],
+    counts: &BTreeMap<RouterId, u64, C>,
+) -> Result<(), AllocError>
+    ensures text { Adds result text.old text.new
+        (site_family head.now shape name.now sites.now counts.now.entries) }
+    ensures memory { OnErr result A.may_refuse }
+{
+    text.try_write(head)?;
+    put_sites(text, shape, name, sites, counts)
+}
+
+// Appends what is held of each site that has such a limit, in a shape. Out of memory, it may leave a part of it.
+fn put_sites<A: Memory, C: Memory + Copy, E: Allocator>(
+    text: &mut String<A>,
+    shape: SiteShape,
+    name: &str,
+    sites: &[Site<E>],
+    counts: &BTreeMap<RouterId, u64, C>,
+) -> Result<(), AllocError>
+    ensures text { Adds result text.old text.new
+        (flat_map (limited_text shape name.now counts.now.entries) sites.now) }
+    ensures memory { OnErr result A.may_refuse }
+{
+    for site in sites {
+        put_limited(text, shape, name, site, counts)?;
+    }
+    Ok(())
+}
+
+// Appends what is held of a site that has such a limit, in a shape; of another site nothing. Out of memory, it may leave a part of it.
+fn put_limited<A: Memory, C: Memory + Copy, E: Allocator>(
+    text: &mut String<A>,
+    shape: SiteShape,
+    name: &str,
+    site: &Site<E>,
+    counts: &BTreeMap<RouterId, u64, C>,
+) -> Result<(), AllocError>
+    ensures text { Adds result text.old text.new
+        (limited_text shape name.now counts.now.entries site.now) }
+    ensures memory { OnErr result A.may_refuse }
+{
+    if is_limited(site) {
+        put_held(text, shape, name, site.id(), held_of(counts, site.id()))
+    } else {
+        Ok(())
+    }
+}
+
+// Whether a site has a limit on its routers or rows.
+fn is_limited<E: Allocator>(site: &Site<E>) -> bool
+    ensures { result ≡ is_limited site.now }
+{
+    let limits = site.limits();
+    limits.most_routers.is_some() || limits.most_rows.is_some()
+}
+
+// What is held of a site, by how many rows each router has: the routers of the site stand together, and the first is sought by halving.
+fn held_of<C: Memory + Copy>(counts: &BTreeMap<RouterId, u64, C>, site: u64) -> Held
+    ensures { result ≡ held_of counts.now.entries site }
+{
+    let first = RouterId { site, xtr: [0; 16] };
+    let last = RouterId {
+        site,
+        xtr: [255; 16],
+    };
+    let (mut rows, mut routers) = (0u64, 0u64);
+    for (_, more) in counts.range((Bound::Included(first), Bound::Included(last))) {
+        rows = rows.saturating_add(*more);
+        routers = routers.saturating_add(1);
+    }
+    Held { rows, routers }
+}
+
+// Appends what is held of a site, in a shape. Out of memory, it may leave a part of it.
+fn put_held<A: Memory>(
+    text: &mut String<A>,
+    shape: SiteShape,
+    name: &str,
+    site: u64,
+    held: Held,
+) -> Result<(), AllocError>
+    ensures text { Adds result text.old text.new (held_text shape name.now site held) }
+    ensures memory { OnErr result A.may_refuse }
+{
+    match shape {
+        SiteShape::Lines => put_site_lines(text, name, site, held),
+        SiteShape::Rows => put_site_sample(text, "lisp_site_rows", name, site, held.rows),
+        SiteShape::Routers => put_site_sample(text, "lisp_site_routers", name, site, held.routers),
+    }
+}
+
+// Appends the lines of a site. Out of memory, it may leave a part of them.
+fn put_site_lines<A: Memory>(
+    text: &mut String<A>,
+    name: &str,
+    site: u64,
+    held: Held,
+) -> Result<(), AllocError>
+    ensures text { Adds result text.old text.new (site_lines name.now site held) }
+    ensures memory { OnErr result A.may_refuse }
+{
+    put_site_line(text, name, site, "rows", held.rows)?;
+    put_site_line(text, name, site, "routers", held.routers)
+}
+
+// Appends a line of a site. Out of memory, it may leave a part of it.
+#[tactic(auto, using(crate::proofs::SiteCounting::written))]
+fn put_site_line<A: Memory>(
+    text: &mut String<A>,
+    name: &str,
+    site: u64,
+    word: &str,
+    count: u64,
+) -> Result<(), AllocError>
+    ensures text { Adds result text.old text.new (site_line name.now site word.now count) }
+    ensures memory { OnErr result A.may_refuse }
+{
+    text.try_write(format_args!("counts {name} site {site:016x} {word} {count}\n"))
+}
+
+// Appends a sample of a site. Out of memory, it may leave a part of it.
+#[tactic(auto, using(crate::proofs::SiteCounting::written))]
+fn put_site_sample<A: Memory>(
+    text: &mut String<A>,
+    metric: &str,
+    name: &str,
+    site: u64,
+    count: u64,
+) -> Result<(), AllocError>
+    ensures text { Adds result text.old text.new (site_sample metric.now name.now site count) }
+    ensures memory { OnErr result A.may_refuse }
+{
+    text.try_write(format_args!("{metric}{{node=\"{name}\",site=\"{site:016x}\"}} {count}\n"))
+}
