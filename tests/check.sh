@@ -33,6 +33,7 @@ stage looks ./look.py "$program"
 stage 'Map-Requests that are answered' ./resolving.py "$program"
 stage 'floods of Map-Requests' ./floods.py "$program"
 stage 'noise like Map-Requests' ./noise.py "$program" 1 200000
+stage 'a stolen key' ./stolen_key.py "$program" 10
 stage devices ./devices.py "$program"
 stage folders ./folders.py "$program"
 stage times ./timing.py "$program"

@@ -38,6 +38,24 @@ CLOSING = "end\n"
 # The drop-in that lets a group ask a node; the node's user, that group, and a user in it and one who isn't.
 DROP_IN = Path(__file__).parent.parent / "packaging/ask-group.conf"
 NODE, ASKERS, MEMBER, STRANGER = 64001, 64002, 64003, 64004
+# Sites as they follow site 1, which has no limits, in a configuration: their Site-IDs, and their limits.
+LIMITED = (("00000000000000ff", "most_rows = 9"), ("00000000000000fe", "most_ttl = 1440\nmost_jump = 9"), ("0000000000000002", "most_routers = 1"),
+           ("0000000000000100", "most_routers = 9\nmost_rows = 9"), ("ffffffffffffffff", "most_rows = 4294967295"))
+# The metrics of those with a limit on their routers or rows, where the counts of `what_is_held_of_sites` end.
+HELD = """\
+# HELP lisp_site_rows Live rows of each site that has a limit on its rows or routers.
+# TYPE lisp_site_rows gauge
+lisp_site_rows{node="s1",site="00000000000000ff"} 5
+lisp_site_rows{node="s1",site="0000000000000002"} 0
+lisp_site_rows{node="s1",site="0000000000000100"} 1
+lisp_site_rows{node="s1",site="ffffffffffffffff"} 2
+# HELP lisp_site_routers Routers with live rows of each site that has a limit on its rows or routers.
+# TYPE lisp_site_routers gauge
+lisp_site_routers{node="s1",site="00000000000000ff"} 3
+lisp_site_routers{node="s1",site="0000000000000002"} 0
+lisp_site_routers{node="s1",site="0000000000000100"} 1
+lisp_site_routers{node="s1",site="ffffffffffffffff"} 1
+"""
 
 
 def ask(here, name, *words):
@@ -123,6 +141,43 @@ def what_is_counted(here):
         'lisp_replayed_sources{node="s1"} 0', 'lisp_map_requests_total{node="s1"} 0',
         'lisp_slowest_reply_seconds{node="s1"} 0e-6']))
     check("the longest save", re.fullmatch(r'lisp_longest_save_seconds\{node="s1"\} \d+e-3', save) is not None, True)
+    killed(process)
+
+
+def held_of_sites(here):
+    """What the counts of s1 say of sites: their last lines."""
+    status, text, wrongs = ask(here, "s1", "counts")
+    check("counts", (status, wrongs), (0, ""))
+    return re.findall("^counts s1 site (.*)\n", text[text.index("counts s1 slowest_reply_us "):], re.M)
+
+
+def what_is_held_of_sites(here):
+    """How many rows each site has that has a limit on its routers or rows, and how many routers have them, in the order of the configuration."""
+    with open(here.config, "a") as file:
+        for site, limits in LIMITED:
+            file.write(f'[[site]]\nid = "{site}"\n{limits}\n[[site.key]]\nid = 1\nsecret = "736563726574"\n'
+                       '[[site.prefix]]\neid = "10.1.0.0/16"\nmore_specifics = true\n')
+    process = up(here, "server", "s1", here.s1)
+    with peer(here.r1) as it:
+        def send(nonce, site, xtr, place, count, **how):
+            check("its answer", nonce_in(here.answer(it, map_register(nonce, site=site, xtr=xtr, records=host_records(place, count, **how)))), nonce)
+
+        check("nothing is held", held_of_sites(here),
+              ["00000000000000ff rows 0", "00000000000000ff routers 0", "0000000000000002 rows 0", "0000000000000002 routers 0",
+               "0000000000000100 rows 0", "0000000000000100 routers 0", "ffffffffffffffff rows 0", "ffffffffffffffff routers 0"])
+        # Of the site 255 the first router that there may be, one between, and the last.
+        for place, (site, xtr, count) in enumerate(((0xFF, 0, 1), (0xFF, 10, 2), (0xFF, 2**128 - 1, 3), (0xFE, 2**128 - 1, 4), (0x100, 0, 1),
+                                                    (1, 10, 5), (2**64 - 1, 2**128 - 1, 2))):
+            send(1, site, xtr, place, count)
+        check("what is held", held_of_sites(here),
+              ["00000000000000ff rows 6", "00000000000000ff routers 3", "0000000000000002 rows 0", "0000000000000002 routers 0",
+               "0000000000000100 rows 1", "0000000000000100 routers 1", "ffffffffffffffff rows 2", "ffffffffffffffff routers 1"])
+        send(2, 0xFF, 10, 1, 1, ttl=0)
+        status, text, wrongs = ask(here, "s1", "counts", "--prometheus")
+        check("as metrics", (status, wrongs, text[text.index("# HELP lisp_site_rows "):]), (0, "", HELD))
+        check("before them", re.search(r'\nlisp_slowest_reply_seconds\{node="s1"\} 0e-6\n# HELP lisp_site_rows ', text) is not None, True)
+        send(3, 0xFF, 10, 1, 2, ttl=0)
+        check("a router without rows", held_of_sites(here)[:2], ["00000000000000ff rows 4", "00000000000000ff routers 2"])
     killed(process)
 
 
@@ -657,9 +712,9 @@ def a_killed_process_leaves_its_socket(here):
 
 run_tests([
     *(over(store, test) for store in (FILES, GROUPS) for test in (a_map_server_is_asked, a_map_server_is_told, what_is_counted)),
-    who_is_refused_as_replaying, a_router_is_told, records_that_are_not_allowed, records_that_nobody_looks_at, a_router_that_is_down, advice, wrong_words,
-    an_answer_that_is_a_fault, a_list_by_parts, routers_by_parts, an_answer_that_is_cut, answers_on_the_socket, a_node_under_its_unit,
-    another_user_is_refused,
+    what_is_held_of_sites, who_is_refused_as_replaying, a_router_is_told, records_that_are_not_allowed, records_that_nobody_looks_at,
+    a_router_that_is_down, advice, wrong_words, an_answer_that_is_a_fault, a_list_by_parts, routers_by_parts, an_answer_that_is_cut,
+    answers_on_the_socket, a_node_under_its_unit, another_user_is_refused,
     a_group_asks_under_the_drop_in, a_socket_in_another_folder, a_socket_that_can_not_be_made, a_socket_that_was_removed,
     a_killed_process_leaves_its_socket,
 ], alone=[clients_that_misbehave, rows_that_come_meanwhile, a_client_that_takes_nothing_of_many_rows])

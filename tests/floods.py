@@ -6,33 +6,26 @@ alone. Prints each check that fails, and ends with 1 where one does. `floods.py 
 import collections
 import contextlib
 import itertools
-import multiprocessing
 import os
-import select
 import subprocess
-import sys
 import tempfile
 import time
-from pathlib import Path
 
 from asking import (TO_EACH, Everywhere, Itr, Sent, a_server, arrivals, asking, check_budget, counts_of, itrs_of, lines, packed, register,
                     registered, registration, resolves, stamped)
+from beside import (ASKER, BUSY, NODE, ROOM, SENDER, WATCHER, Beside, flood, in_ms, keep_apart, measured, note, processor_seconds, tell_busy,
+                    told_slow, waits)
 from nodes import (DATABASE, FILES, GROUPS, LIMIT, PORT, XTR, answers, check, killed, map_register, next_line, nonce_in, now, peer, ran, received,
                    run_tests, stopped, until)
 from sockets import check_below
 
 # How many Map-Registers a second, or Map-Requests, come beside a flood; how many datagrams a flood has, and for how many seconds it comes.
 RATE, FLOOD, SECONDS = 1_000, 100_000, 4
-# Which part of a processor's time a node is to need for them: where it would need more, as a program that isn't optimised does, or on a slow
-# machine, all comes more slowly. So it does from then on where the node needs nearly all of it: a flood of many addresses takes it longer than a few
-# datagrams of them do.
-BUSY, FULL = 0.6, 0.8
-# Each of these has a processor of its own, where there are so many: who watches for the answers to a flood, who sends it, who asks beside it, and
-# the node.
-PARTIES = WATCHER, SENDER, ASKER, NODE = range(4)
-# For how many seconds at a time the last three may wait for a processor where the waits are taken for the node's; and what comes in how many has
-# room in the buffer of a socket.
-KEPT, ROOM = 0.001, 0.01
+# From which part of a processor's time on that a node needs all comes more slowly (beside.py): a flood of many addresses takes it longer than a
+# few datagrams of them do.
+FULL = 0.8
+# For how many seconds at a time who sends, who asks and the node may wait for a processor where the waits are taken for the node's.
+KEPT = 0.001
 # How many tries there are, since the longest of some thousands of waits is one that the machine makes, too; and how many have to be against the node
 # where none is for it. Where all comes more than so many times as slowly the waits are too few, and aren't compared.
 TRIES, ENOUGH, SLOWEST = 10, 3, 4
@@ -41,50 +34,9 @@ SOURCES, ITRS = 20_000, 64
 # Where there is a disk in memory the folders are there.
 if os.path.isdir("/dev/shm"):
     tempfile.tempdir = "/dev/shm"
-FORKED = multiprocessing.get_context("fork")
-measured = sys.argv[2:3] == ["times"]
-
-
-def note(text):
-    if measured:
-        print(f"{now.test}: {text}", flush=True)
 
 
 # ---- beside a flood
-
-
-def keep_apart(process, party):
-    """Gives a party its processor, where there is one for each, and the first turn there, where the system lets us (sched(7))."""
-    processors = sorted(os.sched_getaffinity(0))
-    if len(processors) >= len(PARTIES):
-        os.sched_setaffinity(process, {processors[party]})
-        with contextlib.suppress(PermissionError):
-            os.sched_setscheduler(process, os.SCHED_FIFO, os.sched_param(1))
-
-
-class Beside:
-    """A function that runs in a process of its own, as a party, and what it returns."""
-
-    def __init__(self, party, function, *arguments):
-        self.ours, its = FORKED.Pipe()
-        self.process = FORKED.Process(target=self.run, args=(its, party, function, arguments))
-        self.process.start()
-        its.close()
-        self.ours.recv()
-
-    def run(self, its, party, function, arguments):
-        self.ours.close()
-        keep_apart(os.getpid(), party)
-        its.send("begun")
-        its.send(function(its, *arguments))
-
-    def result(self):
-        """Tells it to end, and waits for what it returns."""
-        with contextlib.suppress(BrokenPipeError):
-            self.ours.send("end")
-        found = self.ours.recv()
-        self.process.join()
-        return found
 
 
 def watch(told, port):
@@ -94,59 +46,6 @@ def watch(told, port):
         while not told.poll():
             found += it.arrivals(0.05)
         return found + it.arrivals(0.2)
-
-
-def flood(told, server, datagrams, count):
-    """Sends so many datagrams, from their sources, in turn, evenly over SECONDS, until it is told to end. How many."""
-    begun, sent = time.monotonic(), 0
-    with Everywhere() as it:
-        while sent < count and not told.poll():
-            due = min(count, int((time.monotonic() - begun) * count / SECONDS) + 1)
-            for number in range(sent, due):
-                source, data = datagrams[number % len(datagrams)]
-                it.send(source, data, server)
-            sent = max(sent, due)
-            time.sleep(0.0003)
-    return sent
-
-
-class Kept:
-    """For how many seconds at a time some processes waited for a processor at most. The system has sums: what all waited between two looks is taken
-    as one wait."""
-
-    def __init__(self, processes):
-        # (They are closed as this process ends.)
-        self.files = [os.open(f"/proc/{process}/schedstat", os.O_RDONLY) for process in processes]
-        self.sum, self.longest = self.waited(), 0.0
-
-    def waited(self):
-        return sum(int(os.pread(file, 100, 0).split()[1]) for file in self.files) / 1e9
-
-    def look(self):
-        last, self.sum = self.sum, self.waited()
-        self.longest = max(self.longest, self.sum - last)
-
-
-# How long messages waited for their answers, in seconds; which of them got none in two; and for how long at a time somebody waited for a processor.
-Waits = collections.namedtuple("Waits", "seconds missing kept")
-
-
-def waits(_told, send, receive, it, count, others):
-    """The waits of so many messages, which are sent evenly over SECONDS; of this process and others it is seen how they wait for a processor."""
-    begun, sent, found, number, kept = time.monotonic(), {}, [], 0, Kept([os.getpid(), *others])
-    gap = SECONDS / count
-    while number < count or sent and time.monotonic() < begun + SECONDS + 2:
-        while number < count and number * gap <= time.monotonic() - begun:
-            sent[number] = time.monotonic()
-            send(number)
-            number += 1
-        left = 0.05 if number >= count else max(0.0, begun + number * gap - time.monotonic())
-        if select.select([it], [], [], left)[0]:
-            got = receive()
-            if got in sent:
-                found.append(time.monotonic() - sent.pop(got))
-            kept.look()
-    return Waits(found, sorted(sent), kept.longest)
 
 
 class Registrar:
@@ -162,11 +61,7 @@ class Registrar:
     def waits(self, messages, *others):
         first = nonce_in(messages[0])
         return Beside(ASKER, waits, lambda number: self.it.sendto(messages[number], (self.here.s1, PORT)),
-                      lambda: nonce_in(self.it.recv(65535)) - first, self.it, len(messages), others).result()
-
-
-def processor_seconds(process):
-    return int(Path(f"/proc/{process.pid}/schedstat").read_text().split()[0]) / 1e9
+                      lambda: nonce_in(self.it.recv(65535)) - first, self.it, len(messages), SECONDS, others).result()
 
 
 def times_as_slow(here, process, registrar, datagrams):
@@ -183,22 +78,12 @@ def times_as_slow(here, process, registrar, datagrams):
             time.sleep(0.15 if number % burst == burst - 1 else 0)
     register_takes, request_takes = (between - begun) / len(messages), (processor_seconds(process) - between) / (bursts * burst)
     note(f"a Map-Register takes {register_takes * 1e6:.0f} us of a processor, a Map-Request {request_takes * 1e6:.0f} us")
-    return told_slow(max(1.0, (register_takes * RATE + request_takes * FLOOD / SECONDS) / BUSY))
+    return not_compared(max(1.0, (register_takes * RATE + request_takes * FLOOD / SECONDS) / BUSY))
 
 
-def told_slow(slow):
-    if slow > 1:
-        print(f"floods.py: {now.test}: this machine, or program, is slow: all comes {slow:.1f} times as slowly"
-              f"{', and how long it waits is not compared' if slow > SLOWEST else ''}", flush=True)
-    return slow
-
-
-def in_ms(found):
-    """The median wait, what 99 in a hundred are below, the longest, and for how long a processor was waited for, in ms."""
-    seconds = sorted(found.seconds) or [0]
-    parts = (("median", seconds[len(seconds) // 2]), ("of 99 in a hundred", seconds[len(seconds) * 99 // 100]), ("longest", seconds[-1]),
-             ("kept", found.kept))
-    return ", ".join(f"{name} {it * 1000:.2f} ms" for name, it in parts)
+def not_compared(slow):
+    """Says so where all comes more slowly, and where so slowly that the waits are too few."""
+    return told_slow(slow, ", and how long it waits is not compared" if slow > SLOWEST else "")
 
 
 def invented(here, count):
@@ -245,7 +130,7 @@ def a_free_port():
 def beside_a_flood(here, process, datagrams, size, port, r2, registrar, messages):
     """The waits of Map-Registers beside a flood of so many datagrams; how many of these were sent; and which part of a processor's time the node
     needed. What goes out meanwhile is within the budget."""
-    watcher, sender = Beside(WATCHER, watch, port), Beside(SENDER, flood, here.s1, datagrams, size)
+    watcher, sender = Beside(WATCHER, watch, port), Beside(SENDER, flood, here.s1, datagrams, size, SECONDS)
     at_first = processor_seconds(process)
     found = registrar.waits(messages, process.pid, sender.process.pid)
     busy = (processor_seconds(process) - at_first) / SECONDS
@@ -255,10 +140,6 @@ def beside_a_flood(here, process, datagrams, size, port, r2, registrar, messages
     check("some goes out", (len(came) > 10, len(on) > 10), (True, True))
     note(f"{sent} sent, {len(came)} Map-Replies, {len(on)} went on; within a second {most} bytes to one, {to_all} to all; busy {busy:.0%}")
     return found, sent, busy
-
-
-def tell_busy(what):
-    print(f"floods.py: {now.test}: this machine has other work, and so nothing is said of {what}", flush=True)
 
 
 def registrations_beside(here, datagrams_of):
@@ -282,7 +163,7 @@ def registrations_beside(here, datagrams_of):
             if is_met and (slow > SLOWEST or alone.kept <= KEPT):
                 return
             if busy > FULL:
-                slow = told_slow(slow * busy / BUSY)
+                slow = not_compared(slow * busy / BUSY)
             elif not is_met and beside.kept <= KEPT:
                 too_long.append(text)
         if len(too_long) >= ENOUGH:
@@ -311,9 +192,9 @@ def requests_beside_a_flood(here):
         forged = [(source, map_register(7, b"other")) for source in invented(here, SOURCES // 10)]
         asked = [asking(nonce, "10.1.4.1", text_of(addresses[nonce % ITRS]), itrs.port) for nonce in range(count)]
         for name, datagrams in (("nothing", []), ("good ones", good), ("forged ones", forged)):
-            sender = Beside(SENDER, flood, here.s1, datagrams, int(FLOOD / slow) if datagrams else 0)
+            sender = Beside(SENDER, flood, here.s1, datagrams, int(FLOOD / slow) if datagrams else 0, SECONDS)
             asker = Beside(ASKER, waits, lambda number: itrs.send(addresses[number % ITRS], asked[number], here.s1),
-                           lambda: nonce_in(itrs.socket.recv(65535)), itrs.socket, count, [process.pid])
+                           lambda: nonce_in(itrs.socket.recv(65535)), itrs.socket, count, SECONDS, [process.pid])
             found, most = asker.result(), count // 100
             if len(found.missing) > most and found.kept > ROOM:
                 tell_busy(f"those without an answer, beside {name}")

@@ -56,7 +56,9 @@ class Network:
             self.text += self.router(place, site, sites[site])
 
     def site(self, name, keys):
-        return (f'[[site]]\nid = "{name}"\n'
+        draw = self.draw
+        limits = "".join(f"{it} = {draw.choice([1, 2, 3, 2**32 - 1])}\n" for it in ("most_routers", "most_rows") if draw.random() < 0.3)
+        return (f'[[site]]\nid = "{name}"\n{limits}'
                 + "".join(f'[[site.key]]\nid = {key}\nsecret = "{self.hex(1, 80)}"\n' for key in keys)
                 + '[[site.prefix]]\neid = "10.1.0.0/16"\nmore_specifics = true\n[[site.prefix]]\neid = "2001:db8:0:0:0:0:0:0/32"\n'
                 + "more_specifics = true\n")

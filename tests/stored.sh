@@ -159,12 +159,13 @@ while IFS='|' read -r fault words edit; do
         differs "faults.txt: $edit" "2, '', 'lispd: fault $fault', 'lispd check -: $words'"
 done < checked/faults.txt
 
-# A file that others can read; --strict.
-cp $configuration ../out/configuration.toml
+# A file that others can read; --strict. Nothing else is warned of: its site has most_rows.
+sed 's/^id = "0000000000000001"/&\nmost_rows = 100/' $configuration > ../out/configuration.toml
+sed '/^warning: /d' checked/example.txt > ../out/understood
 chmod 600 ../out/configuration.toml
-expect 'a file of its owner alone' 0 @checked/example.txt '' check ../out/configuration.toml
-expect 'no warning, with --strict' 0 @checked/example.txt '' check --strict ../out/configuration.toml
-{ cat checked/example.txt && echo 'warning: ../out/configuration.toml: others can read the file, and it holds secrets'; } > ../out/wanted
+expect 'a file of its owner alone' 0 @../out/understood '' check ../out/configuration.toml
+expect 'no warning, with --strict' 0 @../out/understood '' check --strict ../out/configuration.toml
+{ cat ../out/understood && echo 'warning: ../out/configuration.toml: others can read the file, and it holds secrets'; } > ../out/wanted
 for mode in 640 604; do
     chmod $mode ../out/configuration.toml
     expect "a file of mode $mode" 0 @../out/wanted '' check ../out/configuration.toml
@@ -215,11 +216,13 @@ done <<'END'
 136|refused s1 136 from 192.0.2.9
 137|137 record 2
 138|refused s1 138 saved 7 from 192.0.2.9
+139|refused s1 139 from 192.0.2.9 times 8123
+140|refused s1 140 from 192.0.2.9
 END
 { "$program" explain 50 && "$program" explain 14; } > ../out/wanted
 expect 'a whole line with a fault explained' 0 @../out/wanted '' explain refused s1 50 read 14
-for line in 139 x '' '57 saved' '57 saved x' '57 58' '57 store 139' '57 saves 3' 65536 refused 'refused s1' 'refused s1 x' 'refused 57' \
-    'refused s1 57 saved x' 'refused s1 57 from nowhere' 'refused s1 57 from' 'refused s1 53 times 4 lines' 'refused s1 56 store 139' \
+for line in 141 x '' '57 saved' '57 saved x' '57 58' '57 store 141' '57 saves 3' 65536 refused 'refused s1' 'refused s1 x' 'refused 57' \
+    'refused s1 57 saved x' 'refused s1 57 from nowhere' 'refused s1 57 from' 'refused s1 53 times 4 lines' 'refused s1 56 store 141' \
     'accepted s1 r1 key 1 nonce 7 from 192.0.2.21' 'host lispd[812]: 57 saved 3' 'replays s1 from 192.0.2.21 times' 'counts s1 refused 57 4'; do
     expect "no line: '$line'" 2 '' 'lispd: fault 98' explain "$line"
 done
