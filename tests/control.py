@@ -55,6 +55,8 @@ lisp_site_routers{node="s1",site="00000000000000ff"} 3
 lisp_site_routers{node="s1",site="0000000000000002"} 0
 lisp_site_routers{node="s1",site="0000000000000100"} 1
 lisp_site_routers{node="s1",site="ffffffffffffffff"} 1
+# HELP lisp_site_refusals_total Map-Registers that a limit of a site refused since the start of the node, by their number.
+# TYPE lisp_site_refusals_total counter
 """
 
 
@@ -152,7 +154,8 @@ def held_of_sites(here):
 
 
 def what_is_held_of_sites(here):
-    """How many rows each site has that has a limit on its routers or rows, and how many routers have them, in the order of the configuration."""
+    """How many rows each site has that has a limit on its routers or rows, and how many routers have them, in the order of the configuration;
+    and how many Map-Registers each limit of a site refused, by Site-IDs and numbers."""
     with open(here.config, "a") as file:
         for site, limits in LIMITED:
             file.write(f'[[site]]\nid = "{site}"\n{limits}\n[[site.key]]\nid = 1\nsecret = "736563726574"\n'
@@ -178,6 +181,19 @@ def what_is_held_of_sites(here):
         check("before them", re.search(r'\nlisp_slowest_reply_seconds\{node="s1"\} 0e-6\n# HELP lisp_site_rows ', text) is not None, True)
         send(3, 0xFF, 10, 1, 2, ttl=0)
         check("a router without rows", held_of_sites(here)[:2], ["00000000000000ff rows 4", "00000000000000ff routers 2"])
+        send(1, 2, 1, 7, 1)
+        # Twice beyond most_rows of site 255, beyond most_jump of site 254 and most_routers of site 2; and one more with a wrong tag.
+        rows = map_register(4, site=0xFF, xtr=10, records=host_records(1, 6))
+        jump = map_register(11, site=0xFE, xtr=2**128 - 1, records=host_records(3, 1))
+        second = map_register(1, site=2, xtr=2, records=host_records(7, 1))
+        for message in (rows, jump, second, rows, map_register(4, secret=b"no secret", site=0xFF, xtr=10, records=host_records(1, 6))):
+            it.sendto(message, (here.s1, PORT))
+        check("all are refused", until(lambda: "counts s1 refused 53 1\n" in ask(here, "s1", "counts")[1]), True)
+        check("by limits of sites", [line for line in held_of_sites(here) if "refused" in line],
+              ["0000000000000002 refused 139 1", "00000000000000fe refused 138 1", "00000000000000ff refused 140 2"])
+        check("as metrics", re.findall("^lisp_site_refusals_total(.*)\n", ask(here, "s1", "counts", "--prometheus")[1], re.M),
+              ['{node="s1",site="0000000000000002",number="139"} 1', '{node="s1",site="00000000000000fe",number="138"} 1',
+               '{node="s1",site="00000000000000ff",number="140"} 2'])
     killed(process)
 
 

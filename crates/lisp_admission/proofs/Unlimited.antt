@@ -36,12 +36,12 @@ module _ (from : Addr) (m : MapRegisterValue) where
   -- what is checked of a site under some limits
   abbrev under : SiteValue → LimitsValue → Result Bool Refused
   under site limits =
-      check (lets_router limits m.xtr) (Limited Router) >>= λ _. check (lets_source limits from) (Limited Source) >>= λ _. check (not m.merge) MergeAsked
-      >>= λ _. check_all (first_not_allowed site m.records) NotAllowed >>= λ _. check_all (first_out_of_bounds limits m.use_ttl m.records) (λ place. Limited (Ttl place))
+      check (lets_router limits m.xtr) (Limited m.site Router) >>= λ _. check (lets_source limits from) (Limited m.site Source) >>= λ _. check (not m.merge) MergeAsked
+      >>= λ _. check_all (first_not_allowed site m.records) NotAllowed >>= λ _. check_all (first_out_of_bounds limits m.use_ttl m.records) (λ place. Limited m.site (Ttl place))
 
   -- two checks are left
   two_left : (b : Bool) (o : Option ℕ) (secret : List ℕ)
-      → (check b MergeAsked >>= λ _. check_all o NotAllowed >>= λ _. check_all None (λ place. Limited (Ttl place))) >>= (λ _. Ok secret) ≡ (check b MergeAsked >>= λ _. check_all o NotAllowed >>= λ _. Ok secret)
+      → (check b MergeAsked >>= λ _. check_all o NotAllowed >>= λ _. check_all None (λ place. Limited m.site (Ttl place))) >>= (λ _. Ok secret) ≡ (check b MergeAsked >>= λ _. check_all o NotAllowed >>= λ _. Ok secret)
   two_left true None secret = refl
   two_left true (Some place) secret = refl
   two_left false o secret = refl
@@ -50,7 +50,7 @@ module _ (from : Addr) (m : MapRegisterValue) where
       → (admitted site from m >>= λ _. Ok secret) ≡ (check (not m.merge) MergeAsked >>= λ _. check_all (first_not_allowed site m.records) NotAllowed >>= λ _. Ok secret)
   unlimited site secret none =
       ap (λ (limits : LimitsValue). under site limits >>= λ _. Ok secret) none
-      ∙ ap (λ (o : Option ℕ). (check (not m.merge) MergeAsked >>= λ _. check_all (first_not_allowed site m.records) NotAllowed >>= λ _. check_all o (λ place. Limited (Ttl place))) >>= λ _. Ok secret) (none_out m.use_ttl m.records)
+      ∙ ap (λ (o : Option ℕ). (check (not m.merge) MergeAsked >>= λ _. check_all (first_not_allowed site m.records) NotAllowed >>= λ _. check_all o (λ place. Limited m.site (Ttl place))) >>= λ _. Ok secret) (none_out m.use_ttl m.records)
       ∙ two_left (not m.merge) (first_not_allowed site m.records) secret
 
   by_tag : (site : SiteValue) (secret : List ℕ) (b : Bool) → site.limits ≡ no_limits

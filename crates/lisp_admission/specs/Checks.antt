@@ -38,11 +38,11 @@ check_all (Some place) refused = Err (refused place)
 -- prefixes and the TTLs
 abbrev pub admitted : SiteValue → Addr → MapRegisterValue → Result Bool Refused
 admitted site from m = do
-  _ ← check (lets_router site.limits m.xtr) (Limited Router)
-  _ ← check (lets_source site.limits from) (Limited Source)
+  _ ← check (lets_router site.limits m.xtr) (Limited m.site Router)
+  _ ← check (lets_source site.limits from) (Limited m.site Source)
   _ ← check (not m.merge) MergeAsked
   _ ← check_all (first_not_allowed site m.records) NotAllowed
-  check_all (first_out_of_bounds site.limits m.use_ttl m.records) (λ place. Limited (Ttl place))
+  check_all (first_out_of_bounds site.limits m.use_ttl m.records) (λ place. Limited m.site (Ttl place))
 
 -- the secret that a Map-Register stands under, or the first check that it fails
 unfoldable pub secret_under : List SiteValue → Addr → List ℕ → MapRegisterValue → Result (List ℕ) Refused

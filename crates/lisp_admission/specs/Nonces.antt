@@ -42,11 +42,11 @@ abbrev pub IsFar : Option ℕ → ℕ → ℕ → Type 0
 IsFar (Some jump) base nonce = base + jump < nonce
 IsFar None base nonce = ⊥
 
--- why a nonce isn't let through over its base: it is not above it, or too far
-abbrev pub IsAmiss : Option ℕ → Option ℕ → ℕ → Refused → Type 0
-IsAmiss jump base nonce (Replay saved) = (base ≡ Some saved) × (nonce ≤ saved)
-IsAmiss jump base nonce (Jump saved) = (base ≡ Some saved) × IsFar jump saved nonce
-IsAmiss jump base nonce _ = ⊥
+-- why a nonce of a site isn't let through over its base: it is not above it, or too far
+abbrev pub IsAmiss : ℕ → Option ℕ → Option ℕ → ℕ → Refused → Type 0
+IsAmiss site jump base nonce (Replay saved) = (base ≡ Some saved) × (nonce ≤ saved)
+IsAmiss site jump base nonce (Jump its saved) = (its ≡ site) × (base ≡ Some saved) × IsFar jump saved nonce
+IsAmiss site jump base nonce _ = ⊥
 
 -- no list of an honest store changed
 abbrev pub KeepsLists : StoreState → StoreState → Type 0
@@ -81,7 +81,7 @@ Unknown last before after fault = (last ≡ None) × HasCause fault before after
 abbrev pub Stops : Option ℕ → Option ℕ → StoreState → StoreState → Pair → ℕ → Refused → Type 0
 Stops jump last before after pair nonce (StoreLoad fault) = Unknown last before after fault
 Stops jump last before after pair nonce (Replay saved) = IsBase last before pair (Some saved) × (nonce ≤ saved)
-Stops jump last before after pair nonce (Jump saved) = IsBase last before pair (Some saved) × IsFar jump saved nonce
+Stops jump last before after pair nonce (Jump site saved) = (site ≡ pair.router.site) × IsBase last before pair (Some saved) × IsFar jump saved nonce
 Stops jump last before after pair nonce _ = ⊥
 
 -- an answer that is a refusal is one of these

@@ -53,10 +53,16 @@ fn admit<A: Allocator, B: Allocator>(
     ensures storeless { IsStoreless result }
 {
     if !site.limits().lets_router(&register.xtr) {
-        return Err(Refused::Limited(Limit::Router));
+        return Err(Refused::Limited {
+            site: register.site,
+            limit: Limit::Router,
+        });
     }
     if !site.limits().lets_source(from) {
-        return Err(Refused::Limited(Limit::Source));
+        return Err(Refused::Limited {
+            site: register.site,
+            limit: Limit::Source,
+        });
     }
     if register.merge {
         return Err(Refused::MergeAsked);
@@ -66,7 +72,10 @@ fn admit<A: Allocator, B: Allocator>(
         return Err(Refused::NotAllowed(place));
     }
     match first_out_of_bounds(site.limits(), register.use_ttl, records) {
-        Some(place) => Err(Refused::Limited(Limit::Ttl(place))),
+        Some(place) => Err(Refused::Limited {
+            site: register.site,
+            limit: Limit::Ttl(place),
+        }),
         None => Ok(true),
     }
 }

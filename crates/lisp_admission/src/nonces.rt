@@ -54,18 +54,18 @@ pub fn check_nonce<S: NonceStore>(
     ensures proceeds { Proceeds (S.seen store.old) (S.seen store.new) }
 {
     let base = last_nonce(store, pair, last).map_err(Refused::StoreLoad)?;
-    follows(base, nonce, most_jump)
+    follows(base, nonce, most_jump, pair.router.site)
 }
 
-// Whether a nonce is above its base, and by `most_jump` at most; `Replay`, `Jump`.
-fn follows(base: Option<u64>, nonce: u64, most_jump: Option<u64>) -> Result<(), Refused>
+// Whether a nonce is above its base, and by `most_jump` of a site at most; `Replay`, `Jump`.
+fn follows(base: Option<u64>, nonce: u64, most_jump: Option<u64>, site: u64) -> Result<(), Refused>
     ensures fresh { OnOk result (IsBelow base nonce) }
     ensures near { OnOk result (IsNear most_jump base nonce) }
-    ensures refused { IfErr result (λ refused. IsAmiss most_jump base nonce refused) }
+    ensures refused { IfErr result (λ refused. IsAmiss site most_jump base nonce refused) }
 {
     match base {
         Some(saved) if nonce <= saved => Err(Refused::Replay { saved }),
-        Some(saved) if is_far(most_jump, saved, nonce) => Err(Refused::Jump { saved }),
+        Some(saved) if is_far(most_jump, saved, nonce) => Err(Refused::Jump { site, saved }),
         _ => Ok(()),
     }
 }

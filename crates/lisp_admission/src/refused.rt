@@ -37,9 +37,14 @@ pub enum Refused {
     /// The place, from 0 on, of the first record whose prefix the site may not register.
     #[error("record {0} is not allowed")]
     NotAllowed(usize),
-    /// The Map-Register is beyond a limit of the site.
-    #[error("beyond a limit of the site: {0}")]
-    Limited(Limit),
+    /// The Map-Register is beyond a limit of its site.
+    #[error("beyond a limit of site {site:016x}: {limit}")]
+    Limited {
+        /// The site.
+        site: u64,
+        /// Its limit.
+        limit: Limit,
+    },
     /// The last nonce of the router under that key can't be loaded from the store.
     #[error("the last nonce can't be loaded: {0}")]
     StoreLoad(StoreFault),
@@ -49,15 +54,22 @@ pub enum Refused {
         /// That last nonce.
         saved: u64,
     },
-    /// The nonce is further above the last one of the router under that key than the site lets it jump.
-    #[error("the nonce is too far above {saved}")]
+    /// The nonce is further above the last one of the router under that key than its site lets it jump.
+    #[error("the nonce is too far above {saved} for site {site:016x}")]
     Jump {
+        /// The site.
+        site: u64,
         /// That last nonce.
         saved: u64,
     },
     /// The site has as many routers, or rows, as it may, and the Map-Register would bring another.
-    #[error("the site is full: {0}")]
-    Full(Full),
+    #[error("site {site:016x} is full: {full}")]
+    Full {
+        /// The site.
+        site: u64,
+        /// What it has as many of as it may.
+        full: Full,
+    },
     /// Out of memory to read the message, to hold its records or to build the Map-Notify.
     #[error("out of memory")]
     OutOfMemory,
@@ -83,11 +95,11 @@ impl Refused {
             Refused::BadAuth => 53,
             Refused::MergeAsked => 54,
             Refused::NotAllowed(_) => 55,
-            Refused::Limited(limit) => limit.number(),
+            Refused::Limited { limit, .. } => limit.number(),
             Refused::StoreLoad(_) => 56,
             Refused::Replay { .. } => 57,
             Refused::Jump { .. } => 138,
-            Refused::Full(full) => full.number(),
+            Refused::Full { full, .. } => full.number(),
             Refused::OutOfMemory => 58,
             Refused::StoreSave(_) => 59,
             Refused::NoNotice => 60,

@@ -73,11 +73,11 @@ ack_refused sites from bytes m refusals.UnknownSite never = absurd never
 ack_refused sites from bytes m refusals.UnknownKey never = absurd never
 ack_refused sites from bytes m refusals.MergeAsked never = absurd never
 ack_refused sites from bytes m (refusals.NotAllowed _) never = absurd never
-ack_refused sites from bytes m (refusals.Limited _) never = absurd never
+ack_refused sites from bytes m (refusals.Limited _ _) never = absurd never
 ack_refused sites from bytes m (refusals.StoreLoad _) never = absurd never
 ack_refused sites from bytes m (refusals.Replay _) never = absurd never
-ack_refused sites from bytes m (refusals.Jump _) never = absurd never
-ack_refused sites from bytes m (refusals.Full _) never = absurd never
+ack_refused sites from bytes m (refusals.Jump _ _) never = absurd never
+ack_refused sites from bytes m (refusals.Full _ _) never = absurd never
 ack_refused sites from bytes m refusals.OutOfMemory never = absurd never
 ack_refused sites from bytes m (refusals.StoreSave _) never = absurd never
 
@@ -104,8 +104,8 @@ register_refused may sites bytes m after (refusals.StoreSave fault) read out wen
     inl (out.save (ap (λ (f : StoreFault). Err (refusals.StoreSave f)) ran), (ran, (m, r.passed, read, r.checks)))
 register_refused may sites bytes m after refusals.OutOfMemory read out went r = inl (out.own refl)
 register_refused may sites bytes m after (refusals.Replay saved) read out went r = absurd (no_base (pair_of r.passed.message) saved r.base)
-register_refused may sites bytes m after (refusals.Jump saved) read out went r = absurd (no_base (pair_of r.passed.message) saved r.base)
-register_refused may sites bytes m after (refusals.Full full) read out went r = inr (inl ((m, r.passed, read, r.checks), r.lacks))
+register_refused may sites bytes m after (refusals.Jump site saved) read out went r = absurd (no_base (pair_of r.passed.message) saved r.base)
+register_refused may sites bytes m after (refusals.Full site full) read out went r = inr (inl ((m, r.passed, read, r.checks), r.its, r.lacks))
 register_refused may sites bytes m after (refusals.Read _) read out went r = inr (inr (ap answer_to r.0))
 register_refused may sites bytes m after refusals.NotMine read out went r = inr (inr (ap answer_to r.0))
 register_refused may sites bytes m after refusals.UnknownSite read out went r = inr (inr (ap answer_to r.0))
@@ -113,7 +113,7 @@ register_refused may sites bytes m after refusals.UnknownKey read out went r = i
 register_refused may sites bytes m after refusals.BadAuth read out went r = inr (inr (ap answer_to r.0))
 register_refused may sites bytes m after refusals.MergeAsked read out went r = inr (inr (ap answer_to r.0))
 register_refused may sites bytes m after (refusals.NotAllowed _) read out went r = inr (inr (ap answer_to r.0))
-register_refused may sites bytes m after (refusals.Limited _) read out went r = inr (inr (ap answer_to r.0))
+register_refused may sites bytes m after (refusals.Limited _ _) read out went r = inr (inr (ap answer_to r.0))
 register_refused may sites bytes m after refusals.NoNotice read out went r = inr (inr (ap answer_to r.0))
 
 read_refused : {T : Type 0} (may : Type 0) (sites : List SiteValue) (said : Result MessageValue ReadFault) (bytes : List ℕ) (after : StoreState) (why : Refused) → message_at bytes ≡ said → Excuse T may bytes why → Proceeds fresh_store after → RefusesRead said source bytes (fresh_server sites) fresh_store after 0 why → (may × RanOut sites bytes why) ⊎ (FillsUp sites bytes why ⊎ (read_answer sites bytes said ≡ Err why))
@@ -126,8 +126,8 @@ refused may sites bytes after refusals.OutOfMemory out went r = inl (out.own ref
 refused may sites bytes after (refusals.StoreLoad x) out went r = read_refused may sites (message_at bytes) bytes after (refusals.StoreLoad x) refl out went r
 refused may sites bytes after (refusals.StoreSave x) out went r = read_refused may sites (message_at bytes) bytes after (refusals.StoreSave x) refl out went r
 refused may sites bytes after (refusals.Replay x) out went r = read_refused may sites (message_at bytes) bytes after (refusals.Replay x) refl out went r
-refused may sites bytes after (refusals.Jump x) out went r = read_refused may sites (message_at bytes) bytes after (refusals.Jump x) refl out went r
-refused may sites bytes after (refusals.Full x) out went r = read_refused may sites (message_at bytes) bytes after (refusals.Full x) refl out went r
+refused may sites bytes after (refusals.Jump s x) out went r = read_refused may sites (message_at bytes) bytes after (refusals.Jump s x) refl out went r
+refused may sites bytes after (refusals.Full s x) out went r = read_refused may sites (message_at bytes) bytes after (refusals.Full s x) refl out went r
 refused may sites bytes after (refusals.Read x) out went r = read_refused may sites (message_at bytes) bytes after (refusals.Read x) refl out went r
 refused may sites bytes after refusals.NotMine out went r = read_refused may sites (message_at bytes) bytes after refusals.NotMine refl out went r
 refused may sites bytes after refusals.UnknownSite out went r = read_refused may sites (message_at bytes) bytes after refusals.UnknownSite refl out went r
@@ -135,5 +135,5 @@ refused may sites bytes after refusals.UnknownKey out went r = read_refused may 
 refused may sites bytes after refusals.BadAuth out went r = read_refused may sites (message_at bytes) bytes after refusals.BadAuth refl out went r
 refused may sites bytes after refusals.MergeAsked out went r = read_refused may sites (message_at bytes) bytes after refusals.MergeAsked refl out went r
 refused may sites bytes after (refusals.NotAllowed x) out went r = read_refused may sites (message_at bytes) bytes after (refusals.NotAllowed x) refl out went r
-refused may sites bytes after (refusals.Limited x) out went r = read_refused may sites (message_at bytes) bytes after (refusals.Limited x) refl out went r
+refused may sites bytes after (refusals.Limited s x) out went r = read_refused may sites (message_at bytes) bytes after (refusals.Limited s x) refl out went r
 refused may sites bytes after refusals.NoNotice out went r = read_refused may sites (message_at bytes) bytes after refusals.NoNotice refl out went r

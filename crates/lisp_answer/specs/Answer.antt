@@ -48,7 +48,7 @@ RanOut sites bytes _ = ⊥
 
 -- the bytes are such a Map-Register, and its site has no space for its records alone
 unfoldable pub FillsUp : List SiteValue → List ℕ → Refused → Type 0
-FillsUp sites bytes (Full full) = (p : PassesAll sites bytes) × LacksSpace (fresh_server sites) p.1.message source 0 full
+FillsUp sites bytes (Full site full) = (p : PassesAll sites bytes) × (site ≡ p.1.message.site) × LacksSpace (fresh_server sites) p.1.message source 0 full
 FillsUp sites bytes _ = ⊥
 
 -- the result is the answer, unless memory ran out that may be refused, or the site may not hold so much

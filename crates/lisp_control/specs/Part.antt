@@ -20,6 +20,7 @@ use Rattle.lisp_statistics.specs.Replays.{replay_count}
 use Rattle.lisp_statistics.specs.RouterList.{ListsRouters, is_long_list, list_start, listed_text, routers_by_parts}
 use Rattle.lisp_statistics.specs.Routers.{routers_counted_text}
 use Rattle.lisp_statistics.specs.SiteCounts.{site_counts_text}
+use Rattle.lisp_statistics.specs.SiteRefusals.{site_refusals_text}
 use Rattle.lisp_statistics.specs.declared.counts.Format.{Format}
 use Rattle.lisp_statistics.specs.declared.gathering.Gathering.{Gathering}
 use Rattle.lisp_statistics.specs.declared.router_list.RouterList.{RouterList}
@@ -89,7 +90,7 @@ HeardPart c number core s runs progress now text rest = CountsPart core progress
 -- what is counted of it, what it has, and what it holds of the sites that have a limit on that
 abbrev pub told_server : {A : Type 0} → ConfigValue → ℕ → ServerState → Statistics A → List Replay → Format → ℕ → Gathering Global → List ℕ
 told_server c number core s runs format now rows = told_counts c number s format (server_gauges rows core (replay_count now runs) s)
-    ++ site_counts_text format (node_name c number) c.sites rows.routers.entries
+    ++ site_counts_text format (node_name c number) c.sites rows.routers.entries ++ site_refusals_text format (node_name c number) s.by_site.entries
 
 abbrev pub TellsCounts : {A : Type 0} → ConfigValue → ℕ → ServerState → Statistics A → List Replay → Format → ℕ → Gathering Global → List ℕ → Option Progress → Type 0
 TellsCounts c number core s runs format now rows text rest = (text ≡ told_server c number core s runs format now rows) × (rest ≡ None)

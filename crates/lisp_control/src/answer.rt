@@ -18,6 +18,7 @@ use lisp_server::Server;
 use lisp_sites::Config;
 use lisp_statistics::{
     Figure, Format, Gathering, Gauge, Statistics, count_replays, counts_text, put_site_counts,
+    put_site_refusals,
 };
 use std::alloc::{AllocError, Global};
 
@@ -87,7 +88,7 @@ fn router_counts(
 
 /// What is counted of the Map-Server with a number, and what it has at a moment, in ms, by its core, its rows as they
 /// were counted, and the runs of Map-Registers that it refuses as replays; then what is held of each site that has a
-/// limit on its routers or rows.
+/// limit on its routers or rows, and how many Map-Registers the limits of each site refused.
 pub(crate) fn server_counts(
     alloc: Global,
     config: &Config,
@@ -114,6 +115,7 @@ pub(crate) fn server_counts(
     ];
     let mut text = counts_text(alloc, config, number, format, statistics, &gauges)?;
     put_site_counts(&mut text, config, number, format, rows)?;
+    put_site_refusals(&mut text, config, number, format, statistics)?;
     Ok(text)
 }
 

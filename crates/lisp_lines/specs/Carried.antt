@@ -37,10 +37,10 @@ read_words fault = carried (codes "read") (read_fault_number fault)
 abbrev pub refused_words : Refused → List ℕ
 refused_words (refused.Read fault) = read_words fault
 refused_words (refused.NotAllowed place) = carried (codes "record") place
-refused_words (refused.Limited (limits.Ttl place)) = carried (codes "record") place
+refused_words (refused.Limited _ (limits.Ttl place)) = carried (codes "record") place
 refused_words (refused.StoreLoad fault) = store_words fault
 refused_words (refused.Replay saved) = carried (codes "saved") saved
-refused_words (refused.Jump saved) = carried (codes "saved") saved
+refused_words (refused.Jump _ saved) = carried (codes "saved") saved
 refused_words (refused.StoreSave fault) = store_words fault
 refused_words _ = []
 

@@ -25,10 +25,14 @@ pub fn put_carried<A: Memory>(text: &mut String<A>, refusal: &Refusal) -> Result
             put_read(text, fault)
         }
         Refusal::Notify(NotifyFault::Stale { latest }) => put_number(text, " latest ", *latest),
-        Refusal::Receive(Refused::NotAllowed(place) | Refused::Limited(Limit::Ttl(place))) => {
-            put_number(text, " record ", *place as u64)
-        }
-        Refusal::Receive(Refused::Replay { saved } | Refused::Jump { saved }) => {
+        Refusal::Receive(
+            Refused::NotAllowed(place)
+            | Refused::Limited {
+                limit: Limit::Ttl(place),
+                ..
+            },
+        ) => put_number(text, " record ", *place as u64),
+        Refusal::Receive(Refused::Replay { saved } | Refused::Jump { saved, .. }) => {
             put_number(text, " saved ", *saved)
         }
         Refusal::Receive(Refused::StoreLoad(fault) | Refused::StoreSave(fault))

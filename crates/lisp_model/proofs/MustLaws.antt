@@ -102,10 +102,10 @@ module _ (t : Context) (kind : is_server t.opening.config t.node ≡ true) (a : 
     accept_or_excused named (refuseds.Replay saved) row = absurd (not_stale (most_jump_at t.opening.config.sites m.site) (last_in t (pair_of m)) (values t (pair_of m)) m.nonce saved above
         (subst (λ (x : MapRegisterValue). IsBase (last_in t (pair_of x)) (values t (pair_of x)) (Some saved)) (sym (same_register row.message row.admits.read)) row.counts)
         (subst (λ (x : MapRegisterValue). x.nonce ≤ saved) (sym (same_register row.message row.admits.read)) row.stale))
-    accept_or_excused named (refuseds.Jump saved) row = absurd (not_far (most_jump_at t.opening.config.sites m.site) (last_in t (pair_of m)) (values t (pair_of m)) m.nonce saved above
+    accept_or_excused named (refuseds.Jump site saved) row = absurd (not_far (most_jump_at t.opening.config.sites m.site) (last_in t (pair_of m)) (values t (pair_of m)) m.nonce saved above
         (subst (λ (x : MapRegisterValue). IsBase (last_in t (pair_of x)) (values t (pair_of x)) (Some saved)) (sym (same_register row.message row.admits.read)) row.counts)
         (subst (λ (x : MapRegisterValue). IsFar (most_jump_at t.opening.config.sites x.site) saved x.nonce) (sym (same_register row.message row.admits.read)) row.far))
-    accept_or_excused named (refuseds.Full full) row =
+    accept_or_excused named (refuseds.Full site full) row =
         let same = sym (same_register row.message row.admits.read) in
         absurd (full_or_fits (most_routers_at t.opening.config.sites m.site) (most_rows_at t.opening.config.sites m.site) m.site (rows_before t) (rows_with t a m) full space (subst (λ (x : MapRegisterValue). LacksSpace t a x full) same row.lacks))
     accept_or_excused named refuseds.OutOfMemory row = λ other. absurd (other refl)
@@ -147,8 +147,8 @@ module _ (t : Context) (kind : is_server t.opening.config t.node ≡ true) (a : 
     end_or_excused : (named : ℕ) (why : Refused) → RefusesMessage t a why → IsExcused t (lines.Refused named (refusals.Receive why))
     end_or_excused named (refuseds.StoreLoad fault) row = row.fails.cause
     end_or_excused named (refuseds.Replay saved) row = absurd (is_no_register row.message row.admits.read)
-    end_or_excused named (refuseds.Jump saved) row = absurd (is_no_register row.message row.admits.read)
-    end_or_excused named (refuseds.Full full) row = absurd (is_no_register row.message row.admits.read)
+    end_or_excused named (refuseds.Jump site saved) row = absurd (is_no_register row.message row.admits.read)
+    end_or_excused named (refuseds.Full site full) row = absurd (is_no_register row.message row.admits.read)
     end_or_excused named refuseds.OutOfMemory row = λ other. absurd (other refl)
     end_or_excused named (refuseds.StoreSave fault) row = row.fails.cause
     end_or_excused named _ row = absurd (ends_no_check _ a.read read row.0)

@@ -137,8 +137,8 @@ module _ (t : Context) (its : is_server t.opening.config t.node ≡ true) (nonce
   message_safe : (a : Arrival) (why : Refused) → RefusesMessage t a why → Stays
   message_safe a (refuseds.StoreLoad fault) row = quiet row.fails.same
   message_safe a (refuseds.Replay saved) row = quiet row.same
-  message_safe a (refuseds.Jump saved) row = quiet row.same
-  message_safe a (refuseds.Full full) row = quiet row.same
+  message_safe a (refuseds.Jump site saved) row = quiet row.same
+  message_safe a (refuseds.Full site full) row = quiet row.same
   message_safe a refuseds.OutOfMemory row = quiet row.2
   message_safe a (refuseds.StoreSave fault) row = stays (row.fails.others notice_pair (not_received _ refl))
   message_safe a _ row = quiet row.1

@@ -132,8 +132,8 @@ module _ (t : Context) where
   message_refused : (a : Arrival) (why : Refused) → RefusesMessage t a why → Stays t
   message_refused a (refuseds.StoreLoad fault) row = quiet row.fails.same
   message_refused a (refuseds.Replay saved) row = quiet row.same
-  message_refused a (refuseds.Jump saved) row = quiet row.same
-  message_refused a (refuseds.Full full) row = quiet row.same
+  message_refused a (refuseds.Jump site saved) row = quiet row.same
+  message_refused a (refuseds.Full site full) row = quiet row.same
   message_refused a refuseds.OutOfMemory row = quiet row.2
   message_refused a (refuseds.StoreSave fault) row = inl (λ key. row.fails.others (pair_under t.opening t.node key) (not_received key _ refl))
   message_refused a _ row = quiet row.1

@@ -131,8 +131,8 @@ module _ (t : Context) (its : is_server t.opening.config t.node ≡ true) (q : P
   message_safe : (a : Arrival) (now node : ℕ) (why : Refused) → t.node ≡ node → RefusesMessage t a why → After (acceptances_in (Some a) now) (lines.Refused node (refusals.Receive why))
   message_safe a now node (refuseds.StoreLoad fault) is row = quiet row.fails.same
   message_safe a now node (refuseds.Replay saved) is row = quiet row.same
-  message_safe a now node (refuseds.Jump saved) is row = quiet row.same
-  message_safe a now node (refuseds.Full full) is row = quiet row.same
+  message_safe a now node (refuseds.Jump site saved) is row = quiet row.same
+  message_safe a now node (refuseds.Full site full) is row = quiet row.same
   message_safe a now node refuseds.OutOfMemory is row = quiet row.2
   message_safe a now node (refuseds.StoreSave fault) is row = tried_line node (acceptances_in (Some a) now) is (subst (λ (new : List Acceptance). Safe q acc (since_start t.opening t.past t.node) (nonces_of q new ++ old) (values_after t q)) (sym (taken_one a now row.message row.admits.read))
       (doubts_safe a row.message row.admits.read row.fresh now row.fails.here row.fails.others (eq_by_cmp pair_cmp q (pair_of row.message)) refl))

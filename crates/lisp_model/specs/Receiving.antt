@@ -134,18 +134,20 @@ pub record Replays (t : Context) (a : Arrival) (saved : ℕ) : Type 0 where
   pub same : Same t
 
 -- the nonce is too far above its base
-pub record Jumps (t : Context) (a : Arrival) (saved : ℕ) : Type 0 where
+pub record Jumps (t : Context) (a : Arrival) (site saved : ℕ) : Type 0 where
   pub message : MapRegisterValue
   pub admits : Admits t a message
+  pub its : site ≡ message.site
   pub counts : IsBase (last_in t (pair_of message)) (values t (pair_of message)) (Some saved)
   pub loads : Loads t (last_in t (pair_of message))
   pub far : IsFar (most_jump_at t.opening.config.sites message.site) saved message.nonce
   pub same : Same t
 
 -- its site has no space for it
-pub record Overflows (t : Context) (a : Arrival) (full : Full) : Type 0 where
+pub record Overflows (t : Context) (a : Arrival) (site : ℕ) (full : Full) : Type 0 where
   pub message : MapRegisterValue
   pub admits : Admits t a message
+  pub its : site ≡ message.site
   pub fresh : IsFresh t message
   pub lacks : LacksSpace t a message full
   pub same : Same t
@@ -169,8 +171,8 @@ pub record IsToAccept (t : Context) (a : Arrival) : Type 0 where
 abbrev pub RefusesMessage : Context → Arrival → Refused → Type 0
 RefusesMessage t a (StoreLoad fault) = NotLoaded t a fault
 RefusesMessage t a (Replay saved) = Replays t a saved
-RefusesMessage t a (Jump saved) = Jumps t a saved
-RefusesMessage t a (FullOf full) = Overflows t a full
+RefusesMessage t a (Jump site saved) = Jumps t a site saved
+RefusesMessage t a (FullOf site full) = Overflows t a site full
 RefusesMessage t a OutOfMemory = HasHead a.bytes × (HasRecords a.bytes ⊎ IsToAccept t a) × Same t
 RefusesMessage t a (StoreSave fault) = NotSaved t a fault
 RefusesMessage t a why = FailsCheck t a a.read why × Same t

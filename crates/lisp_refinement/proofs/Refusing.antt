@@ -129,17 +129,19 @@ module _ (o : Opening) (T : List Step) (node : ℕ) (before : ServerNodeState) (
         stale = r.stale;
         same = same_lists r.same;
       }
-      refuses_register (refuseds.Jump saved) r head = record {
+      refuses_register (refuseds.Jump site saved) r head = record {
         message = r.passed.message;
         admits = admits r.passed r.checks;
+        its = r.its;
         counts = base_in (nonce_at before.core.nonces (pair_of r.passed.message)) (last_in turn (pair_of r.passed.message)) armed (shown_store o T node).kept (pair_of r.passed.message) (Some saved) shows.honest shows.kept (last_is r.passed.message) r.base;
         loads = λ none. loads_in (nonce_at before.core.nonces (pair_of r.passed.message)) (Some saved) (pair_of r.passed.message) r.base (last_is r.passed.message ∙ none);
         far = subst (λ (sites : List SiteValue). IsFar (most_jump_at sites r.passed.message.site) saved r.passed.message.nonce) part.sites r.far;
         same = same_lists r.same;
       }
-      refuses_register (refuseds.Full full) r head = record {
+      refuses_register (refuseds.Full site full) r head = record {
         message = r.passed.message;
         admits = admits r.passed r.checks;
+        its = r.its;
         fresh = is_fresh r.passed.message r.fresh;
         lacks = lacks_in (Ok (Registers m)) r.passed.message full r.lacks;
         same = same_lists r.same;
@@ -167,7 +169,7 @@ module _ (o : Opening) (T : List Step) (node : ℕ) (before : ServerNodeState) (
       refuses_register refuseds.BadAuth r head = fails refuseds.BadAuth r
       refuses_register refuseds.MergeAsked r head = fails refuseds.MergeAsked r
       refuses_register (refuseds.NotAllowed place) r head = fails (refuseds.NotAllowed place) r
-      refuses_register (refuseds.Limited limit) r head = fails (refuseds.Limited limit) r
+      refuses_register (refuseds.Limited site limit) r head = fails (refuseds.Limited site limit) r
       refuses_register refuseds.NoNotice r head = fails refuseds.NoNotice r
 
     -- a Map-Notify or Map-Notify-Ack that no notice takes
@@ -199,12 +201,12 @@ module _ (o : Opening) (T : List Step) (node : ℕ) (before : ServerNodeState) (
     refuses legal (Ok (Notifies m)) (refuseds.StoreLoad fault) r head = absurd r.0
     refuses legal (Ok (Notifies m)) (refuseds.StoreSave fault) r head = absurd r.0
     refuses legal (Ok (Notifies m)) (refuseds.Replay saved) r head = absurd r.0
-    refuses legal (Ok (Notifies m)) (refuseds.Jump saved) r head = absurd r.0
-    refuses legal (Ok (Notifies m)) (refuseds.Full full) r head = absurd r.0
+    refuses legal (Ok (Notifies m)) (refuseds.Jump site saved) r head = absurd r.0
+    refuses legal (Ok (Notifies m)) (refuseds.Full site full) r head = absurd r.0
     refuses legal (Ok (Notifies m)) why r head = (refuses_notify legal m why r.0, same_store r.1)
     refuses legal (Err fault) (refuseds.StoreLoad other) r head = absurd (let clash : refuseds.StoreLoad other ≡ refuseds.Read fault = r.0 in cc)
     refuses legal (Err fault) (refuseds.StoreSave other) r head = absurd (let clash : refuseds.StoreSave other ≡ refuseds.Read fault = r.0 in cc)
     refuses legal (Err fault) (refuseds.Replay saved) r head = absurd (let clash : refuseds.Replay saved ≡ refuseds.Read fault = r.0 in cc)
-    refuses legal (Err fault) (refuseds.Jump saved) r head = absurd (let clash : refuseds.Jump saved ≡ refuseds.Read fault = r.0 in cc)
-    refuses legal (Err fault) (refuseds.Full full) r head = absurd (let clash : refuseds.Full full ≡ refuseds.Read fault = r.0 in cc)
+    refuses legal (Err fault) (refuseds.Jump site saved) r head = absurd (let clash : refuseds.Jump site saved ≡ refuseds.Read fault = r.0 in cc)
+    refuses legal (Err fault) (refuseds.Full site full) r head = absurd (let clash : refuseds.Full site full ≡ refuseds.Read fault = r.0 in cc)
     refuses legal (Err fault) why r head = (r.0, same_store r.1)

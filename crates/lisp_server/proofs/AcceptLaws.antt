@@ -53,9 +53,9 @@ module _ {M N : Type 0} {said : Result MessageValue ReadFault} {bytes : List ℕ
   never (refusals.StoreSave f) r memory load save = uncaused f before after r.cause (save f refl) keeps sound
   never (refusals.Replay saved) r memory load save =
       not_stale (most_jump_at old.sites r.passed.message.site) _ before r.passed saved (follows_as r.passed r.checks) r.base r.stale
-  never (refusals.Jump saved) r memory load save =
+  never (refusals.Jump site saved) r memory load save =
       not_far (most_jump_at old.sites r.passed.message.site) saved r.passed.message.nonce (follows_as r.passed r.checks (Some saved) r.base).1 r.far
-  never (refusals.Full full) r memory load save = full_or_fits _ _ r.passed.message.site _ _ full (space_as r.passed r.checks) r.lacks
+  never (refusals.Full site full) r memory load save = full_or_fits _ _ r.passed.message.site _ _ full (space_as r.passed r.checks) r.lacks
   never (refusals.Read fault) r memory load save = passed_clash _ a.passed _ a.checks r.0
   never refusals.NotMine r memory load save = passed_clash _ a.passed _ a.checks r.0
   never refusals.UnknownSite r memory load save = passed_clash _ a.passed _ a.checks r.0
@@ -63,7 +63,7 @@ module _ {M N : Type 0} {said : Result MessageValue ReadFault} {bytes : List ℕ
   never refusals.BadAuth r memory load save = passed_clash _ a.passed _ a.checks r.0
   never refusals.MergeAsked r memory load save = passed_clash _ a.passed _ a.checks r.0
   never (refusals.NotAllowed place) r memory load save = passed_clash _ a.passed _ a.checks r.0
-  never (refusals.Limited limit) r memory load save = passed_clash _ a.passed _ a.checks r.0
+  never (refusals.Limited site limit) r memory load save = passed_clash _ a.passed _ a.checks r.0
   never refusals.NoNotice r memory load save = passed_clash _ a.passed _ a.checks r.0
 
   -- what is acceptable is accepted

@@ -156,11 +156,11 @@ module _ {A : Type 0} {sites : List SiteValue} {from : Addr} {now : ℕ} {bytes 
   unsaved_own refusals.BadAuth s = absurd s.not_kept
   unsaved_own refusals.MergeAsked s = absurd s.not_kept
   unsaved_own (refusals.NotAllowed _) s = absurd s.not_kept
-  unsaved_own (refusals.Limited _) s = absurd s.not_kept
+  unsaved_own (refusals.Limited _ _) s = absurd s.not_kept
   unsaved_own (refusals.StoreLoad _) s = absurd s.not_kept
   unsaved_own (refusals.Replay _) s = absurd s.not_kept
-  unsaved_own (refusals.Jump _) s = absurd s.not_kept
-  unsaved_own (refusals.Full _) s = absurd s.not_kept
+  unsaved_own (refusals.Jump _ _) s = absurd s.not_kept
+  unsaved_own (refusals.Full _ _) s = absurd s.not_kept
   unsaved_own refusals.OutOfMemory s = absurd s.not_kept
   unsaved_own refusals.NoNotice s = absurd s.not_kept
 
@@ -174,7 +174,7 @@ IsCheck refusals.UnknownKey = Unit {0}
 IsCheck refusals.BadAuth = Unit {0}
 IsCheck refusals.MergeAsked = Unit {0}
 IsCheck (refusals.NotAllowed _) = Unit {0}
-IsCheck (refusals.Limited _) = Unit {0}
+IsCheck (refusals.Limited _ _) = Unit {0}
 IsCheck _ = ⊥
 
 OnlyChecks : {X : Type 0} → Result X Refused → Type 0
@@ -203,9 +203,9 @@ all_only (Some place) e is = is place
 
 admitted_only : (site : SiteValue) (from : Addr) (m : MapRegisterValue) → OnlyChecks (admitted site from m)
 admitted_only site from m =
-    bind_only _ _ (check_only (lets_router site.limits m.xtr) (refusals.Limited Router) tt) (λ _. bind_only _ _ (check_only (lets_source site.limits from) (refusals.Limited Source) tt) (λ _.
+    bind_only _ _ (check_only (lets_router site.limits m.xtr) (refusals.Limited m.site Router) tt) (λ _. bind_only _ _ (check_only (lets_source site.limits from) (refusals.Limited m.site Source) tt) (λ _.
     bind_only _ _ (check_only (not m.merge) refusals.MergeAsked tt) (λ _. bind_only _ _ (all_only (first_not_allowed site m.records) refusals.NotAllowed (λ _. tt)) (λ _.
-    all_only (first_out_of_bounds site.limits m.use_ttl m.records) (λ place. refusals.Limited (Ttl place)) (λ _. tt)))))
+    all_only (first_out_of_bounds site.limits m.use_ttl m.records) (λ place. refusals.Limited m.site (Ttl place)) (λ _. tt)))))
 
 secret_only : (sites : List SiteValue) (from : Addr) (bytes : List ℕ) (m : MapRegisterValue) → OnlyChecks (secret_under sites from bytes m)
 unfolding secret_under OnlyChecks
@@ -223,13 +223,13 @@ refuses_check refusals.UnknownKey c old before from now is at = (at, refl)
 refuses_check refusals.BadAuth c old before from now is at = (at, refl)
 refuses_check refusals.MergeAsked c old before from now is at = (at, refl)
 refuses_check (refusals.NotAllowed _) c old before from now is at = (at, refl)
-refuses_check (refusals.Limited _) c old before from now is at = (at, refl)
+refuses_check (refusals.Limited _ _) c old before from now is at = (at, refl)
 refuses_check (refusals.Read _) c old before from now is at = absurd is
 refuses_check refusals.NotMine c old before from now is at = absurd is
 refuses_check (refusals.StoreLoad _) c old before from now is at = absurd is
 refuses_check (refusals.Replay _) c old before from now is at = absurd is
-refuses_check (refusals.Jump _) c old before from now is at = absurd is
-refuses_check (refusals.Full _) c old before from now is at = absurd is
+refuses_check (refusals.Jump _ _) c old before from now is at = absurd is
+refuses_check (refusals.Full _ _) c old before from now is at = absurd is
 refuses_check refusals.OutOfMemory c old before from now is at = absurd is
 refuses_check (refusals.StoreSave _) c old before from now is at = absurd is
 refuses_check refusals.NoNotice c old before from now is at = absurd is
@@ -248,7 +248,7 @@ stops sites from now bytes m secret old before after pair nonce e p n checks sam
     own : (e : Refused) → Unasked (nonce_at old.nonces (pair_of m)) before after → Stops (most_jump_at old.sites m.site) (nonce_at old.nonces (pair_of m)) before after (pair_of m) m.nonce e → RefusesRegister (register_checked sites from bytes m) old before after from now e
     own (refusals.StoreLoad fault) unasked (unknown, cause, unchanged, armed) = record { passed = record { message = m; secret = secret }; checks = passes; unknown = unknown; cause = cause; memory = unchanged; same = same; armed = armed }
     own (refusals.Replay saved) unasked (base, stale) = record { passed = record { message = m; secret = secret }; checks = passes; base = base; stale = stale; unasked = unasked; same = same }
-    own (refusals.Jump saved) unasked (base, far) = record { passed = record { message = m; secret = secret }; checks = passes; base = base; far = far; unasked = unasked; same = same }
+    own (refusals.Jump site saved) unasked (its, base, far) = record { passed = record { message = m; secret = secret }; checks = passes; its = its; base = base; far = far; unasked = unasked; same = same }
     own (refusals.Read _) unasked never = absurd never
     own refusals.NotMine unasked never = absurd never
     own refusals.UnknownSite unasked never = absurd never
@@ -256,8 +256,8 @@ stops sites from now bytes m secret old before after pair nonce e p n checks sam
     own refusals.BadAuth unasked never = absurd never
     own refusals.MergeAsked unasked never = absurd never
     own (refusals.NotAllowed _) unasked never = absurd never
-    own (refusals.Limited _) unasked never = absurd never
-    own (refusals.Full _) unasked never = absurd never
+    own (refusals.Limited _ _) unasked never = absurd never
+    own (refusals.Full _ _) unasked never = absurd never
     own refusals.OutOfMemory unasked never = absurd never
     own (refusals.StoreSave _) unasked never = absurd never
     own refusals.NoNotice unasked never = absurd never
@@ -276,9 +276,10 @@ no_room sites from bytes m secret old before after pair nonce p n checks fresh u
 module _ (sites : List SiteValue) (from : Addr) (now : ℕ) (bytes : List ℕ) (m : MapRegisterValue) (secret : List ℕ) (old : ServerState) (before after : StoreState) (pair : Pair) (nonce : ℕ) (p : pair ≡ pair_of m) (n : nonce ≡ m.nonce) (checks : secret_under sites from bytes m ≡ Ok secret)
     (fresh : IsFresh (most_jump_at old.sites m.site) (nonce_at old.nonces pair) before pair nonce) (unasked : Unasked (nonce_at old.nonces pair) before after) (same : KeepsLists before after) where
   pub overflows : (why : Refused) → KeepsOut old.sites old.rows (row_values m from now) m.site now why → RefusesRegister (register_checked sites from bytes m) old before after from now why
-  overflows (refusals.Full full) lacks = record {
+  overflows (refusals.Full site full) (its, lacks) = record {
     passed = record { message = m; secret = secret };
     checks = ap (λ r. r >>= λ (s : List ℕ). register_passed m s) checks;
+    its = its;
     fresh = subst (λ (x : Pair × ℕ). IsFresh (most_jump_at old.sites m.site) (nonce_at old.nonces x.0) before x.0 x.1) (λ i. (p i, n i)) fresh;
     lacks = lacks;
     unasked = subst (λ (q : Pair). Unasked (nonce_at old.nonces q) before after) p unasked;
@@ -292,10 +293,10 @@ module _ (sites : List SiteValue) (from : Addr) (now : ℕ) (bytes : List ℕ) (
   overflows refusals.BadAuth never = absurd never
   overflows refusals.MergeAsked never = absurd never
   overflows (refusals.NotAllowed _) never = absurd never
-  overflows (refusals.Limited _) never = absurd never
+  overflows (refusals.Limited _ _) never = absurd never
   overflows (refusals.StoreLoad _) never = absurd never
   overflows (refusals.Replay _) never = absurd never
-  overflows (refusals.Jump _) never = absurd never
+  overflows (refusals.Jump _ _) never = absurd never
   overflows (refusals.StoreSave _) never = absurd never
   overflows refusals.NoNotice never = absurd never
 
@@ -315,13 +316,13 @@ refuses_read said from bytes old before after now refusals.UnknownKey r = r
 refuses_read said from bytes old before after now refusals.BadAuth r = r
 refuses_read said from bytes old before after now refusals.MergeAsked r = r
 refuses_read said from bytes old before after now (refusals.NotAllowed _) r = r
-refuses_read said from bytes old before after now (refusals.Limited _) r = r
+refuses_read said from bytes old before after now (refusals.Limited _ _) r = r
 refuses_read said from bytes old before after now (refusals.Read _) r = r
 refuses_read said from bytes old before after now refusals.NotMine r = r
 refuses_read said from bytes old before after now (refusals.StoreLoad _) r = r
 refuses_read said from bytes old before after now (refusals.Replay _) r = r
-refuses_read said from bytes old before after now (refusals.Jump _) r = r
-refuses_read said from bytes old before after now (refusals.Full _) r = r
+refuses_read said from bytes old before after now (refusals.Jump _ _) r = r
+refuses_read said from bytes old before after now (refusals.Full _ _) r = r
 refuses_read said from bytes old before after now (refusals.StoreSave _) r = r
 refuses_read said from bytes old before after now refusals.NoNotice r = r
 

@@ -29,7 +29,7 @@ LetsIn sites rows given site now = Fits (most_routers_at sites site) (most_rows_
 
 -- why they don't, or that it couldn't be reckoned
 abbrev pub KeepsOut : List SiteValue → List RowValue → List RowValue → ℕ → ℕ → Refused → Type 0
-KeepsOut sites rows given site now (Full full) = IsFull (most_routers_at sites site) (most_rows_at sites site) site (live_rows rows now) (live_rows_with rows given now) full
+KeepsOut sites rows given site now (Full its full) = (its ≡ site) × IsFull (most_routers_at sites site) (most_rows_at sites site) site (live_rows rows now) (live_rows_with rows given now) full
 KeepsOut sites rows given site now OutOfMemory = Unit {0}
 KeepsOut sites rows given site now _ = ⊥
 

@@ -110,18 +110,20 @@ pub record Replays (check : Result Passed Refused) (old : ServerState) (before a
   pub same : KeepsLists before after
 
 -- the nonce is too far above the base
-pub record Jumps (check : Result Passed Refused) (old : ServerState) (before after : StoreState) (saved : ℕ) : Type 0 where
+pub record Jumps (check : Result Passed Refused) (old : ServerState) (before after : StoreState) (site saved : ℕ) : Type 0 where
   pub passed : Passed
   pub checks : check ≡ Ok passed
+  pub its : site ≡ passed.message.site
   pub base : IsBase (nonce_at old.nonces (pair_of passed.message)) before (pair_of passed.message) (Some saved)
   pub far : IsFar (most_jump_at old.sites passed.message.site) saved passed.message.nonce
   pub unasked : Unasked (nonce_at old.nonces (pair_of passed.message)) before after
   pub same : KeepsLists before after
 
 -- the nonce was fresh, and the site has no space for the records
-pub record Overflows (check : Result Passed Refused) (old : ServerState) (before after : StoreState) (from : Addr) (now : ℕ) (full : Full) : Type 0 where
+pub record Overflows (check : Result Passed Refused) (old : ServerState) (before after : StoreState) (from : Addr) (now site : ℕ) (full : Full) : Type 0 where
   pub passed : Passed
   pub checks : check ≡ Ok passed
+  pub its : site ≡ passed.message.site
   pub fresh : IsFresh (most_jump_at old.sites passed.message.site) (nonce_at old.nonces (pair_of passed.message)) before (pair_of passed.message) passed.message.nonce
   pub lacks : LacksSpace old passed.message from now full
   pub unasked : Unasked (nonce_at old.nonces (pair_of passed.message)) before after
@@ -153,9 +155,9 @@ pub record OutOfRoom (check : Result Passed Refused) (old : ServerState) (before
 abbrev pub RefusesRegister : Result Passed Refused → ServerState → StoreState → StoreState → Addr → ℕ → Refused → Type 0
 RefusesRegister check old before after from now (StoreLoad fault) = LoadFailed check old before after fault
 RefusesRegister check old before after from now (Replay saved) = Replays check old before after saved
-RefusesRegister check old before after from now (Jump saved) = Jumps check old before after saved
+RefusesRegister check old before after from now (Jump site saved) = Jumps check old before after site saved
 RefusesRegister check old before after from now OutOfMemory = OutOfRoom check old before after
-RefusesRegister check old before after from now (FullOf full) = Overflows check old before after from now full
+RefusesRegister check old before after from now (FullOf site full) = Overflows check old before after from now site full
 RefusesRegister check old before after from now (StoreSave fault) = SaveFailed check old before after from now fault
 RefusesRegister check old before after from now refused = (check ≡ Err refused) × (after ≡ before)
 

@@ -90,10 +90,16 @@ fn check_space<A: Memory + Copy>(
     ensures memory { IsErrOf result Refused.OutOfMemory → A.may_refuse }
 {
     if held.exceeds_routers(rows, site, most_routers_at(sites, site), now)? {
-        return Err(Refused::Full(Full::Routers));
+        return Err(Refused::Full {
+            site,
+            full: Full::Routers,
+        });
     }
     if held.exceeds_rows(rows, site, most_rows_at(sites, site), now) {
-        return Err(Refused::Full(Full::Rows));
+        return Err(Refused::Full {
+            site,
+            full: Full::Rows,
+        });
     }
     Ok(())
 }

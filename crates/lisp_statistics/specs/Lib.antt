@@ -9,3 +9,4 @@ pub mod Sites
 pub mod Gathering
 pub mod RouterList
 pub mod SiteCounts
+pub mod SiteRefusals

@@ -4,12 +4,12 @@ use Rattle.std.specs.BTreeMap.{BTreeMap, get, IsEmpty, IsUnchanged, Updates}
 use Rattle.std.specs.declared.cmp.Ordering.{Ordering}
 use Rattle.lisp_records.specs.declared.router.RouterId.{RouterId}
 use Rattle.lisp_statistics.specs.declared.hearing.Hearing.{Hearing}
-use Rattle.lisp_statistics.specs.declared.kind.LineKind.{LineKind}
 use Rattle.lisp_statistics.specs.declared.statistics.Statistics.{Statistics}
 
--- nothing was printed, nobody was heard, nothing was saved, and no Map-Request came
+-- nothing was printed or refused, nobody was heard, nothing was saved, and no Map-Request came
 pub record Begins {A : Type 0} (s : Statistics A) : Type 0 where
   pub tallies : IsEmpty s.tallies
+  pub by_site : IsEmpty s.by_site
   pub heard : IsEmpty s.heard
   pub save : s.longest_save ≡ 0
   pub requests : s.requests ≡ 0
@@ -19,17 +19,14 @@ pub record Begins {A : Type 0} (s : Statistics A) : Type 0 where
 abbrev pub Sets : {K X : Type 0} → (K → K → Ordering) → Type 0 → BTreeMap K X → BTreeMap K X → K → X → Type 0
 Sets cmp may_refuse old new key value = Updates cmp old new key (Some value) ⊎ (may_refuse × (get cmp old key ≡ None) × IsUnchanged old new)
 
--- how many lines of a kind there were
-abbrev pub tally_of : (LineKind → LineKind → Ordering) → BTreeMap LineKind ℕ → LineKind → ℕ
+-- how many of a kind there were
+abbrev pub tally_of : {K : Type 0} → (K → K → Ordering) → BTreeMap K ℕ → K → ℕ
 tally_of cmp tallies kind = unwrap_or (get cmp tallies kind) 0
 
--- there is one more of a kind, up to 2^64 - 1
-abbrev pub Counts : (LineKind → LineKind → Ordering) → Type 0 → BTreeMap LineKind ℕ → BTreeMap LineKind ℕ → LineKind → Type 0
-Counts cmp may_refuse old new kind = Sets cmp may_refuse old new kind (min (tally_of cmp old kind + 1) (2 ^ 64 - 1))
-
-abbrev pub CountsLine : {A : Type 0} → (LineKind → LineKind → Ordering) → Type 0 → Statistics A → Statistics A → Option LineKind → Type 0
-CountsLine cmp may_refuse old new (Some kind) = Counts cmp may_refuse old.tallies new.tallies kind
-CountsLine cmp may_refuse old new None = new.tallies ≡ old.tallies
+-- there is one more of a kind, up to 2^64 - 1, if one is counted
+abbrev pub Counts : {K : Type 0} → (K → K → Ordering) → Type 0 → BTreeMap K ℕ → BTreeMap K ℕ → Option K → Type 0
+Counts cmp may_refuse old new None = new ≡ old
+Counts cmp may_refuse old new (Some kind) = Sets cmp may_refuse old new kind (min (tally_of cmp old kind + 1) (2 ^ 64 - 1))
 
 -- a router was heard
 abbrev pub HearsLine : {A : Type 0} → (RouterId → RouterId → Ordering) → Type 0 → Statistics A → Statistics A → Option (RouterId × Hearing) → Type 0

@@ -1,6 +1,6 @@
-//! What is counted of a node that runs, since its start: the lines of each kind that it prints, the routers that it heard, how long its
-//! longest save took, how many Map-Requests came, and how long the slowest answer to one took; beside it the node as it stands, and what is
-//! held of sites; and the text of this.
+//! What is counted of a node that runs, since its start: the lines of each kind that it prints, the refusals by limits of sites, the routers
+//! that it heard, how long its longest save took, how many Map-Requests came, and how long the slowest answer to one took; beside it the
+//! node as it stands, and what is held of sites; and the text of this.
 //!
 //! # Decisions
 //!
@@ -13,6 +13,7 @@
 //! - Map-Requests are counted as they come, and not by their lines: one may ask for several EID-Prefixes, or be dropped without a line.
 //! - What is held of a site is reported where it has a limit on its routers or rows: there may be thousands of sites, and the answer is one
 //!   part. It is taken from the counts by router, where the first router of a site is found by halving.
+//! - A refusal by a limit comes after the tag's check, so only sites of the configuration have counts of them: six numbers at most.
 #![tactic(auto)]
 
 // What is kept.
@@ -31,6 +32,7 @@ mod replays;
 mod router_list;
 mod routers;
 mod site_counts;
+mod site_refusals;
 
 pub use counts::{Format, counts_text};
 pub use gathering::Gathering;
@@ -41,4 +43,5 @@ pub use replays::count_replays;
 pub use router_list::{RouterList, RoutersPart, is_long_list, next_routers, routers_by_parts};
 pub use routers::routers_text;
 pub use site_counts::put_site_counts;
+pub use site_refusals::{SiteRefusal, put_site_refusals};
 pub use statistics::Statistics;

@@ -4,23 +4,27 @@ ghost use Rattle.std.specs.Prelude.{◌≡◌};
 ghost use Rattle.lisp_records.specs.Router.{router_cmp};
 ghost use Rattle.lisp_statistics.specs.Hearing.{heard_in};
 ghost use Rattle.lisp_statistics.specs.Kind.{kind_of};
-ghost use Rattle.lisp_statistics.specs.Statistics.{Begins, Counts, CountsLine, HearsLine, Sets, replied, requested, saved};
+ghost use Rattle.lisp_statistics.specs.SiteRefusals.{refusal_in};
+ghost use Rattle.lisp_statistics.specs.Statistics.{Begins, Counts, HearsLine, Sets, replied, requested, saved};
 
 use crate::hearing::Hearing;
 use crate::kind::LineKind;
+use crate::site_refusals::SiteRefusal;
 use lisp_memory::{FallibleMap, Memory};
 use lisp_records::RouterId;
 use lisp_turns::Printed;
 use std::alloc::{Allocator, Global};
 use std::collections::BTreeMap;
 
-/// How many lines of each kind a node printed since its start, which Map-Register a Map-Server accepted last of each router, how
-/// long the longest save took, how many Map-Requests came, and how long the slowest answer to one took. A kind or a router that is new
-/// takes memory; where that is refused, it isn't kept.
+/// How many lines of each kind a node printed since its start, how many Map-Registers each limit of a site refused, which Map-Register a
+/// Map-Server accepted last of each router, how long the longest save took, how many Map-Requests came, and how long the slowest answer
+/// to one took. A kind, a limit or a router that is new takes memory; where that is refused, it isn't kept.
 #[derive(Drop)]
 pub struct Statistics<A: Allocator = Global> {
     /// How many lines of each kind.
     pub(crate) tallies: BTreeMap<LineKind, u64, A>,
+    /// How many Map-Registers each limit of a site refused.
+    pub(crate) by_site: BTreeMap<SiteRefusal, u64, A>,
     /// The Map-Register of each router.
     pub(crate) heard: BTreeMap<RouterId, Hearing, A>,
     /// How long the longest save took, in ms.
@@ -38,6 +42,7 @@ impl<A: Memory + Copy> Statistics<A> {
     {
         Statistics {
             tallies: BTreeMap::new(alloc),
+            by_site: BTreeMap::new(alloc),
             heard: BTreeMap::new(alloc),
             longest_save: 0,
             requests: 0,
@@ -47,17 +52,18 @@ impl<A: Memory + Copy> Statistics<A> {
 
     /// The node prints a line, at a moment in ms.
     pub fn tell(&mut self, line: &Printed, now: u64)
-        ensures counts { CountsLine ⟦<LineKind as Ord>⟧.cmp A.may_refuse self.old self.new
-            (kind_of line.now) }
+        ensures counts { Counts ⟦<LineKind as Ord>⟧.cmp A.may_refuse self.old.tallies
+            self.new.tallies (kind_of line.now) }
+        ensures refuses { Counts ⟦<SiteRefusal as Ord>⟧.cmp A.may_refuse self.old.by_site
+            self.new.by_site (refusal_in line.now) }
         ensures hears { HearsLine router_cmp A.may_refuse self.old self.new
             (heard_in line.now now) }
         ensures saves { self.new.longest_save ≡ self.old.longest_save }
         ensures requests { self.new.requests ≡ self.old.requests }
         ensures replies { self.new.slowest_reply ≡ self.old.slowest_reply }
     {
-        if let Some(kind) = LineKind::of(line) {
-            count(&mut self.tallies, kind);
-        }
+        count(&mut self.tallies, LineKind::of(line));
+        count(&mut self.by_site, SiteRefusal::of(line));
         if let Some((router, hearing)) = Hearing::of(line, now) {
             hear(&mut self.heard, router, hearing);
         }
@@ -106,10 +112,13 @@ impl<A: Memory + Copy> Statistics<A> {
     }
 }
 
-// One more line of a kind.
-fn count<A: Memory + Copy>(tallies: &mut BTreeMap<LineKind, u64, A>, kind: LineKind)
-    ensures { Counts ⟦<LineKind as Ord>⟧.cmp A.may_refuse tallies.old tallies.new kind }
+// One more of a kind, if there is one.
+fn count<K: Ord + Copy + Drop, A: Memory + Copy>(tallies: &mut BTreeMap<K, u64, A>, kind: Option<K>)
+    ensures { Counts K.Ord.cmp A.may_refuse tallies.old tallies.new kind }
 {
+    let Some(kind) = kind else {
+        return;
+    };
     let times = match tallies.get(&kind) {
         Some(times) => *times,
         None => 0,

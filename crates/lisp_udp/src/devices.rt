@@ -5,7 +5,8 @@ ghost use Rattle.lisp_database_store.specs.Groups.{SomeIsDone};
 ghost use Rattle.lisp_records.specs.Router.{router_cmp};
 ghost use Rattle.lisp_statistics.specs.Hearing.{heard_in};
 ghost use Rattle.lisp_statistics.specs.Kind.{kind_of};
-ghost use Rattle.lisp_statistics.specs.Statistics.{CountsLine, HearsLine};
+ghost use Rattle.lisp_statistics.specs.SiteRefusals.{refusal_in};
+ghost use Rattle.lisp_statistics.specs.Statistics.{Counts, HearsLine};
 ghost use Rattle.lisp_turns.specs.Outside.{Commits, FitsBuffer, IsApart, Logs, LogsLine, reception};
 ghost use Rattle.lisp_udp.specs.Inbox.{keeps_apart};
 ghost use Rattle.lisp_udp.specs.Moments.{moment_of};
@@ -23,7 +24,7 @@ use lisp_model::{Line, WorldFault};
 use lisp_records::Addr;
 use lisp_resolve::Datagram;
 use lisp_script::RunFault;
-use lisp_statistics::{LineKind, Statistics};
+use lisp_statistics::{LineKind, SiteRefusal, Statistics};
 use lisp_turns::{
     Clock, Commit, Control, Endpoint, Lines, NodeCore, Order, Outside, Printed, Received, Request,
     Requests,
@@ -301,9 +302,10 @@ impl<R, T, P: Printer> Lines for Devices<'_, R, T, P> {
     fn print(&mut self, line: &Printed)
         ensures logs { LogsLine (⟦<Self as Outside>⟧.seen self.old)
             (⟦<Self as Outside>⟧.seen self.new) line.now }
-        ensures counts { CountsLine ⟦<LineKind as Ord>⟧.cmp
-            ⟦<Global as Memory>⟧.may_refuse self.old.statistics self.new.statistics
-            (kind_of line.now) }
+        ensures counts { Counts ⟦<LineKind as Ord>⟧.cmp ⟦<Global as Memory>⟧.may_refuse
+            self.old.statistics.tallies self.new.statistics.tallies (kind_of line.now) }
+        ensures refuses { Counts ⟦<SiteRefusal as Ord>⟧.cmp ⟦<Global as Memory>⟧.may_refuse
+            self.old.statistics.by_site self.new.statistics.by_site (refusal_in line.now) }
         ensures hears { HearsLine router_cmp
             ⟦<Global as Memory>⟧.may_refuse self.old.statistics self.new.statistics
             (heard_in line.now (moment_of self.old.stopwatch.last)) }

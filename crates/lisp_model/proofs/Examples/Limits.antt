@@ -68,7 +68,7 @@ abbrev refuses_both : Refusal → Step
 refuses_both why = step (events.Deliver 0 fates.Done) (lines.Refused 0 why) 0 blank
 
 abbrev full_refused : List Step
-full_refused = refuses_both (refusals.Receive (refuseds.Full Rows)) ∷ both_sent
+full_refused = refuses_both (refusals.Receive (refuseds.Full 1 Rows)) ∷ both_sent
 
 abbrev takes_both : Step
 takes_both = step (events.Deliver 0 fates.Done) (lines.Accepted 0 one 1 1 (Some 1)) 0 (keeps blank (got_from one) 1)
@@ -154,6 +154,7 @@ refused_as_full = (
         record {
           message = registers two_records 1;
           admits = record { read = refl; secret = secret; checks = both_admitted };
+          its = refl;
           fresh = record { base = None; counts = fresh_value (got_from one); above = tt; near = tt; loads = λ none obeys clash. absurd cc };
           lacks = both_are_too_many;
           same = refl;
@@ -175,25 +176,34 @@ accepted_though_full l =
     full_or_fits None (Some 1) 1 (held_rows [] 0) (held_rows (both_arrived ∷ []) 0) Rows space both_are_too_many
 
 -- its nonce is kept though it is refused
-kept_though_full : Legal limited both_sent (record (refuses_both (refusals.Receive (refuseds.Full Rows))) { shown = keeps blank (got_from one) 1 }) → ⊥
+kept_though_full : Legal limited both_sent (record (refuses_both (refusals.Receive (refuseds.Full 1 Rows))) { shown = keeps blank (got_from one) 1 }) → ⊥
 kept_though_full l = nothing_is_no_number (sym (kept_at-empty (got_from one)) ∙ ap (λ (k : Kept). kept_at k (got_from one)) (sym l.row.arrives.1.same) ∙ set_here empty (got_from one) (Some 1 ∷ []))
 
 -- another limit is named
-told_of_routers : Legal limited both_sent (refuses_both (refusals.Receive (refuseds.Full Routers))) → ⊥
+told_of_routers : Legal limited both_sent (refuses_both (refusals.Receive (refuseds.Full 1 Routers))) → ⊥
 unfolding cut cut_from written
 told_of_routers l =
     let item : both_item ≡ l.row.item = item_is _ _ l.row.sent in
     let message : registers two_records 1 ≡ l.row.arrives.1.message = register_is _ _ _ _ item refl l.row.arrives.1.admits.read in
-    let t = context_of limited both_sent (refuses_both (refusals.Receive (refuseds.Full Routers))) in
+    let t = context_of limited both_sent (refuses_both (refusals.Receive (refuseds.Full 1 Routers))) in
     subst (λ (m : MapRegisterValue). LacksSpace t (arrival_of l.row.item) m Routers) (sym message) l.row.arrives.1.lacks
 
+-- another site is named
+told_of_another_site : Legal limited both_sent (refuses_both (refusals.Receive (refuseds.Full 2 Rows))) → ⊥
+unfolding cut cut_from written
+told_of_another_site l =
+    let item : both_item ≡ l.row.item = item_is _ _ l.row.sent in
+    let message : registers two_records 1 ≡ l.row.arrives.1.message = register_is _ _ _ _ item refl l.row.arrives.1.admits.read in
+    let two_is_one : 2 ≡ 1 = l.row.arrives.1.its ∙ ap (λ (m : MapRegisterValue). m.site) (sym message) in
+    absurd (omega (arith, two_is_one))
+
 -- a site without limits is called full
-full_though_unlimited : Legal opening one_sent (step (events.Deliver 0 fates.Done) (lines.Refused 0 (refusals.Receive (refuseds.Full Rows))) 0 blank) → ⊥
+full_though_unlimited : Legal opening one_sent (step (events.Deliver 0 fates.Done) (lines.Refused 0 (refusals.Receive (refuseds.Full 1 Rows))) 0 blank) → ⊥
 unfolding cut cut_from written
 full_though_unlimited l =
     let item : first_item ≡ l.row.item = item_is _ _ l.row.sent in
     let message : first ≡ l.row.arrives.1.message = register_is _ _ _ _ item refl l.row.arrives.1.admits.read in
-    let t = context_of opening one_sent (step (events.Deliver 0 fates.Done) (lines.Refused 0 (refusals.Receive (refuseds.Full Rows))) 0 blank) in
+    let t = context_of opening one_sent (step (events.Deliver 0 fates.Done) (lines.Refused 0 (refusals.Receive (refuseds.Full 1 Rows))) 0 blank) in
     let lacks : LacksSpace t (arrival_of l.row.item) first Rows = subst (λ (m : MapRegisterValue). LacksSpace t (arrival_of l.row.item) m Rows) (sym message) l.row.arrives.1.lacks in
     lacks.1
 
@@ -211,12 +221,12 @@ saved_though_full l =
 abbrev remembers : Opening
 remembers = record limited { stores = keeps blank (got_from one) 1 ∷ blank ∷ blank ∷ [] }
 
-full_though_replayed : Legal remembers both_sent (record (refuses_both (refusals.Receive (refuseds.Full Rows))) { shown = keeps blank (got_from one) 1 }) → ⊥
+full_though_replayed : Legal remembers both_sent (record (refuses_both (refusals.Receive (refuseds.Full 1 Rows))) { shown = keeps blank (got_from one) 1 }) → ⊥
 unfolding cut cut_from written
 full_though_replayed l =
     let item : both_item ≡ l.row.item = item_is _ _ l.row.sent in
     let message : registers two_records 1 ≡ l.row.arrives.1.message = register_is _ _ _ _ item refl l.row.arrives.1.admits.read in
-    let t = context_of remembers both_sent (record (refuses_both (refusals.Receive (refuseds.Full Rows))) { shown = keeps blank (got_from one) 1 }) in
+    let t = context_of remembers both_sent (record (refuses_both (refusals.Receive (refuseds.Full 1 Rows))) { shown = keeps blank (got_from one) 1 }) in
     let fresh : IsFresh t (registers two_records 1) = subst (IsFresh t) (sym message) l.row.arrives.1.fresh in
     let above : 1 < 1 = subst (λ (b : Option ℕ). IsBelow b 1) (only_set_of (got_from one) _ fresh.base (Some 1) fresh.counts) fresh.above in
     absurd (omega (arith, above))
@@ -227,10 +237,10 @@ full_though_replayed l =
 arrival_is : (a b : Arrival) → ◌≡◌ {A = Option Arrival} (Some a) (Some b) → a ≡ b
 arrival_is a b e = cc
 
-full_need_not_be_accepted : MustAccept IsExcused (context_of limited both_sent (refuses_both (refusals.Receive (refuseds.Full Rows)))) (events.Deliver 0 fates.Done) (lines.Refused 0 (refusals.Receive (refuseds.Full Rows)))
+full_need_not_be_accepted : MustAccept IsExcused (context_of limited both_sent (refuses_both (refusals.Receive (refuseds.Full 1 Rows)))) (events.Deliver 0 fates.Done) (lines.Refused 0 (refusals.Receive (refuseds.Full 1 Rows)))
 unfolding cut cut_from written
 full_need_not_be_accepted a m arrives server admits follows space =
-    let t = context_of limited both_sent (refuses_both (refusals.Receive (refuseds.Full Rows))) in
+    let t = context_of limited both_sent (refuses_both (refusals.Receive (refuseds.Full 1 Rows))) in
     let same : arrival_of both_item ≡ a = arrival_is _ _ arrives in
     let read : ◌≡◌ {A = Result MessageValue ReadFault} (Ok (Registers (registers two_records 1))) (Ok (Registers m)) = ap (λ (x : Arrival). x.read) same ∙ admits.read in
     let message : registers two_records 1 ≡ m = cc in
