@@ -88,7 +88,7 @@ UNITS = lib/systemd/system/lispd-server@.service lib/systemd/system/lispd-router
 # Where zsh looks for completions; below /usr, where a package of Debian's puts them.
 ZSH = share/zsh/$(if $(filter /usr,$(PREFIX)),vendor-completions,site-functions)/_lispd
 BASH = share/bash-completion/completions/lispd
-SAMPLES = share/doc/lispd/examples/configuration.toml share/doc/lispd/examples/ask-group.conf
+SAMPLES = $(addprefix share/doc/lispd/examples/,configuration.toml ask-group.conf alerts.yml)
 FOR_C = lib/liblisp_registration.a include/lisp_registration.h lib/pkgconfig/lisp_registration.pc
 
 # $(call put,FILE,PATH,KIND): installs a file below PREFIX, with the version, PREFIX, the program's folder and the kind of a node filled in.
@@ -110,6 +110,7 @@ install: $(PROGRAM)
 	@$(call put,packaging/lispd@.service.in,lib/systemd/system/lispd-router@.service,router)
 	@$(call put,examples/configuration.toml,share/doc/lispd/examples/configuration.toml)
 	@$(call put,packaging/ask-group.conf,share/doc/lispd/examples/ask-group.conf)
+	@$(call put,packaging/alerts.yml,share/doc/lispd/examples/alerts.yml)
 	@tools/completions $(PROGRAM) $(ROOT)/$(BASH) $(ROOT)/$(ZSH)
 
 install-library: $(LIBRARY)

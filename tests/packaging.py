@@ -20,8 +20,9 @@ TOP = Path(__file__).resolve().parent.parent
 program, library = map(os.path.abspath, sys.argv[1:])
 BASH_COMPLETION, ZSH_COMPLETION = "share/bash-completion/completions/lispd", "share/zsh/site-functions/_lispd"
 DROP_IN = "share/doc/lispd/examples/ask-group.conf"
+ALERTS = "share/doc/lispd/examples/alerts.yml"
 OF_PROGRAM = {"bin/lispd": 0o755, **dict.fromkeys((
-    "lib/systemd/system/lispd-router@.service", "lib/systemd/system/lispd-server@.service", BASH_COMPLETION, ZSH_COMPLETION, DROP_IN,
+    "lib/systemd/system/lispd-router@.service", "lib/systemd/system/lispd-server@.service", BASH_COMPLETION, ZSH_COMPLETION, DROP_IN, ALERTS,
     "share/doc/lispd/examples/configuration.toml", "share/man/man1/lispd.1", "share/man/man5/lispd.toml.5"), 0o644)}
 OF_LIBRARY = dict.fromkeys(("include/lisp_registration.h", "lib/liblisp_registration.a", "lib/pkgconfig/lisp_registration.pc"), 0o644)
 MODES = {**OF_PROGRAM, **OF_LIBRARY}
@@ -147,6 +148,15 @@ def the_drop_in_lets_a_group_ask(root):
     check("its folder", (found["RuntimeDirectory"], found.pop("RuntimeDirectoryMode")), ("lispd/%i", "0770"))
     check("its options", found.pop("Environment"), f'"OPTIONS=--control %t/{found.pop("RuntimeDirectory")}"')
     check("nothing else", found, {})
+
+
+def alerts_are_raised(root):
+    """Prometheus takes the alerts, and raises each where it should (`alerts.yml` beside this file)."""
+    if is_there("promtool", "the alerts were"):
+        status, printed = ran("promtool", "check", "rules", f"{root}/{ALERTS}")
+        check(f"the rules of {ALERTS}: {printed}", status, 0)
+        status, printed = ran("promtool", "test", "rules", f"{TOP}/tests/alerts.yml")
+        check(f"the alerts: {printed}", status, 0)
 
 
 def completed(root, *words):
@@ -302,6 +312,7 @@ with tempfile.TemporaryDirectory() as name:
     check("make install PREFIX", make("install", "install-library", f"PREFIX={root}"), (0, ""))
     units_are_well(root)
     the_drop_in_lets_a_group_ask(root)
+    alerts_are_raised(root)
     bash_completes(root)
     zsh_has_the_options(root)
     pages_are_well(root)
