@@ -8,6 +8,11 @@ mod Saving
 mod Calls
 mod Reading
 mod Loading
+mod Finding
+mod Deleting
+mod Forgetting
+mod Listing
+mod Told
 mod Counting
 mod Groups
 mod Making

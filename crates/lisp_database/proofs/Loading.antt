@@ -41,7 +41,7 @@ no_items (x ∷ xs) h = absurd (omega (arith, h))
 -- ---- a pair has one row at most
 
 module _ (pair : Pair) (db : Database) (has : IsOfNonces db) (is : IsDatabase db) where
-  one_row : (rows_of db.trees pair ≡ []) ⊎ ((row : Row) × (rows_of db.trees pair ≡ row ∷ []))
+  pub one_row : (rows_of db.trees pair ≡ []) ⊎ ((row : Row) × (rows_of db.trees pair ≡ row ∷ []))
   one_row = at_most_one (rows_of db.trees pair) (ascending_filter _ (is_row_of pair) (db.trees 0) has.rows.0) (λ a b h k.
       let p = has_filtered (is_row_of pair) (db.trees 0) a h in
       let q = has_filtered (is_row_of pair) (db.trees 0) b k in
@@ -60,7 +60,7 @@ module _ (pair : Pair) (db : Trees) where
   unfolding first_key
   same_test r = refl
 
-  its_are : (rows : List Row) → filter chosen rows ≡ filter (is_row_of pair) rows
+  pub its_are : (rows : List Row) → filter chosen rows ≡ filter (is_row_of pair) rows
   its_are [] = refl
   its_are (r ∷ rows) = rw (same_test r) (ap (λ l. cond (is_row_of pair r) (r ∷ l) l) (its_are rows))
 
@@ -145,7 +145,7 @@ none_shown old new pair has (inr h) = h.1
 
 -- ---- the clauses of a load
 
-sound : (old new : State) → IsUnchanged old new → IsLive old → IsDatabase old.now
+pub sound : (old new : State) → IsUnchanged old new → IsLive old → IsDatabase old.now
 sound old new same alive = (alive same.0.was_open).0
 
 pub kept : (old new : State) (pair : Pair) (r : Result (Option ℕ) Error) → IsOfNonces old.now → IsLive old → IfOk r (Loads old new pair) → IfOk r (Keeps old.now.trees pair)

@@ -55,6 +55,27 @@ pub record CommitsSave (old : State) (pair : Pair) (nonce : ℕ) (db : Trees) : 
   pub rows : IsShaped Table (db 0)
   pub saved : IsSaved old.now.trees db pair nonce
 
+-- nothing is kept for the pair, and what is kept for every other pair is as before
+pub record IsForgotten (old new : Trees) (pair : Pair) : Type 0 where
+  pub kept : Keeps new pair None
+  pub others : (q : Pair) → IsPair q → q ≢ pair → rows_of new q ≡ rows_of old q
+  pub writer : new 2 ≡ old 2
+
+-- after a nonce was forgotten: outside a transaction that is committed, and every crash leaves it
+pub record ForgetsNonce (old new : State) (pair : Pair) : Type 0 where
+  pub table : IsOfNonces new.now
+  pub forgotten : IsForgotten old.now.trees new.now.trees pair
+  pub mode : new.in_transaction ≡ old.in_transaction
+  pub committed : old.in_transaction ≡ false → new.committed ≡ new.now
+  pub durable : old.in_transaction ≡ false → (db : Trees) → new.may_leave db → db ≡ new.now.trees
+  pub waits : IsTrue old.in_transaction → new.committed ≡ old.committed
+
+-- a database that forgetting a nonce may commit
+pub record CommitsForgetting (old : State) (pair : Pair) (db : Trees) : Type 0 where
+  pub outside : old.in_transaction ≡ false
+  pub rows : IsShaped Table (db 0)
+  pub forgotten : IsForgotten old.now.trees db pair
+
 -- there are so many rows of pairs, up to the most that SQLite counts
 abbrev pub CountsPairs : Trees → ℕ → Type 0
 CountsPairs db count = count ≡ min (length (db 0)) (2 ^ 63 - 1)

@@ -4,7 +4,7 @@ use Rattle.sqlite.specs.State.{HasCleanDisk, IsUnchanged}
 use Rattle.sqlite.specs.Held.{state}
 use Rattle.lisp_database_store.specs.Meaning.{Meaning}
 use Rattle.lisp_database.specs.Group.{BeginsGroup, CommitsGroup, IsWaiting, IsCommitted}
-use Rattle.lisp_database.specs.Kept.{HasTables, IsOfNonces, Keeps, SavesNonce, KeepsGreatest, CountsPairs}
+use Rattle.lisp_database.specs.Kept.{HasTables, IsOfNonces, Keeps, SavesNonce, ForgetsNonce, KeepsGreatest, CountsPairs}
 use Rattle.lisp_database.specs.Writer.{LoadsWriter, SavesWriter}
 use Rattle.lisp_database.specs.declared.sqlite_table.SqliteTable.{SqliteTable}
 
@@ -17,6 +17,7 @@ sqlite_meaning store = record {
   keeps = λ t pair nonce. Keeps (state store t.connection).now.trees pair nonce;
   is_unchanged = λ old new. IsUnchanged (state store old.connection) (state store new.connection);
   saves_nonce = λ old new pair nonce. SavesNonce (state store old.connection) (state store new.connection) pair nonce;
+  forgets = λ old new pair. ForgetsNonce (state store old.connection) (state store new.connection) pair;
   keeps_greatest = λ old new pair nonce. KeepsGreatest (state store old.connection) (state store new.connection) pair nonce;
   begins_group = λ old new. BeginsGroup (state store old.connection) (state store new.connection);
   commits_group = λ old new. CommitsGroup (state store old.connection) (state store new.connection);

@@ -22,6 +22,10 @@ create_writer_text = codes "CREATE TABLE writer (machine_id TEXT NOT NULL, boot_
 abbrev pub load_text : List ℕ
 load_text = codes "SELECT nonce FROM nonces WHERE xtr_id = ?3 AND site_id = ?2 AND key_id = ?4 AND kind = ?1"
 
+-- finds the columns of each pair, and its nonce
+abbrev pub load_all_text : List ℕ
+load_all_text = codes "SELECT kind, site_id, xtr_id, key_id, nonce FROM nonces"
+
 -- counts the pairs
 abbrev pub count_text : List ℕ
 count_text = codes "SELECT count(*) FROM nonces"
@@ -30,6 +34,10 @@ count_text = codes "SELECT count(*) FROM nonces"
 abbrev pub save_text : List ℕ
 save_text = codes "INSERT INTO nonces (kind, site_id, xtr_id, key_id, nonce) VALUES (?1, ?2, ?3, ?4, ?5) ON CONFLICT DO UPDATE SET kind = ?1, site_id = ?2, xtr_id = ?3, key_id = ?4, nonce = ?5"
 
+-- takes the row of a pair out
+abbrev pub forget_text : List ℕ
+forget_text = codes "DELETE FROM nonces WHERE xtr_id = ?3 AND site_id = ?2 AND key_id = ?4 AND kind = ?1"
+
 -- the save of a nonce is that statement, with the columns of the pair
 abbrev pub Saves : State → State → Pair → ℕ → Result ℕ Error → Type 0
 Saves old new pair nonce answer = Executes save_text (row_of pair nonce) old new answer
@@ -37,6 +45,14 @@ Saves old new pair nonce answer = Executes save_text (row_of pair nonce) old new
 -- what a save may commit
 abbrev pub CommitsNonce : State → Pair → ℕ → Trees → Type 0
 CommitsNonce old pair nonce db = CommitsBy save_text (row_of pair nonce) old db
+
+-- so is the forgetting of one, with the columns that name the pair
+abbrev pub Forgets : State → State → Pair → Result ℕ Error → Type 0
+Forgets old new pair answer = Executes forget_text (key_of pair) old new answer
+
+-- what that may commit
+abbrev pub CommitsForget : State → Pair → Trees → Type 0
+CommitsForget old pair db = CommitsBy forget_text (key_of pair) old db
 
 -- the load of a nonce is that query: its first row has the nonce's digits, or it has no row
 abbrev pub Loads : State → State → Pair → Option ℕ → Type 0

@@ -37,6 +37,18 @@ pub fn kind_word(kind: PairKind) -> &'static str
     }
 }
 
+/// The kind of pairs whose word this is; `None` where it is none's.
+pub fn kind_from_word(word: &str) -> Option<PairKind>
+    ensures { IfSome result (λ kind. word.now ≡ kind_word kind) }
+{
+    match word {
+        "sent" => Some(PairKind::Sent),
+        "received" => Some(PairKind::Received),
+        "notice" => Some(PairKind::Notice),
+        _ => None,
+    }
+}
+
 /// A Site-ID in 16 lower case hexadecimal digits, as a configuration has it.
 pub fn site_digits(site: u64) -> [u8; 16]
     ensures text { IsUtf8 result }
@@ -55,6 +67,25 @@ pub fn xtr_digits(xtr: [u8; 16]) -> [u8; 32]
     let mut digits = [0; 32];
     put_digits(&mut digits, &xtr);
     digits
+}
+
+/// The Site-ID of 16 lower case hexadecimal digits; `None` where a text is none's.
+pub fn site_from_digits(digits: &str) -> Option<u64>
+    ensures { IfSome result (λ site. digits.now ≡ encode_lower (to_be_bytes w64 site)) }
+{
+    let mut bytes = [0; 8];
+    hex::decode_to_slice(digits, &mut bytes).ok()?;
+    let site = u64::from_be_bytes(bytes);
+    (digits.as_bytes() == site_digits(site).as_slice()).then_some(site)
+}
+
+/// The xTR-ID of 32 lower case hexadecimal digits; `None` where a text is none's.
+pub fn xtr_from_digits(digits: &str) -> Option<[u8; 16]>
+    ensures { IfSome result (λ xtr. digits.now ≡ encode_lower xtr) }
+{
+    let mut xtr = [0; 16];
+    hex::decode_to_slice(digits, &mut xtr).ok()?;
+    (digits.as_bytes() == xtr_digits(xtr).as_slice()).then_some(xtr)
 }
 
 /// A nonce in 20 decimal digits, with leading zeros: so their texts are ordered as nonces are.

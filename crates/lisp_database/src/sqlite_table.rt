@@ -6,10 +6,11 @@ ghost use Rattle.lisp_database.specs.Meaning.{sqlite_meaning};
 
 use crate::failure::failure_of;
 use crate::group::{begin, commit};
-use crate::table::{count_pairs, keep_greatest, load_nonce, save_nonce};
+use crate::nonces::load_nonces;
+use crate::table::{count_pairs, forget_nonce, keep_greatest, load_nonce, save_nonce};
 use crate::tables::make_tables;
 use crate::writer::{load_writer, save_writer};
-use lisp_database_store::{Failure, SystemTable, Table};
+use lisp_database_store::{Failure, KeptNonce, SystemTable, Table};
 use lisp_nonces::Pair;
 use lisp_store::Writer;
 use sqlite::{Alter, Connection, Error, ErrorCode, File, FileStore};
@@ -39,6 +40,17 @@ impl<S: Alter + Drop> Table for SqliteTable<S> {
     fn save(&mut self, pair: &Pair, nonce: u64) -> Result<(), Failure> {
         told(save_nonce(&mut self.connection, pair, nonce))?;
         Ok(())
+    }
+
+    #[tactic(auto, unfolding(crate::specs::Meaning::sqlite_meaning))]
+    fn forget(&mut self, pair: &Pair) -> Result<(), Failure> {
+        told(forget_nonce(&mut self.connection, pair))?;
+        Ok(())
+    }
+
+    #[tactic(auto, unfolding(crate::specs::Meaning::sqlite_meaning))]
+    fn nonces(&mut self) -> Result<Vec<KeptNonce>, Failure> {
+        told(load_nonces(&mut self.connection))
     }
 
     #[tactic(auto, unfolding(crate::specs::Meaning::sqlite_meaning))]

@@ -9,8 +9,8 @@ ghost use Rattle.sqlite.specs.Values.{bound};
 ghost use Rattle.sqlite.specs.Held.{state};
 ghost use Rattle.lisp_store.specs.NonceText.{last_digits};
 ghost use Rattle.lisp_database.specs.Columns.{key_of};
-ghost use Rattle.lisp_database.specs.Kept.{HasTables, IsOfNonces, Keeps, SavesNonce, CommitsSave, LeavesAll, KeepsGreatest, greatest, CountsPairs};
-ghost use Rattle.lisp_database.specs.Table.{load_text, count_text, Saves, CommitsNonce, Loads, CommitsLoad, LoadFails, Counts};
+ghost use Rattle.lisp_database.specs.Kept.{HasTables, IsOfNonces, Keeps, SavesNonce, CommitsSave, ForgetsNonce, CommitsForgetting, LeavesAll, KeepsGreatest, greatest, CountsPairs};
+ghost use Rattle.lisp_database.specs.Table.{load_text, count_text, Saves, CommitsNonce, Forgets, CommitsForget, Loads, CommitsLoad, LoadFails, Counts};
 
 use crate::columns::{kind_word, known, nonce_digits, nonce_from_digits, site_digits, xtr_digits};
 use lisp_nonces::Pair;
@@ -24,6 +24,10 @@ const LOAD: &str =
 /// Puts the row of a pair in, or in the place of the one that the pair has.
 const SAVE: &str =
     "INSERT INTO nonces (kind, site_id, xtr_id, key_id, nonce) VALUES (?1, ?2, ?3, ?4, ?5) ON CONFLICT DO UPDATE SET kind = ?1, site_id = ?2, xtr_id = ?3, key_id = ?4, nonce = ?5";
+
+/// Takes the row of a pair out.
+const FORGET: &str =
+    "DELETE FROM nonces WHERE xtr_id = ?3 AND site_id = ?2 AND key_id = ?4 AND kind = ?1";
 
 /// Counts the pairs.
 const COUNT: &str = "SELECT count(*) FROM nonces";
@@ -78,6 +82,28 @@ pub fn save_nonce<S: Alter>(
 {
     known(*pair);
     write_row(connection, pair, nonce)
+}
+
+/// Keeps nothing for the pair from now on, and is done once that is committed. How many rows it took out: one, or none where nothing was
+/// kept.
+pub fn forget_nonce<S: Alter>(connection: &mut Connection<S>, pair: &Pair) -> Result<usize, Error>
+    // Of a database of nonces, nothing is kept for the pair, and nothing else changes.
+    ensures forgotten { IsOfNonces (state S.Store connection.old).now
+        → HasCleanDisk (state S.Store connection.new)
+        → OnOk result (ForgetsNonce (state S.Store connection.old)
+        (state S.Store connection.new) pair.now) }
+
+    // One that failed leaves all as before, or as the last commit left it.
+    ensures failed { HasCleanDisk (state S.Store connection.new)
+        → OnErr result (LeavesAll (state S.Store connection.old) (state S.Store connection.new)) }
+
+    // Outside a transaction, a crash leaves what it could leave before, or the database without the nonce; inside one, what it could before.
+    ensures crash { Survives (state S.Store connection.old) (state S.Store connection.new)
+        (λ db. IsOfNonces (state S.Store connection.old).now
+        → CommitsForgetting (state S.Store connection.old) pair.now db) }
+{
+    known(*pair);
+    remove_row(connection, pair)
 }
 
 /// Keeps the nonce for the pair unless a greater one is kept.
@@ -165,7 +191,7 @@ fn read_nonce<S: Alter>(connection: &mut Connection<S>, pair: &Pair) -> Result<O
         (CommitsLoad (state S.Store connection.old) pair.now) }
 {
     match find_row(connection, pair) {
-        Ok(row) => Ok(Some(nonce_in(&row)?)),
+        Ok(row) => Ok(Some(nonce_at(&row, 0)?)),
         Err(Error::QueryReturnedNoRows) => Ok(None),
         Err(error) => Err(error),
     }
@@ -192,6 +218,18 @@ fn write_row<S: Alter>(
     )
 }
 
+// Takes the row of a pair out.
+fn remove_row<S: Alter>(connection: &mut Connection<S>, pair: &Pair) -> Result<usize, Error>
+    ensures forgets { HasCleanDisk (state S.Store connection.new)
+        → Forgets (state S.Store connection.old) (state S.Store connection.new) pair.now result }
+    ensures survives { Survives (state S.Store connection.old) (state S.Store connection.new)
+        (CommitsForget (state S.Store connection.old) pair.now) }
+{
+    let (site, xtr) = (site_digits(pair.router.site), xtr_digits(pair.router.xtr));
+    let (kind, key) = (kind_word(pair.kind), u32::from(pair.key));
+    connection.execute(FORGET, params![kind, text(&site), text(&xtr), key])
+}
+
 // The row of a pair.
 fn find_row<S: Alter>(connection: &mut Connection<S>, pair: &Pair) -> Result<Row, Error>
     ensures row { HasCleanDisk (state S.Store connection.new)
@@ -216,11 +254,11 @@ fn query_row<S: Alter>(connection: &mut Connection<S>, key: &[ValueRef<'_>]) -> 
     connection.query_row(LOAD, key)
 }
 
-// The nonce in the first column of a row.
-fn nonce_in(row: &Row) -> Result<u64, Error>
-    ensures { IfOk result (λ nonce. column row.now 0 ≡ Text (last_digits 20 nonce)) }
+// The nonce in a column of a row.
+pub(crate) fn nonce_at(row: &Row, at: usize) -> Result<u64, Error>
+    ensures { IfOk result (λ nonce. column row.now at ≡ Text (last_digits 20 nonce)) }
 {
-    let digits: String = row.get(0)?;
+    let digits: String = row.get(at)?;
     match nonce_from_digits(digits.as_str()) {
         Some(nonce) => Ok(nonce),
         None => Err(DAMAGED),

@@ -1,2 +1,2 @@
 mod Opened
-mod EachFile
+mod EachNonce

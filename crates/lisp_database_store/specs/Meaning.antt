@@ -17,6 +17,8 @@ pub record Meaning (T : Type 0) : Type 1 where
   pub is_unchanged : T → T → Type 0
   -- a nonce is kept for a pair now, and what is kept for every other pair is as before; outside a transaction each crash leaves that
   pub saves_nonce : T → T → Pair → ℕ → Type 0
+  -- nothing is kept for a pair now, and what is kept for every other pair is as before; outside a transaction each crash leaves that
+  pub forgets : T → T → Pair → Type 0
   -- the greater of what was kept for a pair and of a nonce is kept for it now, and what is kept for every other pair is as before
   pub keeps_greatest : T → T → Pair → ℕ → Type 0
   -- all is as before, and the saves to come wait for a commit

@@ -1,7 +1,7 @@
 -- What a call makes of a database that may be open.
-use Rattle.std.specs.Prelude.{◌≡◌, ℕ, List, [], ◌∷◌, Option, Some, None}
+use Rattle.std.specs.Prelude.{◌≡◌, ℕ, List, [], ◌∷◌, All, Option, Some, None}
 use Rattle.lisp_nonces.specs.declared.pair.Pair.{Pair}
-use Rattle.lisp_store.specs.declared.nonce_file.NonceFile.{NonceFile}
+use Rattle.lisp_store.specs.declared.kept_nonce.KeptNonce.{KeptNonce}
 use Rattle.lisp_store.specs.declared.writer.Writer.{Writer}
 use Rattle.lisp_database_store.specs.Meaning.{Meaning}
 
@@ -31,6 +31,14 @@ module _ {T : Type 0} (means : Meaning T) where
   abbrev pub Saves : Option T → Option T → Pair → ℕ → Type 0
   Saves old new pair nonce = Uses old new (λ used left. means.is_of_nonces used → means.has_clean_disk left → means.saves_nonce used left pair nonce)
 
+  -- a nonce was forgotten
+  abbrev pub Forgets : Option T → Option T → Pair → Type 0
+  Forgets old new pair = Uses old new (λ used left. means.is_of_nonces used → means.has_clean_disk left → means.forgets used left pair)
+
+  -- each of these nonces was found for its pair
+  abbrev pub FindsEach : Option T → Option T → List KeptNonce → Type 0
+  FindsEach old new nonces = Uses old new (λ used left. means.is_of_nonces used → means.has_clean_disk left → All (λ kept. means.keeps used kept.pair (Some kept.nonce)) nonces)
+
   -- the greater nonce is kept for a pair
   abbrev pub SavesGreatest : Option T → Option T → Pair → ℕ → Type 0
   SavesGreatest old new pair nonce = Uses old new (λ used left. means.is_of_nonces used → means.has_clean_disk left → means.keeps_greatest used left pair nonce)
@@ -42,17 +50,17 @@ module _ {T : Type 0} (means : Meaning T) where
   abbrev pub Commits : Option T → Option T → Type 0
   Commits old new = Uses old new (λ used left. means.has_tables used → means.has_clean_disk left → means.commits_group used left)
 
-  -- of each of these files the greater nonce is kept for its pair, one after the other
-  abbrev pub SavesEach : Option T → Option T → List NonceFile → Type 0
+  -- of each of these nonces and what was kept for its pair the greater is kept, one after the other
+  abbrev pub SavesEach : Option T → Option T → List KeptNonce → Type 0
   SavesEach old new [] = new ≡ old
-  SavesEach old new (file ∷ files) = (next : Option T) × SavesGreatest old next file.pair file.nonce × SavesEach next new files
+  SavesEach old new (kept ∷ more) = (next : Option T) × SavesGreatest old next kept.pair kept.nonce × SavesEach next new more
 
   -- in one transaction, which is committed, and nothing waits any more
-  pub record TakesAll (old new : Option T) (files : List NonceFile) : Type 0 where
+  pub record TakesAll (old new : Option T) (nonces : List KeptNonce) : Type 0 where
     pub begun : Option T
     pub saved : Option T
     pub begins : Begins old begun
-    pub each : SavesEach begun saved files
+    pub each : SavesEach begun saved nonces
     pub commits : Commits saved new
     pub settled : IsOpen new means.is_committed
 

@@ -3,7 +3,7 @@
 ghost use Rattle.std.specs.Prelude.{◌≡◌, Some, Ok, IfOk, IfErr, OnOk, OnErr, IsTrue, None};
 ghost use Rattle.lisp_nonces.specs.declared.fault.StoreFault.{StoreFault};
 ghost use Rattle.lisp_database_store.specs.Keeper.{any_keeper, any_keeper_keeps};
-ghost use Rattle.lisp_database_store.specs.Table.{IsOpen, Finds, LeavesAll, Saves, SavesGreatest, Begins, Commits};
+ghost use Rattle.lisp_database_store.specs.Table.{IsOpen, Finds, FindsEach, LeavesAll, Saves, SavesGreatest, Forgets, Begins, Commits};
 ghost use Rattle.lisp_database_store.specs.Table.{CountsPairs, FindsWriter, SavesWriter};
 
 use crate::failure::Failure;
@@ -15,7 +15,7 @@ use crate::reopening::Reopening;
 use crate::table::SystemTable;
 use lisp_memory::FallibleString;
 use lisp_nonces::{Pair, StoreFault};
-use lisp_store::Writer;
+use lisp_store::{KeptNonce, Writer};
 use std::io::{self, ErrorKind};
 use std::time::Instant;
 
@@ -86,6 +86,31 @@ impl<T: SystemTable> Database<T> {
         let mut table = self.opened_to_write()?;
         let answer = table.save(pair, nonce);
         self.written(table, answer)
+    }
+
+    /// Keeps nothing for the pair from now on, and is done once that is committed, outside a transaction. `Device` whatever failed.
+    pub fn forget(&mut self, pair: &Pair) -> Result<(), Failure>
+        ensures forgotten { OnOk result
+            (Forgets T.Table.means self.old.table self.new.table pair.now) }
+        ensures device { IfErr result (λ failure. failure.fault ≡ StoreFault.Device) }
+        ensures anew { OnErr result (self.new.table ≡ None) }
+    {
+        let mut table = self.opened_to_write()?;
+        let answer = table.forget(pair);
+        self.written(table, answer)
+    }
+
+    /// All pairs with their nonces. `Damaged` where a row has another form. No clause says that none is missing.
+    pub fn nonces(&mut self) -> Result<Vec<KeptNonce>, Failure>
+        ensures kept { IfOk result (λ nonces.
+            FindsEach T.Table.means self.old.table self.new.table nonces.items) }
+        ensures unchanged { OnOk result (LeavesAll T.Table.means self.old.table self.new.table) }
+        ensures anew { IfErr result (λ failure. failure.fault ≡ StoreFault.Device
+            → self.new.table ≡ None) }
+    {
+        let mut table = self.opened()?;
+        let answer = table.nonces();
+        self.answered(table, answer)
     }
 
     /// How many pairs it keeps nonces for.

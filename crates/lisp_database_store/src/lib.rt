@@ -38,7 +38,7 @@ mod writer;
 pub use database::Database;
 pub use failure::Failure;
 pub use keeper::Keeper;
-pub use lisp_store::Change;
+pub use lisp_store::{Change, KeptNonce};
 pub use shared::SharedDatabase;
 pub use store::DatabaseStore;
 pub use table::{SystemTable, Table};

@@ -1,11 +1,11 @@
 //! Databases that are open.
 
-ghost use Rattle.std.specs.Prelude.{◌≡◌, false, IsTrue, IfOk, OnOk};
+ghost use Rattle.std.specs.Prelude.{◌≡◌, false, Some, All, IsTrue, IfOk, OnOk};
 ghost use Rattle.lisp_database_store.specs.Meaning.{Meaning};
 
 use crate::failure::Failure;
 use lisp_nonces::Pair;
-use lisp_store::Writer;
+use lisp_store::{KeptNonce, Writer};
 
 /// A database that is open, for nonces. What its calls come to is told in words whose meaning is the table's own: that of an SQLite
 /// database is a definition of `lisp_database`.
@@ -27,6 +27,19 @@ pub trait Table: Drop {
     fn save(&mut self, pair: &Pair, nonce: u64) -> Result<(), Failure>
         ensures { Self.means.is_of_nonces self.old → Self.means.has_clean_disk self.new
             → OnOk result (Self.means.saves_nonce self.old self.new pair.now nonce) };
+
+    /// Keeps nothing for the pair from now on, and is done once that is committed, outside a transaction. Done too where nothing was kept.
+    fn forget(&mut self, pair: &Pair) -> Result<(), Failure>
+        ensures { Self.means.is_of_nonces self.old → Self.means.has_clean_disk self.new
+            → OnOk result (Self.means.forgets self.old self.new pair.now) };
+
+    /// All pairs with their nonces. `Damaged` where a row has another form. No clause says that none is missing.
+    fn nonces(&mut self) -> Result<Vec<KeptNonce>, Failure>
+        ensures kept { Self.means.is_of_nonces self.old → Self.means.has_clean_disk self.new
+            → IfOk result (λ nonces. All (λ kept. Self.means.keeps self.old kept.pair
+            (Some kept.nonce)) nonces.items) }
+        ensures unchanged { Self.means.has_tables self.old → Self.means.has_clean_disk self.new
+            → OnOk result (Self.means.is_unchanged self.old self.new) };
 
     /// Keeps the nonce for the pair, unless it has a greater one.
     fn keep_greatest(&mut self, pair: &Pair, nonce: u64) -> Result<(), Failure>

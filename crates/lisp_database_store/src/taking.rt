@@ -7,7 +7,7 @@ ghost use Rattle.lisp_database_store.specs.TakeOver.{TakesOver};
 use crate::database::Database;
 use crate::failure::Failure;
 use crate::table::SystemTable;
-use lisp_store::{NonceFile, put_aside, read_nonces};
+use lisp_store::{KeptNonce, put_aside, read_nonces};
 use std::io;
 use std::rt::Files;
 
@@ -35,12 +35,12 @@ impl<T: SystemTable> Database<T> {
     }
 
     // Keeps the greater nonce of each pair, in one transaction.
-    fn keep_all(&mut self, found: &[NonceFile]) -> Result<(), Failure>
+    fn keep_all(&mut self, found: &[KeptNonce]) -> Result<(), Failure>
         ensures { OnOk result (TakesAll T.Table.means self.old.table self.new.table found.now) }
     {
         self.begin()?;
-        for file in found {
-            self.keep_greatest(&file.pair, file.nonce)?;
+        for kept in found {
+            self.keep_greatest(&kept.pair, kept.nonce)?;
         }
         self.commit()
     }
@@ -50,10 +50,10 @@ impl<T: SystemTable> Database<T> {
         &self,
         rt: &R,
         dir: &str,
-        files: &[NonceFile],
+        nonces: &[KeptNonce],
     ) -> io::Result<()>
-        requires { (old : Option T) × TakesAll T.Table.means old self.now.table files.now }
+        requires { (old : Option T) × TakesAll T.Table.means old self.now.table nonces.now }
     {
-        put_aside(rt, dir, files)
+        put_aside(rt, dir, nonces)
     }
 }

@@ -42,6 +42,9 @@ pub enum Problem {
     /// A folder whose nonces can't be counted.
     #[error("its nonces can't be counted: {0}")]
     Count(io::Error),
+    /// A folder of which a nonce can't be removed.
+    #[error("a nonce in it can't be removed: {0}")]
+    Forget(io::Error),
     /// A folder that another process has.
     #[error("another process has it")]
     Taken,
@@ -57,6 +60,9 @@ pub enum Problem {
     /// It is to be a database of nonces, and is none, or a damaged one.
     #[error("isn't a database of nonces, or is damaged")]
     NoDatabase,
+    /// A database that is to be there, and isn't.
+    #[error("isn't there")]
+    Missing,
     /// A database that isn't there, though its log is.
     #[error("isn't there, and its log (-wal) is")]
     LogAlone,

@@ -1,6 +1,7 @@
-//! Where routers and Map-Servers keep their nonces: stores in the files of a folder (`FileStore`, `Folder`) and in memory; what
-//! another store takes over of these files (`read_nonces`, `put_aside`), and who wrote one last (`Writer`); and for tests a folder in memory (`MemoryFolder`), a store of which a call fails (`Failing`), and one that keeps no promise about
-//! nonces (`Liar`).
+//! Where routers and Map-Servers keep their nonces: stores in the files of a folder (`FileStore`, `Folder`) and in memory; the nonces
+//! that such files keep, to list (`read_nonces`), to forget (`forget_nonce`), and for another store to take over (`put_aside`); who wrote a
+//! store last (`Writer`); and for tests a folder in memory (`MemoryFolder`), a store of which a call fails (`Failing`), and one that keeps
+//! no promise about nonces (`Liar`).
 //!
 //! # Decisions
 //!
@@ -16,6 +17,7 @@
 
 mod file;
 mod folder;
+mod kept_nonce;
 pub mod laws;
 mod name;
 mod nonce_file;
@@ -26,12 +28,13 @@ mod writer;
 
 pub use file::FileStore;
 pub use folder::{Folder, FolderFault};
+pub use kept_nonce::KeptNonce;
 pub use lisp_nonces::{
     FIRST_NOTICE_NONCE, Fate, LAST_ROUTER_NONCE, MAX_NONCE_BLOCK, MemoryStore, NonceStore, Pair,
     PairKind, StoreFault, WorldStore,
 };
 pub use name::{count_pairs, pair_from_name, pair_name};
-pub use nonce_file::{NonceFile, put_aside, read_nonces};
+pub use nonce_file::{forget_nonce, put_aside, read_nonces};
 pub use system_folder::{SystemFolder, is_file_there};
 pub use testing::{Failing, Liar, MemoryFolder};
 pub use text::{nonce_from_text, nonce_text};

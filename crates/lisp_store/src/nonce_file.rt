@@ -1,6 +1,7 @@
-//! The nonces in files that another store takes over.
+//! The nonces that the files of a folder keep: to list them, to put their files aside, to forget one.
 
 use crate::file::FileStore;
+use crate::kept_nonce::KeptNonce;
 use crate::name::{pair_from_name, pair_name};
 use lisp_memory::{FallibleString, FallibleVec};
 use lisp_nonces::{NonceStore, Pair, StoreFault};
@@ -10,20 +11,11 @@ use std::fs::{self, OpenFile};
 use std::io::{self, ErrorKind};
 use std::rt::Files;
 
-/// A nonce in the file of a pair.
-#[derive(Clone, Copy)]
-pub struct NonceFile {
-    /// Whose it is.
-    pub pair: Pair,
-    /// The nonce.
-    pub nonce: u64,
-}
-
 /// The nonces that files of the folder `dir` keep. An error of the kind `InvalidData` where a file holds no nonce.
 pub fn read_nonces<R: Files + AllocGlobal + Clone + Drop>(
     rt: &R,
     dir: &str,
-) -> io::Result<Vec<NonceFile>> {
+) -> io::Result<Vec<KeptNonce>> {
     let failure = Cell::new(None);
     let mut store = FileStore::open(rt, dir, &failure)?;
     let mut found = Vec::new(rt.alloc());
@@ -32,7 +24,7 @@ pub fn read_nonces<R: Files + AllocGlobal + Clone + Drop>(
             continue;
         };
         match store.load(&pair) {
-            Ok(Some(nonce)) => found.try_push(NonceFile { pair, nonce })?,
+            Ok(Some(nonce)) => found.try_push(KeptNonce { pair, nonce })?,
             Ok(None) => {}
             Err(fault) => return Err(file_error(fault, failure.get())),
         }
@@ -40,15 +32,29 @@ pub fn read_nonces<R: Files + AllocGlobal + Clone + Drop>(
     Ok(found)
 }
 
-/// Names these files of the folder `dir` `NAME.nonce.taken`, and syncs the folder.
-pub fn put_aside<R: Files + AllocGlobal>(rt: &R, dir: &str, files: &[NonceFile]) -> io::Result<()> {
-    for file in files {
-        let name = pair_name(&file.pair);
+/// Names the files of these nonces in the folder `dir` `NAME.nonce.taken`, and syncs the folder.
+pub fn put_aside<R: Files + AllocGlobal>(
+    rt: &R,
+    dir: &str,
+    nonces: &[KeptNonce],
+) -> io::Result<()> {
+    for kept in nonces {
+        let name = pair_name(&kept.pair);
         let name = str::from_utf8(&name).unwrap();
         let path = String::try_format(rt.alloc(), format_args!("{dir}/{name}"))?;
         let taken = String::try_format(rt.alloc(), format_args!("{dir}/{name}.taken"))?;
         fs::rename(rt, path.as_str(), taken.as_str())?;
     }
+    fs::open(rt, dir)?.sync_all()
+}
+
+/// Removes the file of the pair from the folder `dir`, and syncs the folder. An error of the kind `NotFound` where the pair has no
+/// file; where the sync fails, it is open whether a crash brings the file back.
+pub fn forget_nonce<R: Files + AllocGlobal>(rt: &R, dir: &str, pair: &Pair) -> io::Result<()> {
+    let name = pair_name(pair);
+    let name = str::from_utf8(&name).unwrap();
+    let path = String::try_format(rt.alloc(), format_args!("{dir}/{name}"))?;
+    fs::remove_file(rt, path.as_str())?;
     fs::open(rt, dir)?.sync_all()
 }
 

@@ -11,9 +11,11 @@ use crate::storage::{NodeStore, Storage};
 use lisp_database_store::{Change, Database, Failure, SystemTable};
 use lisp_files::{Ending, Problem};
 use lisp_memory::FallibleString;
-use lisp_nonces::StoreFault;
+use lisp_nonces::{Pair, StoreFault};
 use lisp_script::RunFault;
-use lisp_store::{FileStore, SystemFolder, count_pairs, is_file_there};
+use lisp_store::{
+    FileStore, KeptNonce, SystemFolder, count_pairs, forget_nonce, is_file_there, read_nonces,
+};
 use std::alloc::AllocError;
 use std::cell::Cell;
 use std::fs::{self, File, Files, TryLockError};
@@ -42,7 +44,43 @@ pub(crate) fn open_folder<R: Files<File = File> + AllocGlobal>(
     Ok(LockedFolder { path, _lock: lock })
 }
 
+/// The folder `dir`/`name`, which is to be there. Fault: 93 where it isn't, or where another process has it.
+pub(crate) fn find_folder<R: Files<File = File> + AllocGlobal>(
+    rt: &R,
+    dir: &str,
+    name: &str,
+) -> Result<LockedFolder, Ending> {
+    let path = String::try_format(rt.alloc(), format_args!("{dir}/{name}"))?;
+    is_folder(rt, path.as_str())?;
+    let lock = lock_folder(rt, path.as_str())?;
+    Ok(LockedFolder { path, _lock: lock })
+}
+
 impl LockedFolder {
+    /// As `open_store`, but a database is to be there. Fault: 93 where it isn't.
+    pub(crate) fn find_store<'a, T: SystemTable>(
+        &self,
+        rt: &HostRuntime,
+        storage: Storage,
+        failure: &'a Cell<Option<ErrorKind>>,
+    ) -> Result<NodeStore<'a, T>, Ending> {
+        if let Storage::Database { .. } = storage {
+            self.find_database(rt)?;
+        }
+        self.open_store(rt, storage, failure)
+    }
+
+    // Refuses a folder without a database.
+    fn find_database(&self, rt: &HostRuntime) -> Result<(), Ending> {
+        let database = self.database_path(rt)?;
+        let path = database.as_str();
+        match is_file_there(rt, path) {
+            Ok(true) => Ok(()),
+            Ok(false) => Err(Ending::of_file(rt.alloc(), path, Problem::Missing)),
+            Err(error) => Err(Ending::of_file(rt.alloc(), path, looked(error))),
+        }
+    }
+
     /// The node's store there. `failure` holds the kind of the last error of its device from now on. Faults: those of `file_store` and
     /// of `database`.
     pub(crate) fn open_store<'a, T: SystemTable>(
@@ -152,6 +190,74 @@ impl LockedFolder {
         Err(Ending::of_file(rt.alloc(), path, problem))
     }
 
+    /// The nonces that the store there keeps. Faults: 93 where they can't be read, or one is damaged; 97.
+    pub(crate) fn nonces<T: SystemTable>(
+        &self,
+        rt: &HostRuntime,
+        store: &mut NodeStore<'_, T>,
+    ) -> Result<Vec<KeptNonce>, Ending> {
+        match store {
+            NodeStore::Files(_) => match read_nonces(rt, self.path.as_str()) {
+                Ok(nonces) => Ok(nonces),
+                Err(error) => Err(self.broken_files(rt, error, Problem::Read(error))),
+            },
+            NodeStore::Database { database, .. } => match database.nonces() {
+                Ok(nonces) => Ok(nonces),
+                Err(failure) => Err(self.broken_database(
+                    rt,
+                    failure,
+                    Problem::Read(error_of(failure)),
+                )),
+            },
+        }
+    }
+
+    /// Removes what the store there keeps for a pair, and is done once that is synced. Faults: 93 where it can't be removed; 97.
+    pub(crate) fn forget<T: SystemTable>(
+        &self,
+        rt: &HostRuntime,
+        store: &mut NodeStore<'_, T>,
+        pair: &Pair,
+    ) -> Result<(), Ending> {
+        match store {
+            NodeStore::Files(_) => match forget_nonce(rt, self.path.as_str(), pair) {
+                Ok(()) => Ok(()),
+                Err(error) => Err(self.broken_files(rt, error, Problem::Forget(error))),
+            },
+            NodeStore::Database { database, .. } => match database.forget(pair) {
+                Ok(()) => Ok(()),
+                Err(failure) => Err(self.broken_database(
+                    rt,
+                    failure,
+                    Problem::Forget(error_of(failure)),
+                )),
+            },
+        }
+    }
+
+    // Why a call over the files failed; `refused` says what the system refused.
+    fn broken_files(&self, rt: &HostRuntime, error: io::Error, refused: Problem) -> Ending {
+        let problem = match error.kind() {
+            ErrorKind::OutOfMemory => return Ending::from(RunFault::MEMORY),
+            ErrorKind::InvalidData => Problem::DamagedNonce,
+            _ => refused,
+        };
+        Ending::of_file(rt.alloc(), self.path.as_str(), problem)
+    }
+
+    // The same, of the database.
+    fn broken_database(&self, rt: &HostRuntime, failure: Failure, refused: Problem) -> Ending {
+        let problem = match failure.fault {
+            StoreFault::OutOfMemory => return Ending::from(RunFault::MEMORY),
+            StoreFault::Damaged => Problem::NoDatabase,
+            StoreFault::Device => refused,
+        };
+        match self.database_path(rt) {
+            Ok(path) => Ending::of_file(rt.alloc(), path.as_str(), problem),
+            Err(error) => Ending::from(error),
+        }
+    }
+
     /// Where the node is asked: in a folder that is given, or in its own; `None` where that can't be
     /// made, which is a warning on standard error.
     pub(crate) fn control<'a>(
@@ -200,6 +306,11 @@ impl Unsigned {
     {
         Unsigned { step, failure }
     }
+}
+
+// The system's error of a database that failed.
+fn error_of(failure: Failure) -> io::Error {
+    io::Error::from(failure.kind)
 }
 
 // What is wrong with a database that can't be opened or made.

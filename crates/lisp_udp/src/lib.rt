@@ -66,6 +66,14 @@ mod network;
 // Any of these.
 mod subject;
 
+// What nodes that don't run keep of others.
+mod forgetting;
+
+// Any use of the folders.
+mod folder_use;
+
+pub use folder_use::{FolderUse, use_folders};
+pub use forgetting::Forgetting;
 pub use network::run_loop;
 pub use resolving::Answering;
 pub use router::{keep_router_running, run_router};

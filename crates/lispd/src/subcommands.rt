@@ -6,10 +6,10 @@ use lisp_picture::{Form, draw};
 use lisp_player::{Untaken, play_noting};
 use lisp_script::PlayFault;
 use lisp_sqlite::Sqlite;
-use lisp_udp::{Answering, Storage, Stretch, Subject, run_subject};
+use lisp_udp::{Answering, FolderUse, Forgetting, Storage, Stretch, Subject, use_folders};
 use lispd_cli::{
-    CONFIG, DATABASE, Errand, FILE, Failure, NodeWords, ProgramFault, STORE, TEXT, ask_node,
-    is_given, look_up, node_words, run_alone, word,
+    CONFIG, DATABASE, Errand, FILE, Failure, ForgetWords, NodeWords, ProgramFault, STORE, TEXT,
+    ask_node, forget_words, is_given, look_up, node_words, run_alone, word,
 };
 use std::alloc::Global;
 use std::fs;
@@ -27,12 +27,11 @@ pub fn run_subcommand(rt: &HostRuntime, matches: &ArgMatches<'_>) -> Result<(), 
         Ok(None) => run_other(rt, named, &mut writer),
         Ok(Some(run)) => {
             let Run {
-                config,
                 dir,
                 storage,
-                subject,
+                wanted,
             } = run;
-            match run_subject::<Sqlite, _>(rt, config, dir, storage, subject, &mut writer) {
+            match use_folders::<Sqlite, _>(rt, dir, storage, wanted, &mut writer) {
                 Ok(()) => Ok(()),
                 Err(ending) => Err(Failure::from(ending)),
             }
@@ -45,16 +44,15 @@ pub fn run_subcommand(rt: &HostRuntime, matches: &ArgMatches<'_>) -> Result<(), 
     }
 }
 
-/// What is to run on sockets.
+/// What is to run over the folders of nodes.
 #[derive(Clone, Copy)]
 struct Run<'a> {
-    config: &'a str,
     dir: &'a str,
     storage: Storage,
-    subject: Subject<'a>,
+    wanted: FolderUse<'a>,
 }
 
-// What `server`, `router` and `loop` run; `None` for other subcommands.
+// What `server`, `router`, `loop` and `forget` run; `None` for other subcommands.
 fn named_run<'a>(named: Option<(&str, &ArgMatches<'a>)>) -> Result<Option<Run<'a>>, ProgramFault> {
     let Some((name, words)) = named else {
         return Ok(None);
@@ -63,6 +61,7 @@ fn named_run<'a>(named: Option<(&str, &ArgMatches<'a>)>) -> Result<Option<Run<'a
         "server" => Ok(Some(node_run(NodeKind::Server, words)?)),
         "router" => Ok(Some(node_run(NodeKind::Router, words)?)),
         "loop" => Ok(Some(network_run(words))),
+        "forget" => Ok(Some(forget_run(words)?)),
         _ => Ok(None),
     }
 }
@@ -95,11 +94,11 @@ fn node_run<'a>(kind: NodeKind, words: &ArgMatches<'a>) -> Result<Run<'a>, Progr
         Some(turns) => Stretch::Turns(turns),
         None => Stretch::Endless { is_known },
     };
+    let subject = node(kind, name, stretch, control, answering);
     Ok(Run {
-        config,
         dir,
         storage: storage(has_database, group),
-        subject: node(kind, name, stretch, control, answering),
+        wanted: FolderUse::Run { config, subject },
     })
 }
 
@@ -127,14 +126,35 @@ fn node<'a>(
 }
 
 fn network_run<'a>(words: &ArgMatches<'a>) -> Run<'a> {
+    let script = word(words, FILE);
     Run {
-        config: word(words, CONFIG),
         dir: word(words, STORE),
         storage: storage(is_given(words, DATABASE), 1),
-        subject: Subject::Network {
-            script: word(words, FILE),
+        wanted: FolderUse::Run {
+            config: word(words, CONFIG),
+            subject: Subject::Network { script },
         },
     }
+}
+
+fn forget_run<'a>(words: &ArgMatches<'a>) -> Result<Run<'a>, ProgramFault> {
+    let ForgetWords {
+        name,
+        dir,
+        has_database,
+        list,
+        removes,
+    } = forget_words(words)?;
+    let forgetting = match list {
+        Some(list) if removes => Forgetting::Remove { list },
+        Some(list) => Forgetting::Unheard { list },
+        None => Forgetting::Nothing,
+    };
+    Ok(Run {
+        dir,
+        storage: storage(has_database, 1),
+        wanted: FolderUse::Forget { name, forgetting },
+    })
 }
 
 fn storage(has_database: bool, group: u8) -> Storage {

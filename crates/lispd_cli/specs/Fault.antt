@@ -14,7 +14,7 @@ use Rattle.lispd_cli.specs.declared.failure.Failure.{Failure}
 use Rattle.lispd_cli.specs.declared.fault.SetupFault.{SetupFault}
 use Rattle.lispd_cli.specs.declared.fault.SetupFault.TheVariants as setup_faults
 use Rattle.lispd_cli.specs.declared.fault.ProgramFault.{ProgramFault}
-use Rattle.lispd_cli.specs.declared.fault.ProgramFault.TheVariants.{Words, Setup, Answer, File, Play, Turns, Known, Group, GroupOfFiles, Quiet, Budget, Run, Explain, Unanswered, Refused, Question, Look, Warnings}
+use Rattle.lispd_cli.specs.declared.fault.ProgramFault.TheVariants.{Words, Setup, Answer, File, Play, Turns, Known, Group, GroupOfFiles, Quiet, Budget, NoList, Run, Explain, Unanswered, Refused, Question, Look, Warnings}
 
 abbrev pub setup_fault_number : SetupFault → ℕ
 setup_fault_number (setup_faults.BadOption _) = 98
@@ -36,6 +36,7 @@ program_fault_number Group = 98
 program_fault_number GroupOfFiles = 98
 program_fault_number Quiet = 98
 program_fault_number Budget = 98
+program_fault_number NoList = 98
 program_fault_number (Run fault) = fault.number
 program_fault_number (Explain fault) = explain_fault_number fault
 program_fault_number Unanswered = 99
@@ -56,6 +57,7 @@ program_fault_status Group = 2
 program_fault_status GroupOfFiles = 2
 program_fault_status Quiet = 2
 program_fault_status Budget = 2
+program_fault_status NoList = 2
 program_fault_status (Run fault) = run_status fault.number
 program_fault_status (Explain fault) = explain_fault_status fault
 program_fault_status Unanswered = 1
@@ -64,7 +66,7 @@ program_fault_status (Question _) = 2
 program_fault_status (Look fault) = look_fault_status fault
 program_fault_status Warnings = 2
 
--- the faulty line of a script
+-- the faulty line of a script, or of a list
 abbrev pub program_fault_line : ProgramFault → Option ℕ
 program_fault_line (Play fault) = play_fault_line fault
 program_fault_line (Run fault) = run_line fault.line

@@ -1,4 +1,4 @@
--- The words of `server` and `router`, as `clap` matched them.
+-- The words of `server`, `router` and `forget`, as `clap` matched them.
 use Rattle.std.specs.Prelude.{◌≡◌, ℕ, ◌*◌, ◌^◌, nat_lt, Bool, List, [], codes, Option, Some, None, unwrap_or, if◌then◌else◌}
 use Rattle.std.specs.Option.{option_map}
 use Rattle.clap.specs.Words.{first_value, found_of}
@@ -6,6 +6,7 @@ use Rattle.clap.specs.declared.parser.matches.ArgMatches.{ArgMatches}
 use Rattle.lisp_texts.specs.Number.{number_of}
 use Rattle.lispd_cli.specs.Options.{flag_of}
 use Rattle.lispd_cli.specs.declared.words.NodeWords.{NodeWords}
+use Rattle.lispd_cli.specs.declared.words.ForgetWords.{ForgetWords}
 
 -- a word that is required, by its name
 abbrev pub word_in : ArgMatches → List ℕ → List ℕ
@@ -68,3 +69,11 @@ pub record ReadsNode (words : ArgMatches) (read : NodeWords) : Type 0 where
   pub quiet : quiet_of (option_in words (codes "quiet")) ≡ Some read.quiet
   pub budget : budget_of (option_in words (codes "budget")) ≡ Some read.budget
   pub control : option_map (λ dir. dir.now) read.control ≡ option_in words (codes "control")
+
+-- each word of `forget` is that which was given
+pub record ReadsForget (words : ArgMatches) (read : ForgetWords) : Type 0 where
+  pub name : read.name.now ≡ word_in words (codes "NAME")
+  pub dir : read.dir.now ≡ word_in words (codes "store")
+  pub database : read.has_database ≡ is_given_in words (codes "database")
+  pub list : option_map (λ list. list.now) read.list ≡ option_in words (codes "LIST")
+  pub removes : read.removes ≡ is_given_in words (codes "remove")

@@ -3,9 +3,9 @@
 use crate::argument::Argument;
 use crate::help::{
     ABOUT, ANSWER_ABOUT, ANSWER_EXAMPLE, ASK_ABOUT, ASK_FORM, CHECK_ABOUT, CHECK_WARNS, DRAW_ABOUT,
-    DRAW_FORM, EXPLAIN_ABOUT, LINE_EXAMPLE, LOOK_ABOUT, LOOK_FORM, LOOP_ABOUT, LOOP_FORM,
-    NODE_RUNS, PLAY_ABOUT, PLAY_FORM, ROUTER_ABOUT, SERVER_ABOUT, SERVER_GROUPS, TELL_ABOUT,
-    TELL_FORM,
+    DRAW_FORM, EXPLAIN_ABOUT, FORGET_ABOUT, FORGET_RISKS, LINE_EXAMPLE, LOOK_ABOUT, LOOK_FORM,
+    LOOP_ABOUT, LOOP_FORM, NODE_RUNS, PLAY_ABOUT, PLAY_FORM, ROUTER_ABOUT, SERVER_ABOUT,
+    SERVER_GROUPS, TELL_ABOUT, TELL_FORM,
 };
 use crate::option::AnswerOption;
 use clap::Command;
@@ -73,6 +73,12 @@ pub const KNOWN: &str = "known";
 
 /// The option for the folder in which a node is asked.
 pub const CONTROL: &str = "control";
+
+/// The list of `forget`.
+pub const LIST: &str = "LIST";
+
+/// The switch of `forget` that removes.
+pub const REMOVE: &str = "remove";
 
 /// The switch of `check` that makes warnings a fault.
 pub const STRICT: &str = "strict";
@@ -203,8 +209,8 @@ from 0 to 3600; left out, 60",
     },
 ];
 
-/// Those that ask a node, tell it something, and look at a configuration or a number; they come after the others.
-static ASKING: [Subcommand; 5] = [
+/// Those that ask a node, tell it something, look at what it keeps, and at a configuration or a number; they come after the others.
+static ASKING: [Subcommand; 6] = [
     Subcommand {
         name: "ask",
         about: ASK_ABOUT,
@@ -261,6 +267,38 @@ Map-Server is reached",
                 letters: "N",
                 is_required: false,
                 help: "How often it asks at most, a second each time, from 1 to 100; left out, 3",
+            },
+            WORDS_ARGUMENT,
+        ],
+    },
+    Subcommand {
+        name: "forget",
+        about: FORGET_ABOUT,
+        after_help: Some(FORGET_RISKS),
+        arguments: &[
+            Argument::Word {
+                name: NAME,
+                is_required: true,
+                help: "The Map-Server's name, that of its folder",
+            },
+            Argument::Word {
+                name: LIST,
+                is_required: false,
+                help: "A file that it printed before",
+            },
+            Argument::Value {
+                name: STORE,
+                letters: "DIR",
+                is_required: true,
+                help: "The folder of the nonces, in which the Map-Server has a folder of its name",
+            },
+            Argument::Switch {
+                name: DATABASE,
+                help: "The nonces are in a SQLite database there, nonces.db",
+            },
+            Argument::Switch {
+                name: REMOVE,
+                help: "Remove those of LIST that are still kept",
             },
             WORDS_ARGUMENT,
         ],

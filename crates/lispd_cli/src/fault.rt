@@ -93,6 +93,9 @@ pub enum ProgramFault {
     /// `--budget` has another form than it takes.
     #[error("--budget takes a whole number from 1024 to 262144, in bytes")]
     Budget,
+    /// `--remove` comes without a list.
+    #[error("--remove is taken only with LIST")]
+    NoList,
     /// A node or network on sockets and files ended before its end.
     #[error("the program stopped")]
     Run(RunFault),
@@ -117,7 +120,7 @@ pub enum ProgramFault {
 }
 
 impl ProgramFault {
-    /// The number that operators see: `Words`, `Turns`, `Known`, `Group`, `GroupOfFiles`, `Quiet`, `Budget` and `Question` 98, `File` 93,
+    /// The number that operators see: `Words`, `Turns`, `Known`, `Group`, `GroupOfFiles`, `Quiet`, `Budget`, `NoList` and `Question` 98, `File` 93,
     /// `Unanswered` 99, `Warnings` 25, or that of the fault or the refusal inside.
     pub const fn number(&self) -> u16
         ensures { result ≡ program_fault_number self.now }
@@ -130,6 +133,7 @@ impl ProgramFault {
             | ProgramFault::GroupOfFiles
             | ProgramFault::Quiet
             | ProgramFault::Budget
+            | ProgramFault::NoList
             | ProgramFault::Question(_) => 98,
             ProgramFault::Setup(fault) => fault.number(),
             ProgramFault::Answer(fault) => fault.number(),
@@ -144,7 +148,7 @@ impl ProgramFault {
         }
     }
 
-    /// The exit status: `Words`, `Turns`, `Known`, `Group`, `GroupOfFiles`, `Quiet`, `Budget`, `Question` and `Warnings` 2, `Refused` 3,
+    /// The exit status: `Words`, `Turns`, `Known`, `Group`, `GroupOfFiles`, `Quiet`, `Budget`, `NoList`, `Question` and `Warnings` 2, `Refused` 3,
     /// `File` and `Unanswered` 1, or that of the fault inside.
     pub fn status(&self) -> u8
         ensures { result ≡ program_fault_status self.now }
@@ -157,6 +161,7 @@ impl ProgramFault {
             | ProgramFault::GroupOfFiles
             | ProgramFault::Quiet
             | ProgramFault::Budget
+            | ProgramFault::NoList
             | ProgramFault::Question(_)
             | ProgramFault::Warnings => 2,
             ProgramFault::Setup(fault) => fault.status(),
@@ -170,7 +175,7 @@ impl ProgramFault {
         }
     }
 
-    /// The line of the script that is faulty, from 1 on; `None` where the fault is elsewhere.
+    /// The line of the script or the list that is faulty, from 1 on; `None` where the fault is elsewhere.
     pub const fn line(&self) -> Option<usize>
         ensures { result ≡ program_fault_line self.now }
     {

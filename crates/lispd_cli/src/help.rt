@@ -153,6 +153,27 @@ The status is 0 where the longest record that covers what was asked for has loca
 Example:
   lispd look 10.1.2.3 --server 192.0.2.1";
 
+/// What `forget` does, for its help.
+pub(crate) const FORGET_ABOUT: &str =
+    "Print which nonces a Map-Server that doesn't run keeps of routers, a line for each, or which of those of a list it keeps still, \
+whose routers weren't heard since; with --remove, remove these";
+
+/// How it is used, and what it risks, for its help.
+pub(crate) const FORGET_RISKS: &str =
+    "Each line is `kept SITE XTR key K nonce N`, and `forgotten ..` of a nonce that was removed, once that is synced. Each Map-Register
+that is accepted raises the nonce: one that is the same in a list from a month ago, and now, is of a router that wasn't heard under
+that key for a month. Cross out what is to stay, or put `#` before it; blank lines are skipped, and any other line is fault 141.
+
+A Map-Server that forgot a nonce accepts each Map-Register of that router under that key that was sent before once more, as long as
+its configuration has the key. So remove those alone whose key is gone, or that nobody could have captured.
+
+The Map-Server has to be stopped. No configuration is read. Nonces that a router sent, and those of notices, are never removed.
+
+Example:
+  lispd forget s1 --store nonces > june.txt
+  lispd forget s1 --store nonces june.txt > unheard.txt
+  lispd forget s1 --store nonces --remove unheard.txt";
+
 /// What `check` does, for its help.
 pub(crate) const CHECK_ABOUT: &str =
     "Read a configuration, and print what was understood: a line for each site, Map-Server and router, then its warnings";

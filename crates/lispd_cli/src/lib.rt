@@ -37,8 +37,8 @@ mod words;
 pub use asking::{Errand, ask_node};
 pub use check::check_config;
 pub use command_line::{
-    BUDGET, CONFIG, CONTROL, DATABASE, FILE, FOLDER, GROUP, KNOWN, NAME, NUMBER, QUESTION, QUIET,
-    STORE, STRICT, TEXT, TURNS, WORDS, command,
+    BUDGET, CONFIG, CONTROL, DATABASE, FILE, FOLDER, GROUP, KNOWN, LIST, NAME, NUMBER, QUESTION,
+    QUIET, REMOVE, STORE, STRICT, TEXT, TURNS, WORDS, command,
 };
 pub use failure::Failure;
 pub use fault::{ProgramFault, SetupFault};
@@ -47,4 +47,4 @@ pub use options::setup;
 pub use question::{QuestionFault, look_up};
 pub use reporting::{InWords, report};
 pub use subcommands::run_alone;
-pub use words::{NodeWords, is_given, node_words, tells_words, word};
+pub use words::{ForgetWords, NodeWords, forget_words, is_given, node_words, tells_words, word};

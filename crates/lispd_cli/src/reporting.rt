@@ -54,7 +54,7 @@ impl Display for Words<'_> {
     }
 }
 
-/// Prints the fault's number, and the line of a script; where it is asked for, also what was asked of the program and what is
+/// Prints the fault's number, and the line of a script or a list; where it is asked for, also what was asked of the program and what is
 /// wrong, in words. Returns the fault's exit status.
 pub fn report<R: Eprint>(
     rt: &R,

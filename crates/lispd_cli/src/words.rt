@@ -1,11 +1,12 @@
 //! The words of the command line, as `clap` matched them.
 
-ghost use Rattle.std.specs.Prelude.{◌≡◌, ◌≢◌, ◌≤◌, true, codes, Some, None, IfOk, IfSome};
-ghost use Rattle.lispd_cli.specs.Words.{word_in, is_given_in, option_in, turns_of, group_below, group_of, quiet_below, quiet_of, budget_below, budget_of, ReadsNode};
+ghost use Rattle.std.specs.Prelude.{◌≡◌, ◌≢◌, ◌≤◌, true, codes, Some, None, IfOk, IfSome, OnErr};
+ghost use Rattle.lispd_cli.specs.Words.{word_in, is_given_in, option_in, turns_of, group_below, group_of, quiet_below, quiet_of, budget_below, budget_of, ReadsNode, ReadsForget};
 ghost use Rattle.lisp_texts.specs.Number.{number_of};
 
 use crate::command_line::{
-    BUDGET, CHECK, CONFIG, CONTROL, DATABASE, GROUP, KNOWN, NAME, QUIET, STORE, TURNS, WORDS,
+    BUDGET, CHECK, CONFIG, CONTROL, DATABASE, GROUP, KNOWN, LIST, NAME, QUIET, REMOVE, STORE,
+    TURNS, WORDS,
 };
 use crate::fault::ProgramFault;
 use clap::ArgMatches;
@@ -112,6 +113,40 @@ pub fn node_words<'a>(words: &ArgMatches<'a>) -> Result<NodeWords<'a>, ProgramFa
         quiet: quiet(words)?,
         budget: budget(words)?,
         control: words.get_str(CONTROL),
+    })
+}
+
+/// The words of `forget`.
+pub struct ForgetWords<'a> {
+    /// The Map-Server's name.
+    pub name: &'a str,
+    /// The folder of the nonces.
+    pub dir: &'a str,
+    /// Its nonces are in a database, not in files.
+    pub has_database: bool,
+    /// The file of the list, where one is given.
+    pub list: Option<&'a str>,
+    /// What the list names is removed.
+    pub removes: bool,
+}
+
+/// The words of `forget`. Fault: `ProgramFault::NoList`, 98, where `--remove` comes without a list.
+pub fn forget_words<'a>(words: &ArgMatches<'a>) -> Result<ForgetWords<'a>, ProgramFault>
+    ensures words { IfOk result (ReadsForget words.now) }
+    ensures listed { IfOk result (λ w. w.removes ≡ true → w.list ≢ None) }
+    ensures fault { OnErr result (option_in words.now (codes "LIST") ≡ None) }
+{
+    let list = words.get_str(LIST);
+    let removes = is_given(words, REMOVE);
+    if removes && list.is_none() {
+        return Err(ProgramFault::NoList);
+    }
+    Ok(ForgetWords {
+        name: word(words, NAME),
+        dir: word(words, STORE),
+        has_database: is_given(words, DATABASE),
+        list,
+        removes,
     })
 }
 

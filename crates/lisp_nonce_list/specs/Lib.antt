@@ -1,0 +1,4 @@
+pub mod AcceptedNonce
+pub mod Line
+pub mod List
+pub mod Unheard

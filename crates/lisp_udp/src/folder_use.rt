@@ -1,0 +1,46 @@
+//! What the folders of nodes are used for.
+
+use crate::forgetting::{Forgetting, forget};
+use crate::storage::Storage;
+use crate::subject::{Subject, run_subject};
+use lisp_database_store::SystemTable;
+use lisp_files::Ending;
+use std::io::Write;
+
+/// What the folders of nodes are used for.
+#[derive(Clone, Copy, Debug, PartialEq, Eq)]
+pub enum FolderUse<'a> {
+    /// Nodes run over them.
+    Run {
+        /// The file of their configuration.
+        config: &'a str,
+        /// What runs.
+        subject: Subject<'a>,
+    },
+    /// The nonces that a Map-Server accepted, which doesn't run, are listed or removed.
+    Forget {
+        /// Its name.
+        name: &'a str,
+        /// What is wanted of them.
+        forgetting: Forgetting<'a>,
+    },
+}
+
+/// Uses the folders `dir`/NAME as is asked for. Faults: those of `run_subject`; or, where nothing runs, of the list 93, 87, 89, 95 and 141
+/// for its first faulty line, 93 for the folder and the store in it, 88 where a line can't be written, and 97.
+pub fn use_folders<T: SystemTable, W: Write>(
+    rt: &HostRuntime,
+    dir: &str,
+    storage: Storage,
+    wanted: FolderUse<'_>,
+    writer: &mut W,
+) -> Result<(), Ending> {
+    match wanted {
+        FolderUse::Run { config, subject } => {
+            run_subject::<T, W>(rt, config, dir, storage, subject, writer)
+        }
+        FolderUse::Forget { name, forgetting } => {
+            forget::<T, W>(rt, dir, name, storage, forgetting, writer)
+        }
+    }
+}
