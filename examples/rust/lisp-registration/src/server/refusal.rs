@@ -35,7 +35,7 @@ pub enum Refusal {
     Replay,
     /// The nonce is further above that last one than the site lets it jump.
     Jump,
-    /// The router has no live row of the site, and as many other routers as may have some.
+    /// As many routers have live rows of the site as may, and this one has none.
     TooManyRouters,
     /// The datagram brings a new row, and the site would have more live rows than it may.
     TooManyRows,
