@@ -24,6 +24,7 @@ stage 'calls that fail' ./failing.py "$program"
 stage 'drawn schedules' ./fuzz.py "$program" 1 200
 stage 'replies that are kept' ./replies.py "$program" 1 300
 stage 'messages by which others ask' ./requests.py ../crates/lisp_fields/out/lisp_fields 1 300
+stage 'captures that are read' ./packets.py ../crates/lisp_packets/out/lisp_packets 1 300
 stage pictures ./draw.py "$program"
 stage 'running nodes' ./running.py "$program"
 stage databases ./databases.py "$program"

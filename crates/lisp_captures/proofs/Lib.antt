@@ -1,0 +1,4 @@
+pub mod Powers
+pub mod Extensions
+pub mod Options
+pub mod Steps

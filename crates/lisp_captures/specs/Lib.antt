@@ -1,0 +1,12 @@
+pub mod Numbers
+pub mod Moment
+pub mod Value
+pub mod Reading
+pub mod Internet
+pub mod Frame
+pub mod Interface
+pub mod Record
+pub mod Block
+pub mod CaptureValue
+pub mod Header
+pub mod Capture
