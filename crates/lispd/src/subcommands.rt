@@ -1,11 +1,12 @@
 //! What each subcommand runs.
 
 use clap::ArgMatches;
-use lisp_files::{Problem, STANDARD_INPUT, WatchedReader, WatchedWriter};
+use lisp_database_store::SystemTable;
+use lisp_files::{Ending, Problem, STANDARD_INPUT, WatchedReader, WatchedWriter};
 use lisp_picture::{Form, draw};
 use lisp_player::{Untaken, play_noting};
 use lisp_script::PlayFault;
-use lisp_sqlite::Sqlite;
+use lisp_sqlite::{Task, run_task};
 use lisp_udp::{Answering, FolderUse, Forgetting, Storage, Stretch, Subject, use_folders};
 use lispd_cli::{
     CONFIG, DATABASE, Errand, FILE, Failure, ForgetWords, NodeWords, ProgramFault, STORE, TEXT,
@@ -26,12 +27,12 @@ pub fn run_subcommand(rt: &HostRuntime, matches: &ArgMatches<'_>) -> Result<(), 
     let ran = match named_run(named) {
         Ok(None) => run_other(rt, named, &mut writer),
         Ok(Some(run)) => {
-            let Run {
-                dir,
-                storage,
-                wanted,
-            } = run;
-            match use_folders::<Sqlite, _>(rt, dir, storage, wanted, &mut writer) {
+            let task = RunTask {
+                rt,
+                run,
+                writer: &mut writer,
+            };
+            match run_task(task) {
                 Ok(()) => Ok(()),
                 Err(ending) => Err(Failure::from(ending)),
             }
@@ -50,6 +51,27 @@ struct Run<'a> {
     dir: &'a str,
     storage: Storage,
     wanted: FolderUse<'a>,
+}
+
+/// The same, over databases of any kind, with where its lines go.
+struct RunTask<'a, W> {
+    rt: &'a HostRuntime,
+    run: Run<'a>,
+    writer: &'a mut W,
+}
+
+impl<W: Write> Task for RunTask<'_, W> {
+    type Output = Result<(), Ending>;
+
+    fn run<T: SystemTable>(self) -> Result<(), Ending> {
+        let RunTask { rt, run, writer } = self;
+        let Run {
+            dir,
+            storage,
+            wanted,
+        } = run;
+        use_folders::<T, W>(rt, dir, storage, wanted, writer)
+    }
 }
 
 // What `server`, `router`, `loop` and `forget` run; `None` for other subcommands.
