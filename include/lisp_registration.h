@@ -378,6 +378,8 @@ uint16_t lisp_registration_write_encapsulated(const struct lisp_encapsulated *en
 uint16_t lisp_registration_server_start(const uint8_t *configuration, size_t length, struct lisp_server *server);
 void lisp_registration_server_stop(struct lisp_server *server);
 uint16_t lisp_registration_server_restart(struct lisp_server *server);
+uint16_t lisp_registration_server_reload(const uint8_t *configuration, size_t length, struct lisp_server *server,
+                                         uint8_t *goes_on);
 void lisp_registration_server_pair(const uint8_t *bytes, size_t length, struct lisp_pair *pair);
 uint16_t lisp_registration_server_receive(struct lisp_server *server, const struct lisp_nonce *kept,
                                           const struct lisp_address *from, const uint8_t *bytes, size_t length,
@@ -763,6 +765,28 @@ static inline void lisp_server_stop(struct lisp_server *server)
 static inline uint16_t lisp_server_restart(struct lisp_server *server)
 {
     return server == NULL ? (uint16_t)LISP_NULL : lisp_registration_server_restart(server);
+}
+
+/*
+ * Has the Map-Server of a handle take the sites of another configuration, of `length` bytes, in place of its own. Of
+ * the configuration only the sites are taken, as by lisp_server_start. Where these have all that its own sites have
+ * (each site with its keys, their secrets and its prefixes, under limits that are as wide), it goes on with its rows,
+ * its last nonces and its notices, and `*goes_on` is 1. Else it starts anew with these sites, as after a crash, and
+ * `*goes_on` is 0: `starting` of lisp_server_reply is 1 then for another minute.
+ *
+ * Nothing is to be saved, and what the program saved stays in use. The faults come in this order: those of
+ * lisp_server_start, LISP_NULL (the handle holds none). At a fault all is as it was.
+ */
+static inline uint16_t lisp_server_reload(struct lisp_server *server, const char *configuration, size_t length,
+                                          uint8_t *goes_on)
+{
+    uint16_t number = lisp_span(configuration, length, 1);
+
+    if (number != LISP_DONE)
+        return number;
+    if (server == NULL || goes_on == NULL)
+        return LISP_NULL;
+    return lisp_registration_server_reload((const uint8_t *)lisp_pointer(configuration), length, server, goes_on);
 }
 
 /*

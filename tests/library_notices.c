@@ -132,6 +132,26 @@ static void exchange(struct lisp_server *server)
     resends(server, &first, 3000, LISP_NOT_DUE);
 }
 
+/* A notice stands where the Map-Server goes on with what it held, and else not. */
+static void reloads(struct lisp_server *server)
+{
+    uint8_t goes_on = OLD;
+
+    now = "a notice over other sites";
+    fill(server);
+    notifies(server, &none, &first, 0, LISP_DONE);
+    is("lisp_server_reload", lisp_server_reload(server, text, text_length, &goes_on), LISP_DONE);
+    is("goes_on", goes_on, true);
+    is_due(server, 3000, true);
+    acknowledges(server, &r1, LISP_DONE);
+    fill(server);
+    notifies(server, &none, &first, 0, LISP_DONE);
+    is("lisp_server_reload", lisp_server_reload(server, NULL, 0, &goes_on), LISP_DONE);
+    is("goes_on", goes_on, false);
+    is_due(server, 3000, false);
+    acknowledges(server, &r1, LISP_NO_NOTICE);
+}
+
 /* Makes a notice: its nonce is this one. */
 static void is_under(struct lisp_server *server, const struct lisp_nonce *kept, uint64_t nonce)
 {
@@ -289,7 +309,7 @@ static void wants_memory(struct lisp_server *server)
 
 void notices(void)
 {
-    static void (*const tests[])(struct lisp_server *) = {exchange, nonces, refuses, arguments, wants_memory};
+    static void (*const tests[])(struct lisp_server *) = {exchange, reloads, nonces, refuses, arguments, wants_memory};
     struct lisp_server server = {NULL};
 
     for (size_t i = 0; i < COUNT(tests); i++) {

@@ -1,6 +1,6 @@
 /*
- * A Map-Server's core as a C program holds it: the worked exchange, replays, a restart, each refusal, null pointers, and memory that
- * is refused.
+ * A Map-Server's core as a C program holds it: the worked exchange, replays, a restart, other sites, each refusal, null pointers, and
+ * memory that is refused.
  */
 #include "library.h"
 #include <stdio.h>
@@ -214,6 +214,142 @@ static void configurations(struct lisp_server *server)
     receives(server, &none, it->bytes, it->length, LISP_UNKNOWN_SITE);
 }
 
+#define SITE(id) "[[site]]\nid = \"000000000000000" id "\"\n"
+#define KEY(id, secret) "[[site.key]]\nid = " id "\nsecret = \"" secret "\"\n"
+#define PREFIX(eid) "[[site.prefix]]\neid = \"" eid "\"\nmore_specifics = true\n"
+#define WORKED_KEY KEY("1", "736563726574")
+#define WORKED_SITE SITE("1") WORKED_KEY PREFIX("10.1.0.0/16")
+
+/* The worked configuration's one site; with another site, key or prefix; and without something that it has, and whether it has all that
+ * these have. */
+static const char same_site[] = WORKED_SITE, another_site[] = SITE("2") WORKED_KEY PREFIX("10.2.0.0/16") WORKED_SITE;
+static const char no_key_1[] = SITE("1") KEY("2", "736563726574") PREFIX("10.1.0.0/16");
+static const char *const more[] = {another_site, WORKED_SITE KEY("2", "00"), WORKED_SITE PREFIX("10.2.0.0/16")};
+static const struct { const char *text; uint8_t has_all; } less[] = {
+    {"", true}, {SITE("2") WORKED_KEY PREFIX("10.1.0.0/16"), false}, {no_key_1, false},
+    {SITE("1") KEY("1", "736563726575") PREFIX("10.1.0.0/16"), false}, {SITE("1") WORKED_KEY PREFIX("10.1.0.0/24"), false},
+    {SITE("1") "most_rows = 1\n" WORKED_KEY PREFIX("10.1.0.0/16"), true}};
+
+/* Whether the Map-Server holds a row. */
+static void holds_a_row(struct lisp_server *server, uint8_t wanted)
+{
+    static struct lisp_locator locators[LISP_LOCATORS];
+    struct lisp_row row;
+    size_t place = 0;
+
+    is("lisp_server_row", lisp_server_row(server, 0, &place, &row, locators, LISP_LOCATORS), LISP_DONE);
+    is("whether it holds a row", row.is_there, wanted);
+}
+
+/* The sites of another configuration are taken; whether the Map-Server goes on with what it held. */
+static void reload(struct lisp_server *server, const char *configuration, uint8_t wanted)
+{
+    const void *core = server->core;
+    uint8_t goes_on = OLD;
+
+    is("lisp_server_reload", lisp_server_reload(server, configuration, strlen(configuration), &goes_on), LISP_DONE);
+    is("goes_on", goes_on, wanted);
+    is("the handle", server->core == core, true);
+}
+
+/* Starts a Map-Server that holds a row. */
+static void hold(struct lisp_server *server)
+{
+    start(server);
+    receives(server, &none, worked[REGISTER].bytes, worked[REGISTER].length, LISP_DONE);
+    holds_a_row(server, true);
+}
+
+/* Sites that have all that the old ones have, and such as don't. */
+static void reloads(struct lisp_server *server)
+{
+    const struct worked *it = &worked[REGISTER];
+    long before;
+
+    now = "sites that have all";
+    for (size_t i = 0; i < COUNT(more); i++) {
+        hold(server);
+        before = held;
+        reload(server, same_site, true);
+        is("blocks that aren't freed", held, before);
+        reload(server, more[i], true);
+        holds_a_row(server, true);
+        receives(server, &none, it->bytes, it->length, LISP_REPLAY);
+    }
+    now = "sites that lack something";
+    for (size_t i = 0; i < COUNT(less); i++) {
+        hold(server);
+        reload(server, less[i].text, false);
+        holds_a_row(server, false);
+        reload(server, same_site, less[i].has_all);
+        receives(server, &one, it->bytes, it->length, LISP_REPLAY);
+        receives(server, &none, it->bytes, it->length, LISP_DONE);
+    }
+}
+
+/* Which sites a Map-Server serves, as the answers to Map-Registers of two sites tell. */
+static void other_sites(struct lisp_server *server)
+{
+    const struct worked *it = &worked[REGISTER];
+    uint8_t bytes[84];
+
+    now = "other sites";
+    hold(server);
+    memcpy(bytes, it->bytes, sizeof bytes);
+    bytes[83] = 2;
+    lisp_sign(bytes, sizeof bytes, it->secret, SECRET);
+    receives(server, &none, bytes, sizeof bytes, LISP_UNKNOWN_SITE);
+    reload(server, another_site, true);
+    receives(server, &none, bytes, sizeof bytes, LISP_NOT_ALLOWED);
+    reload(server, no_key_1, false);
+    receives(server, &none, bytes, sizeof bytes, LISP_UNKNOWN_SITE);
+    receives(server, &none, it->bytes, it->length, LISP_UNKNOWN_KEY);
+    is("restart", lisp_server_restart(server), LISP_DONE);
+    receives(server, &none, it->bytes, it->length, LISP_UNKNOWN_KEY);
+}
+
+/* Tries to take other sites, with this answer: the Map-Server is as it was, and holds its row. */
+static void refuses_sites(struct lisp_server *server, const char *configuration, size_t length, uint16_t wanted)
+{
+    const void *core = server->core;
+    const long before = held;
+    uint8_t goes_on = OLD;
+
+    is("lisp_server_reload", lisp_server_reload(server, configuration, length, &goes_on), wanted);
+    untouched(&goes_on, sizeof goes_on);
+    is("the handle", server->core == core, true);
+    is("blocks that aren't freed", held, before);
+    if (core != NULL) {
+        holds_a_row(server, true);
+        receives(server, &none, worked[REGISTER].bytes, worked[REGISTER].length, LISP_REPLAY);
+    }
+}
+
+/* Configurations with faults, a handle that holds nothing, null pointers, and a length that no memory has. */
+static void refused_reloads(struct lisp_server *server)
+{
+    struct lisp_server empty = {NULL};
+    uint8_t goes_on = OLD;
+
+    hold(server);
+    for (size_t i = 0; i < COUNT(wrong_texts); i++) {
+        now = wrong_texts[i].text;
+        refuses_sites(&empty, now, strlen(now), wrong_texts[i].number);
+        refuses_sites(server, now, strlen(now), wrong_texts[i].number);
+    }
+    now = "refused reloads";
+    refuses_sites(&empty, text, text_length, LISP_NULL);
+    refuses_sites(server, NULL, 1, LISP_NULL);
+    refuses_sites(server, text, (size_t)PTRDIFF_MAX + 1, LISP_LENGTH);
+    is("no server", lisp_server_reload(NULL, text, text_length, &goes_on), LISP_NULL);
+    untouched(&goes_on, sizeof goes_on);
+    is("no place for goes_on", lisp_server_reload(server, no_key_1, strlen(no_key_1), NULL), LISP_NULL);
+    holds_a_row(server, true);
+    is("no text", lisp_server_reload(server, NULL, 0, &goes_on), LISP_DONE);
+    is("goes_on", goes_on, false);
+    receives(server, &none, worked[REGISTER].bytes, worked[REGISTER].length, LISP_UNKNOWN_SITE);
+}
+
 /* Each call of malloc or realloc is refused in turn; the next call of the library finds memory again. */
 static void wants_memory_to_start(struct lisp_server *server)
 {
@@ -246,6 +382,43 @@ static void wants_memory_to_start(struct lisp_server *server)
     }
 }
 
+/* The same of a reload, one call: the Map-Server is as it was. */
+static void refuses_memory_to_reload(struct lisp_server *server, const char *configuration, long at)
+{
+    const void *core = server->core;
+    const long before = held;
+    uint8_t goes_on = OLD;
+
+    calls = 0, refused = at;
+    uint16_t number = lisp_server_reload(server, configuration, strlen(configuration), &goes_on);
+    refused = 0;
+    is("a number of no memory", number == MEMORY_TOML || number == LISP_OUT_OF_MEMORY ? 0 : at * 1000 + number, 0);
+    untouched(&goes_on, sizeof goes_on);
+    is("the handle", server->core == core, true);
+    is("blocks that aren't freed", held, before);
+    holds_a_row(server, true);
+    receives(server, &none, worked[REGISTER].bytes, worked[REGISTER].length, LISP_REPLAY);
+}
+
+static void wants_memory_to_reload(struct lisp_server *server)
+{
+    const char *const texts[] = {no_key_1, another_site};
+    long most;
+
+    for (size_t i = 0; i < COUNT(texts); i++) {
+        now = "memory to reload";
+        hold(server);
+        calls = 0;
+        reload(server, texts[i], i == 1);
+        most = calls;
+        is("whether it took memory", most > 0, true);
+        hold(server);
+        for (long at = 1; at <= most; at++)
+            refuses_memory_to_reload(server, texts[i], at);
+        reload(server, texts[i], i == 1);
+    }
+}
+
 static void wants_memory_to_receive(struct lisp_server *server)
 {
     const struct worked *it = &worked[REGISTER];
@@ -270,8 +443,9 @@ static void wants_memory_to_receive(struct lisp_server *server)
 
 void servers(void)
 {
-    static void (*const tests[])(struct lisp_server *) = {exchange, refuses, arguments, configurations, wants_memory_to_start,
-                                                          wants_memory_to_receive};
+    static void (*const tests[])(struct lisp_server *) = {
+        exchange, refuses, arguments, configurations, reloads, other_sites, refused_reloads, wants_memory_to_start,
+        wants_memory_to_reload, wants_memory_to_receive};
     struct lisp_server server = {NULL};
 
     for (size_t i = 0; i < COUNT(tests); i++) {

@@ -1,3 +1,4 @@
+pub mod Extended
 pub mod Other
 mod Searching
 pub mod Secrets

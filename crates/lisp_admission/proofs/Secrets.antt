@@ -18,7 +18,7 @@ pub record StandsUnder (sites : List SiteValue) (bytes : List ℕ) (m : MapRegis
   pub authentic : is_authentic bytes key ≡ true
 
 module _ {X : Type 0} where
-  err_clash : {why : Refused} {x : X} → ◌≡◌ {A = Result X Refused} (Err why) (Ok x) → ⊥
+  pub err_clash : {why : Refused} {x : X} → ◌≡◌ {A = Result X Refused} (Err why) (Ok x) → ⊥
   err_clash e = absurd cc
 
 module _ (sites : List SiteValue) (from : Addr) (bytes : List ℕ) (m : MapRegisterValue) (key : List ℕ) where

@@ -3,6 +3,7 @@ pub mod NoticeFault
 pub mod Pairs
 pub mod Checks
 pub mod Unlimited
+pub mod Extended
 pub mod Nonces
 pub mod AcceptedRows
 pub mod NoticeTimer

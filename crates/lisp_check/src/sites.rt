@@ -1,6 +1,6 @@
 //! Warnings of sites.
 
-ghost use Rattle.std.specs.Prelude.{◌↔◌, length, IsTrue, OnErr};
+ghost use Rattle.std.specs.Prelude.{◌≡◌, ◌↔◌, [], length, IsTrue, OnErr};
 ghost use Rattle.lisp_check.specs.Warning.{IsWarned, of_site, of_sites};
 ghost use Rattle.lisp_check.specs.Adding.{AddsWarned};
 ghost use Rattle.lisp_check.specs.declared.warning.Warning.TheVariants.{NoKeys, NoPrefixes};
@@ -11,7 +11,7 @@ use crate::place::at;
 use crate::prefixes::warn_of_prefixes;
 use crate::warning::Warning;
 use lisp_memory::Memory;
-use lisp_sites::Config;
+use lisp_sites::{Config, Site};
 use std::alloc::{AllocError, Allocator};
 
 /// Adds the warnings of all sites.
@@ -55,9 +55,15 @@ fn has_no_keys<A: Allocator>(config: &Config<A>, site: usize) -> bool
     ensures { IsTrue result ↔ IsWarned config.now (NoKeys site) }
 {
     match at(config.sites().as_slice(), site) {
-        Some(site) => site.keys().is_empty(),
+        Some(site) => is_without_keys(site),
         None => false,
     }
+}
+
+fn is_without_keys<A: Allocator>(site: &Site<A>) -> bool
+    ensures { IsTrue result ↔ (site.now.keys ≡ []) }
+{
+    site.keys().is_empty()
 }
 
 fn has_no_prefixes<A: Allocator>(config: &Config<A>, site: usize) -> bool

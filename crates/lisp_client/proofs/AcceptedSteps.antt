@@ -1,6 +1,6 @@
 -- What a Map-Server accepted, by the steps in which it did.
 use Rattle.std.proofs.Common.{◌≡◌, ℕ, Bool, true, false, List, [], ◌∷◌, ◌++◌, Option, refl, sym, ap, subst, inl, inr, ◌∙◌, true≢false}
-use Rattle.std.specs.Prelude.{◌≢◌, ◌⊎◌, ◌==◌, if◌then◌else◌}
+use Rattle.std.specs.Prelude.{◌⊎◌, ◌==◌, if◌then◌else◌}
 use Rattle.std.specs.List.{Contains}
 use Rattle.std.proofs.lemmas.Bool.Decides.{Decides-eqb}
 use Rattle.std.proofs.lemmas.List.Elements.{Contains-append_cases, Contains-append_right}
@@ -15,7 +15,7 @@ use Rattle.lisp_model.specs.Accepted.{acceptances, acceptances_after, acceptance
 use Rattle.lisp_model.specs.Legal.{Legal, LegalTrace}
 use Rattle.lisp_model.proofs.Locality.{same_number}
 use Rattle.lisp_model.proofs.ListLemmas.{at_head, head_or_tail, in_none}
-use Rattle.lisp_client.specs.Steps.{IsIn, Arrives}
+use Rattle.lisp_client.specs.Steps.{IsIn, Arrives, StartsAnew}
 use Rattle.lisp_client.proofs.Steps.{here, later, goes_up}
 use Rattle.lisp_client.proofs.Arrivals.{IsTaken, taken_of, taken_alone, was_taken, accepting}
 
@@ -65,30 +65,23 @@ accepted_case (lines.Accepted node router key nonce reply) new old server x has 
     by false other has = inr has
 accepted_case _ new old server x has = inr has
 
--- a Map-Server starts again
-abbrev restarts : Line → Bool
-restarts (lines.Restarted node) = true
-restarts _ = false
+-- what a Map-Server holds though one started anew: it is another
+since_other : (node server : ℕ) (line : Line) (new old : List Acceptance) (x : Acceptance) → (StartsAnew line server → node ≡ server) → (b : Bool) → (node == server) ≡ b → Contains (if b then [] else old) x
+    → IsNew line new server x ⊎ ((StartsAnew line server → ⊥) × Contains old x)
+since_other node server line new old x starts true same has = absurd (in_none x has)
+since_other node server line new old x starts false other has = inr (λ start. true≢false (sym ((Decides-eqb node server).1 (starts start)) ∙ other), has)
 
-not_restarted : (line : Line) (server : ℕ) → restarts line ≡ false → line ≢ lines.Restarted server
-not_restarted line server other is = true≢false (sym (ap restarts is) ∙ other)
-
-since_case : (line : Line) (new old : List Acceptance) (server : ℕ) (x : Acceptance) → Contains (since_start_after line new server old) x → IsNew line new server x ⊎ ((line ≢ lines.Restarted server) × Contains old x)
+-- what was accepted since a Map-Server's last start
+since_case : (line : Line) (new old : List Acceptance) (server : ℕ) (x : Acceptance) → Contains (since_start_after line new server old) x
+    → IsNew line new server x ⊎ ((StartsAnew line server → ⊥) × Contains old x)
 since_case (lines.Accepted node router key nonce reply) new old server x has = by (accepted_case (lines.Accepted node router key nonce reply) new old server x has)
   where
-    by : IsNew (lines.Accepted node router key nonce reply) new server x ⊎ Contains old x → IsNew (lines.Accepted node router key nonce reply) new server x ⊎ ((lines.Accepted node router key nonce reply ≢ lines.Restarted server) × Contains old x)
+    by : IsNew (lines.Accepted node router key nonce reply) new server x ⊎ Contains old x → IsNew (lines.Accepted node router key nonce reply) new server x ⊎ ((StartsAnew (lines.Accepted node router key nonce reply) server → ⊥) × Contains old x)
     by (inl one) = inl one
-    by (inr before) = inr (not_restarted (lines.Accepted node router key nonce reply) server refl, before)
-since_case (lines.Restarted node) new old server x has = by (node == server) refl has
-  where
-    node_of : Line → ℕ
-    node_of (lines.Restarted n) = n
-    node_of _ = 0
-
-    by : (b : Bool) → (node == server) ≡ b → Contains (if b then [] else old) x → IsNew (lines.Restarted node) new server x ⊎ ((lines.Restarted node ≢ lines.Restarted server) × Contains old x)
-    by true same has = absurd (in_none x has)
-    by false other has = inr (λ is. true≢false (sym ((Decides-eqb node server).1 (ap node_of is)) ∙ other), has)
-since_case line new old server x has = inr (not_restarted _ server refl, has)
+    by (inr before) = inr (λ start. start, before)
+since_case (lines.Restarted node) new old server x has = since_other node server (lines.Restarted node) new old x (λ is. is) (node == server) refl has
+since_case (lines.Renewed node count) new old server x has = since_other node server (lines.Renewed node count) new old x (λ is. is) (node == server) refl has
+since_case _ new old server x has = inr (λ start. start, has)
 
 -- a step in which a Map-Server accepted
 pub record IsAcceptedAs (o : Opening) (server : ℕ) (x : Acceptance) (t : Step) (before : List Step) : Type 0 where
@@ -130,24 +123,24 @@ module _ (o : Opening) (server : ℕ) (x : Acceptance) where
       by (inl new) go = record { step = s; before = T; there = here s T; how = accepted_as s T legal.0 new }
       by (inr old) go = let w = go old in record { step = w.step; before = w.before; there = later s T w.step w.before w.there; how = w.how }
 
-  -- and what was accepted since the Map-Server's last restart
+  -- and what was accepted since the Map-Server's last start
   pub record WasAcceptedSince (T : List Step) : Type 0 where
     pub step : Step
     pub before : List Step
     pub there : IsIn T step before
     pub how : IsAcceptedAs o server x step before
-    pub no_restart : (r : Step) → Contains there.after r → r.line ≢ lines.Restarted server
+    pub no_start : (r : Step) → Contains there.after r → StartsAnew r.line server → ⊥
 
   pub was_accepted_since : (T : List Step) → LegalTrace o T → Contains (since_start o T server) x → WasAcceptedSince T
   was_accepted_since [] legal has = absurd (in_none x has)
   was_accepted_since (s ∷ T) legal has = by (since_case s.line (acceptances_in_step o T s) (since_start o T server) server x has) (was_accepted_since T legal.1)
     where
-      by : IsNew s.line (acceptances_in_step o T s) server x ⊎ ((s.line ≢ lines.Restarted server) × Contains (since_start o T server) x) → (Contains (since_start o T server) x → WasAcceptedSince T) → WasAcceptedSince (s ∷ T)
-      by (inl new) go = record { step = s; before = T; there = here s T; how = accepted_as s T legal.0 new; no_restart = λ r has. absurd (in_none r has) }
+      by : IsNew s.line (acceptances_in_step o T s) server x ⊎ ((StartsAnew s.line server → ⊥) × Contains (since_start o T server) x) → (Contains (since_start o T server) x → WasAcceptedSince T) → WasAcceptedSince (s ∷ T)
+      by (inl new) go = record { step = s; before = T; there = here s T; how = accepted_as s T legal.0 new; no_start = λ r has. absurd (in_none r has) }
       by (inr old) go =
           let w = go old.1 in
-          record { step = w.step; before = w.before; there = later s T w.step w.before w.there; how = w.how; no_restart = λ r has. none r w.there.after w.no_restart (head_or_tail s w.there.after r has) }
+          record { step = w.step; before = w.before; there = later s T w.step w.before w.there; how = w.how; no_start = λ r has. none r w.there.after w.no_start (head_or_tail s w.there.after r has) }
         where
-          none : (r : Step) (after : List Step) → ((q : Step) → Contains after q → q.line ≢ lines.Restarted server) → (r ≡ s) ⊎ Contains after r → r.line ≢ lines.Restarted server
-          none r after rest (inl is) line = old.0 (ap (λ (q : Step). q.line) (sym is) ∙ line)
-          none r after rest (inr more) line = rest r more line
+          none : (r : Step) (after : List Step) → ((q : Step) → Contains after q → StartsAnew q.line server → ⊥) → (r ≡ s) ⊎ Contains after r → StartsAnew r.line server → ⊥
+          none r after rest (inl is) start = old.0 (subst (λ (q : Step). StartsAnew q.line server) is start)
+          none r after rest (inr more) start = rest r more start

@@ -23,7 +23,7 @@ use Rattle.lisp_replies.specs.Kept.{IsKept, IsKeptNone}
 use Rattle.lisp_replies.specs.Reply.{is_held_back, is_starting}
 use Rattle.lisp_replies.specs.declared.reply.Reply.{Reply}
 use Rattle.lisp_replies.specs.declared.reply.Reply.TheVariants.{Records, Negative, Forward, Silent}
-use Rattle.lisp_model.specs.Trace.{EventValue, Step, Opening, clock, is_server}
+use Rattle.lisp_model.specs.Trace.{EventValue, Step, Opening, sites, clock, is_server}
 use Rattle.lisp_model.specs.Held.{rows}
 use Rattle.lisp_model.specs.Bag.{since_start}
 use Rattle.lisp_model.specs.Life.{began}
@@ -125,7 +125,7 @@ module _ (o : Opening) (T : List Step) (server : ℕ) where
     registered = registered o T legal server goes.row goes.send goes.sent;
   }
 
-  negative : (asked : Addr) (ttl : ℕ) (eid : PrefixValue) → IsKeptNone held o.config.sites asked (clock T) eid ttl → IsNegative o T server asked eid
+  negative : (asked : Addr) (ttl : ℕ) (eid : PrefixValue) → IsKeptNone held (sites o T server) asked (clock T) eid ttl → IsNegative o T server asked eid
   negative asked ttl eid kept = record {
     has = kept.has;
     none = λ addr has row its. true≢false (sym (may_answer_by addr row its) ∙ kept.none addr has row its.held);
@@ -155,7 +155,7 @@ module _ (o : Opening) (T : List Step) (server : ℕ) where
     old : starting ≡ false → IsYoung T server quiet → ⊥
     old is young = true≢false (sym ((Decides-ltb (clock T - began T server) quiet).1 young) ∙ is)
 
-    held_back : (asked : PrefixValue) (row : RowValue) → is_held_back starting o.config.sites asked row ≡ true → IsYoung T server quiet
+    held_back : (asked : PrefixValue) (row : RowValue) → is_held_back starting (sites o T server) asked row ≡ true → IsYoung T server quiet
     held_back asked row is = young (and_parts starting _ is).0
 
   module _ {A : Type 0} (legal : LegalTrace o T) (asked : PrefixValue) (quiet : ℕ) where

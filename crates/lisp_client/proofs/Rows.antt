@@ -50,7 +50,7 @@ module _ (o : Opening) (T : List Step) (legal : LegalTrace o T) (server : ℕ) (
       reply = w.how.reply;
       line = w.how.line ∙ (λ i. lines.Accepted server (sym its_router i) (sym its_key i) (sym its_nonce i) w.how.reply);
       made = made ∙ ap (λ (y : Acceptance). row_value y.message y.from y.moment row.mapping) w.how.taken.is;
-      no_restart = w.no_restart;
+      no_start = w.no_start;
     }
 
   pub registered : (e : SentRegister) → IsSentRow o T server row e → WasRegistered o T server row

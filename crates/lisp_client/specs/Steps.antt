@@ -12,6 +12,7 @@ use Rattle.lisp_etr.specs.Sending.{map_register_of}
 use Rattle.lisp_admission.specs.AcceptedRows.{row_value}
 use Rattle.lisp_admission.specs.Pairs.{router_of}
 use Rattle.lisp_model.specs.declared.event.Event.TheVariants as events
+use Rattle.lisp_model.specs.declared.line.Line.{Line}
 use Rattle.lisp_model.specs.declared.line.Line.TheVariants as lines
 use Rattle.lisp_model.specs.Trace.{EventValue, Step, Opening, database, address_at, router_at, etr_config_of, clock}
 use Rattle.lisp_model.specs.Bag.{Arrival, arrival_in, bag}
@@ -44,8 +45,14 @@ pub record WasSent (o : Opening) (T : List Step) (server : ℕ) (message : MapRe
       ≡ map_register_of (record (etr_config_of o.config (router_at o.config node)) { key_id = message.key_id })
       (part_at (database o before node) part) message.nonce
 
--- what a row was accepted in: a step since the Map-Server's last restart in which a Map-Register arrived, and the row
--- was made of it
+-- by the line the Map-Server starts anew: it was restarted, or took sites that lack something that its own had
+abbrev pub StartsAnew : Line → ℕ → Type 0
+StartsAnew (lines.Restarted node) server = node ≡ server
+StartsAnew (lines.Renewed node _) server = node ≡ server
+StartsAnew _ server = ⊥
+
+-- what a row was accepted in: a step since the Map-Server's last start in which a Map-Register arrived, and the row was
+-- made of it
 pub record IsAcceptedIn (o : Opening) (T : List Step) (server : ℕ) (row : RowValue) (t : Step) (before : List Step)
     : Type 0 where
   pub there : IsIn T t before
@@ -53,7 +60,7 @@ pub record IsAcceptedIn (o : Opening) (T : List Step) (server : ℕ) (row : RowV
   pub reply : Option ℕ
   pub line : t.line ≡ lines.Accepted server row.router row.key row.nonce reply
   pub made : row ≡ row_value arrived.message arrived.arrival.from (clock before) row.mapping
-  pub no_restart : (r : Step) → Contains there.after r → r.line ≢ lines.Restarted server
+  pub no_start : (r : Step) → Contains there.after r → StartsAnew r.line server → ⊥
 
 -- a row's router sent in the step to that Map-Server, under the row's key and nonce
 pub record IsSentIn (o : Opening) (T : List Step) (server : ℕ) (row : RowValue) (node : ℕ) (s : Step)

@@ -1,5 +1,5 @@
 -- What a line of a user's asks of a node: a line of a script, without the node's name.
-use Rattle.std.specs.Prelude.{ℕ, ◌==◌, nat_lt, List, [], ◌∷◌, ◌++◌, length, codes, Option, Some, None, Result, Ok, Err, if◌then◌else◌}
+use Rattle.std.specs.Prelude.{◌⊎◌, ℕ, ◌==◌, nat_lt, List, [], ◌∷◌, ◌++◌, length, codes, Option, Some, None, Result, Ok, Err, if◌then◌else◌}
 use Rattle.std.specs.List.{before_first, after_first, find}
 use Rattle.std.specs.Option.{option_map}
 use Rattle.lisp_records.specs.Result.{◌>>=◌}
@@ -8,7 +8,7 @@ use Rattle.lisp_nonces.specs.declared.fate.Fate.TheVariants.{Done}
 use Rattle.lisp_model.specs.declared.event.Event.TheVariants as events
 use Rattle.lisp_model.specs.Trace.{EventValue}
 use Rattle.lisp_script.specs.Command.{CommandValue}
-use Rattle.lisp_script.specs.Spelling.{script_of}
+use Rattle.lisp_script.specs.Spelling.{script_of, HasReload}
 use Rattle.lisp_script.specs.Words.{is_word}
 use Rattle.lisp_script.specs.declared.command.Command.TheVariants as commands
 use Rattle.lisp_script.specs.declared.fault.ScriptFault.{ScriptFault}
@@ -22,7 +22,7 @@ use Rattle.lisp_control.specs.declared.question.Question.{Question}
 use Rattle.lisp_control.specs.declared.question.Question.TheVariants.{Server, Router, Routers, Counts, Disallowed, Tell}
 use Rattle.lisp_statistics.specs.declared.counts.Format.TheVariants as formats
 
--- what an event tells the node with a number to do: its store's calls are done
+-- what an event tells the node with a number to do: its store's calls are done. No node that runs is told to take other sites yet
 abbrev pub order_of : ℕ → EventValue → Option Order
 order_of number (events.Notice server router Done) = if server == number then Some (orders.Notice router) else None
 order_of number (events.Change router db) = if router == number then Some (orders.Change db) else None
@@ -63,6 +63,10 @@ what_of (Err fault) = Err fault.what
 abbrev pub only : List CommandValue → Result CommandValue ScriptWhat
 only (command ∷ []) = Ok command
 only _ = Err whats.Word
+
+-- where memory may run out in a line: where it may be refused, or where the line tells sites
+abbrev pub MayRunOut : Type 0 → List ℕ → List ℕ → Type 0
+MayRunOut may name rest = may ⊎ ((word : List ℕ) × HasReload (named name word rest))
 
 -- what a line asks as a script's, by its first word and what is behind it
 abbrev pub question_in_script : ConfigValue → ℕ → List ℕ → List ℕ → List ℕ → Result Question ScriptWhat

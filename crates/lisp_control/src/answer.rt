@@ -87,8 +87,8 @@ fn router_counts(
 }
 
 /// What is counted of the Map-Server with a number, and what it has at a moment, in ms, by its core, its rows as they
-/// were counted, and the runs of Map-Registers that it refuses as replays; then what is held of each site that has a
-/// limit on its routers or rows, and how many Map-Registers the limits of each site refused.
+/// were counted, and the runs of Map-Registers that it refuses as replays; then what is held of each of its sites that has
+/// a limit on its routers or rows, and how many Map-Registers the limits of each site refused.
 pub(crate) fn server_counts(
     alloc: Global,
     config: &Config,
@@ -114,7 +114,7 @@ pub(crate) fn server_counts(
         gauge(Figure::SlowestReply, statistics.slowest_reply()),
     ];
     let mut text = counts_text(alloc, config, number, format, statistics, &gauges)?;
-    put_site_counts(&mut text, config, number, format, rows)?;
+    put_site_counts(&mut text, config, number, core.sites(), format, rows)?;
     put_site_refusals(&mut text, config, number, format, statistics)?;
     Ok(text)
 }

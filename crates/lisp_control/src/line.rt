@@ -5,9 +5,10 @@ ghost use Rattle.std.specs.List.{before_first, after_first};
 ghost use Rattle.std.specs.String.{string_bytes};
 ghost use Rattle.lisp_records.specs.Result.{Reads};
 ghost use Rattle.lisp_script.specs.Command.{command_value};
+ghost use Rattle.lisp_script.specs.Answers.{MayRunOutOf};
 ghost use Rattle.lisp_script.specs.Fault.{Gives};
 ghost use Rattle.lisp_script.specs.Spelling.{script_of};
-ghost use Rattle.lisp_control.specs.Question.{question_in, own_question, question_by_word, question_in_script, records_of_change, named, what_of, only};
+ghost use Rattle.lisp_control.specs.Question.{question_in, own_question, question_by_word, question_in_script, records_of_change, named, what_of, only, MayRunOut};
 
 use crate::question::Question;
 use lisp_lines::RouterQuestion;
@@ -30,8 +31,8 @@ pub fn question_in(
     name: &str,
     line: &str,
 ) -> Result<Question, ScriptWhat>
-    ensures { Gives ⟦<Global as Memory>⟧.may_refuse (λ question. question) result
-        (question_in config.now number name.now line.now) }
+    ensures { Gives (MayRunOut ⟦<Global as Memory>⟧.may_refuse name.now (after_first (λ b. b == 32) line.now))
+        (λ question. question) result (question_in config.now number name.now line.now) }
 {
     match own_question(line) {
         Some(question) => Ok(question),
@@ -64,8 +65,8 @@ fn question_by_word(
     word: &str,
     rest: &str,
 ) -> Result<Question, ScriptWhat>
-    ensures { Gives ⟦<Global as Memory>⟧.may_refuse (λ question. question) result
-        (question_by_word config.now number name.now word.now rest.now) }
+    ensures { Gives (MayRunOut ⟦<Global as Memory>⟧.may_refuse name.now rest.now)
+        (λ question. question) result (question_by_word config.now number name.now word.now rest.now) }
 {
     if word == "disallowed" {
         let change = question_in_script(alloc, config, number, name, "change", rest)?;
@@ -94,8 +95,8 @@ fn question_in_script(
     word: &str,
     rest: &str,
 ) -> Result<Question, ScriptWhat>
-    ensures { Gives ⟦<Global as Memory>⟧.may_refuse (λ question. question) result
-        (question_in_script config.now number name.now word.now rest.now) }
+    ensures { Gives (MayRunOut ⟦<Global as Memory>⟧.may_refuse name.now rest.now)
+        (λ question. question) result (question_in_script config.now number name.now word.now rest.now) }
 {
     let text = named(alloc, name, word, rest)?;
     let commands = commands_in(alloc, config, text.as_str())?;
@@ -123,11 +124,11 @@ fn parted(line: &str) -> (&str, &str)
 
 // The commands of a script.
 fn commands_in(alloc: Global, config: &Config, text: &str) -> Result<Vec<Command>, ScriptWhat>
-    ensures { Gives ⟦<Global as Memory>⟧.may_refuse
+    ensures { Gives (MayRunOutOf ⟦<Global as Memory>⟧.may_refuse text.now)
         (λ commands. map command_value commands.items) result
         (what_of (script_of config.now text.now)) }
 {
-    match parse_script(alloc, config, text) {
+    match parse_script(alloc, alloc, config, text) {
         Ok(commands) => Ok(commands),
         Err(fault) => Err(fault.what),
     }

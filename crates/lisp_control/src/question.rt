@@ -14,8 +14,8 @@ use lisp_sites::Config;
 use lisp_statistics::Format;
 use lisp_turns::Order;
 
-/// What a user asks of a node that runs, or tells it to do.
-#[derive(Debug, Drop)]
+/// What a user asks of a node that runs, or tells it to do. It has no `Debug`, as sites have none.
+#[derive(Drop)]
 pub enum Question {
     /// What a Map-Server answers by its core.
     Server(ServerQuestion),

@@ -12,14 +12,14 @@ use Rattle.lisp_model.specs.Context.{Context}
 use Rattle.lisp_model.specs.Legal.{MayCome, LegalTrace, context_of}
 use Rattle.lisp_model.specs.Trace.{EventValue, Step, Opening}
 use Rattle.lisp_model.proofs.ListLemmas.{at_head, in_tail}
-use Rattle.lisp_client.specs.Steps.{IsIn}
+use Rattle.lisp_client.specs.Steps.{IsIn, StartsAnew}
 use Rattle.lisp_turns.specs.Act.{numbered}
 use Rattle.lisp_turns.specs.Part.{IsOwn, IsQuiet}
 
--- each line of acceptance since a Map-Server's last restart was printed
+-- each line of acceptance since a Map-Server's last start was printed
 abbrev pub ToldSince : ℕ → List Line → List Step → Type 0
 ToldSince server printed T = (t : Step) (before : List Step) (at : IsIn T t before) (router : RouterId) (key nonce : ℕ) (reply : Option ℕ) → t.line ≡ lines.Accepted server router key nonce reply
-    → ((r : Step) → Contains at.after r → r.line ≢ lines.Restarted server) → Contains printed (numbered 0 t.line)
+    → ((r : Step) → Contains at.after r → StartsAnew r.line server → ⊥) → Contains printed (numbered 0 t.line)
 
 -- a step is the last one, or one of those before
 last_or_before : (x : Step) (T : List Step) (t : Step) (before : List Step) (at : IsIn (x ∷ T) t before) → (x ≡ t) ⊎ ((there : IsIn T t before) × (at.after ≡ x ∷ there.after))
@@ -51,7 +51,7 @@ module _ (server : ℕ) (printed : List Line) where
 
       by : (s ≡ t) ⊎ ((there : IsIn T t earlier) × (at.after ≡ s ∷ there.after)) → Contains printed (numbered 0 t.line)
       by (inl same) = absurd (clash (sym line ∙ ap (λ (x : Step). x.line) same ∙ is))
-      by (inr (there, after_is)) = absurd (none s (subst (λ (l : List Step). Contains l s) (sym after_is) (at_head s there.after)) line)
+      by (inr (there, after_is)) = absurd (none s (subst (λ (l : List Step). Contains l s) (sym after_is) (at_head s there.after)) (subst (λ (l : Line). StartsAnew l server) (sym line) refl))
 
   -- steps of which all were told
   all_more : (steps T : List Step) → ((s : Step) → Contains steps s → IsQuiet s.line ⊎ Contains printed (numbered 0 s.line)) → ToldSince server printed T → ToldSince server printed (steps ++ T)

@@ -7,6 +7,7 @@ use Rattle.std.proofs.lemmas.Bool.{and_parts, leb-true, ltb-true, lt-ltb}
 use Rattle.std.proofs.lemmas.List.Elements.{Contains-append_right}
 use Rattle.lisp_records.specs.declared.address.Addr.{Addr}
 use Rattle.lisp_policy.specs.Configuration.{ConfigValue, HasServers}
+use Rattle.lisp_policy.specs.Site.{SiteValue}
 use Rattle.lisp_messages.specs.declared.fault.ReadFault.{ReadFault}
 use Rattle.lisp_messages.specs.Message.{MessageValue, MapRegisterValue, MapNotifyValue}
 use Rattle.lisp_admission.specs.Pairs.{router_of}
@@ -30,7 +31,7 @@ use Rattle.lisp_turns.specs.Part.{IsOwn, arrival, arrivals, datagram_from}
 use Rattle.lisp_deployment.specs.Received.{MayHold, IsUnforged}
 use Rattle.lisp_deployment.proofs.Accepting.{all_front}
 use Rattle.lisp_deployment.proofs.Adding.{reads}
-use Rattle.lisp_deployment.proofs.Holding.{may_hold}
+use Rattle.lisp_deployment.proofs.Holding.{TakeGiven, may_hold}
 use Rattle.lisp_deployment.proofs.Replying.{WasReplied, AreReplied}
 
 -- a line was printed of the Map-Server that accepted a nonce of a router under a key
@@ -59,7 +60,7 @@ lists_server c names router k its listed =
 noise_clash : {f : ReadFault} {said : MessageValue} → ◌≡◌ {A = Result MessageValue ReadFault} (Err f) (Ok said) → ⊥
 noise_clash e = absurd cc
 
-module _ (o : Opening) (T : List Step) (printed : List Line) (sent : List DatagramValue) (replies : AreReplied o T printed sent) (number : ℕ) (legal : LegalTrace o T) (network : IsNetwork o.config) (clean : Clean o T) where
+module _ (o : Opening) (given : List (List SiteValue)) (T : List Step) (printed : List Line) (sent : List DatagramValue) (replies : AreReplied o T printed sent) (number : ℕ) (legal : LegalTrace o T) (network : IsNetwork o.config) (clean : Clean o T) where
   -- the reply to a router is that to a Map-Register of its own
   own_reply : (node server key nonce : ℕ) (n : MapNotifyValue) (from : Addr) → is_router o.config node ≡ true → is_server o.config server ≡ true → from ≡ address_at o.config server → n.key_id ≡ key → n.nonce ≡ nonce
       → WasReplied o T printed from (address_at o.config node) n → AcceptanceIsTold o.config printed node server key nonce
@@ -74,9 +75,9 @@ module _ (o : Opening) (T : List Step) (printed : List Line) (sent : List Datagr
       (r.reply, subst (λ (line : Line). Contains printed line) (λ i. lines.Accepted (at i) (me i) (its_key i) (its_nonce i) r.reply) r.told)
 
   -- what isn't forged, and counts, was sent
-  counts : (s : Step) (U : List Step) → LegalTrace o U → (e : EventValue) → IsOwn number e → AllByRecursion (IsUnforged o.config sent number) (arrival e) → (node server part key nonce : ℕ) → MayCome (context_of o U s) e (lines.Counted node server part key nonce)
+  counts : (s : Step) (U : List Step) → LegalTrace o U → TakeGiven o given U → (e : EventValue) → IsOwn number e → AllByRecursion (IsUnforged o.config given sent number) (arrival e) → (node server part key nonce : ℕ) → MayCome (context_of o U s) e (lines.Counted node server part key nonce)
       → AcceptanceIsTold o.config printed node server key nonce
-  counts s U legal_then (events.Junk to from bytes) own unforged node server part key nonce row = by unforged.0
+  counts s U legal_then take (events.Junk to from bytes) own unforged node server part key nonce row = by unforged.0
     where
       a : Arrival
       a = junk_arrival from bytes
@@ -99,7 +100,7 @@ module _ (o : Opening) (T : List Step) (printed : List Line) (sent : List Datagr
       number_is : what.what.message.nonce ≡ nonce
       number_is = sym what.number
 
-      by : IsUnforged o.config sent number (from, bytes) → AcceptanceIsTold o.config printed node server key nonce
+      by : IsUnforged o.config given sent number (from, bytes) → AcceptanceIsTold o.config printed node server key nonce
       by (inl has) =
           let low = what.low in
           let r = replies (datagram_from from (address_at o.config number, bytes)) has what.what.message heard.read.is (record { plain = heard.read.plain; low = omega (arith, low, number_is) }) in
@@ -107,20 +108,20 @@ module _ (o : Opening) (T : List Step) (printed : List Line) (sent : List Datagr
           (subst (λ (k : ℕ). WasReplied o T printed from (address_at o.config k) what.what.message) (sym here ∙ what.acts) r)
       by (inr (inl noise)) = absurd (noise_clash (sym noise.1 ∙ heard.read.is))
       by (inr (inr forged)) =
-          absurd (true≢false (sym heard.authentic ∙ forged (etr_config o U s.actor).secret (subst (λ (k : ℕ). MayHold o.config k (etr_config o U s.actor).secret) here (may_hold o U s.actor legal_then (etr_config o U s.actor).secret (knows_own o U s.actor row.arrives.acts.kind)))))
-  counts s U legal_then (events.Deliver k fate) own unforged node server part key nonce row = absurd own
-  counts s U legal_then _ own unforged node server part key nonce row = absurd row
+          absurd (true≢false (sym heard.authentic ∙ forged (etr_config o U s.actor).secret (subst (λ (k : ℕ). MayHold o.config given k (etr_config o U s.actor).secret) here (may_hold o given U s.actor legal_then take (etr_config o U s.actor).secret (knows_own o U s.actor row.arrives.acts.kind)))))
+  counts s U legal_then take (events.Deliver k fate) own unforged node server part key nonce row = absurd own
+  counts s U legal_then take _ own unforged node server part key nonce row = absurd row
 
   -- and steps of the node
-  pub counts_told : (steps : List Step) → AllByRecursion (λ s. IsOwn number s.event) steps → LegalTrace o (steps ++ T) → AllByRecursion (IsUnforged o.config sent number) (arrivals steps) → CountsAreTold o T printed → CountsAreTold o (steps ++ T) printed
-  counts_told [] own legal_then unforged before x has node server part key nonce is = before x has node server part key nonce is
-  counts_told (s ∷ steps) own legal_then unforged before x has node server part key nonce is =
-      let parts = all_front (IsUnforged o.config sent number) (arrival s.event) (arrivals steps) unforged in
-      by parts.0 (head_or_tail s (steps ++ T) x has) (counts_told steps own.1 legal_then.1 parts.1 before x)
+  pub counts_told : (steps : List Step) → AllByRecursion (λ s. IsOwn number s.event) steps → LegalTrace o (steps ++ T) → TakeGiven o given (steps ++ T) → AllByRecursion (IsUnforged o.config given sent number) (arrivals steps) → CountsAreTold o T printed → CountsAreTold o (steps ++ T) printed
+  counts_told [] own legal_then take unforged before x has node server part key nonce is = before x has node server part key nonce is
+  counts_told (s ∷ steps) own legal_then take unforged before x has node server part key nonce is =
+      let parts = all_front (IsUnforged o.config given sent number) (arrival s.event) (arrivals steps) unforged in
+      by parts.0 (head_or_tail s (steps ++ T) x has) (counts_told steps own.1 legal_then.1 take.1 parts.1 before x)
     where
-      by : AllByRecursion (IsUnforged o.config sent number) (arrival s.event) → (x ≡ s) ⊎ Contains (steps ++ T) x
+      by : AllByRecursion (IsUnforged o.config given sent number) (arrival s.event) → (x ≡ s) ⊎ Contains (steps ++ T) x
           → (Contains (steps ++ T) x → (node server part key nonce : ℕ) → x.line ≡ lines.Counted node server part key nonce → AcceptanceIsTold o.config printed node server key nonce) → AcceptanceIsTold o.config printed node server key nonce
-      by its_own (inl here) go = counts s (steps ++ T) legal_then.1 s.event own.0 its_own node server part key nonce
+      by its_own (inl here) go = counts s (steps ++ T) legal_then.1 take.1 s.event own.0 its_own node server part key nonce
           (subst (λ (line : Line). MayCome (context_of o (steps ++ T) s) s.event line) (sym (ap (λ (y : Step). y.line) here) ∙ is) legal_then.0.row)
       by its_own (inr old) go = go old node server part key nonce is
 

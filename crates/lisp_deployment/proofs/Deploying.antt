@@ -134,6 +134,7 @@ module _ (A : Type 0) (config : ConfigValue) (number places : ℕ) (s t : TurnSt
       printed = part.printed;
       sent = kept_bag w goes.left number t.node ∙ part.sent;
       heard = part.heard;
+      ordered = part.ordered;
     };
     has = has_it w goes.left o T goes.steps stand goes.part.stands number goes.part.own t.node goes.node;
     clock = kept_clock w goes.left number t.node ∙ goes.clock ∙ ap (λ (x : OutsideState). x.moment) turn.calls;

@@ -1,20 +1,23 @@
 -- Examples: a turn and a life of a deployment, and near misses, each but for one thing: what the definitions don't allow.
-use Rattle.std.proofs.Common.{Ok, Err, length, true≢false, ◌≡◌, inl, inr, ℕ, zero, suc, ◌<◌, ◌≤◌, Bool, true, false, List, [], ◌∷◌, ◌++◌, Option, Some, None, refl, sym, ap, subst, ◌∙◌, arith}
+use Rattle.std.proofs.Common.{Ok, Err, length, true≢false, ◌≡◌, inl, inr, ℕ, zero, suc, ◌<◌, ◌≤◌, Bool, true, false, List, [], ◌∷◌, ◌++◌, map, Option, Some, None, refl, sym, ap, subst, ◌∙◌, arith}
 use Rattle.std.specs.Prelude.{◌≢◌, ◌⊎◌, ◌==◌, if◌then◌else◌, IsTrue}
 use Rattle.std.specs.FinMap.{empty}
-use Rattle.std.specs.List.{Contains}
+use Rattle.std.specs.List.{Contains, flat_map}
 use Rattle.std.specs.Option.{option_and_then}
 use Rattle.lisp_records.specs.declared.router.RouterId.{RouterId}
 use Rattle.lisp_records.specs.Address.{PrefixValue}
 use Rattle.lisp_records.specs.Row.{RowValue, is_alive}
 use Rattle.lisp_policy.specs.Configuration.{ConfigValue}
+use Rattle.lisp_policy.specs.Site.{SiteValue}
 use Rattle.lisp_nonces.specs.declared.fate.Fate.TheVariants.{Done}
 use Rattle.lisp_nonces.specs.declared.pair.Pair.{Pair}
 use Rattle.lisp_nonces.specs.Kept.{kept_at, KeepsSome}
 use Rattle.lisp_nonces.specs.Store.{StoreState}
 use Rattle.lisp_nonces.proofs.Kept.{kept_at-empty}
 use Rattle.lisp_lookup.specs.Table.{row_at, if_alive, IsHeld}
+use Rattle.lisp_model.proofs.ListLemmas.{in_tail}
 use Rattle.lisp_model.proofs.Locality.{other_number}
+use Rattle.lisp_turns.specs.declared.order.Order.TheVariants as orders
 use Rattle.lisp_refinement.specs.Calls.{config_of, database_of}
 use Rattle.lisp_refinement.specs.World.{ServerNodeState, RouterNodeState}
 use Rattle.lisp_nodes.specs.Cores.{first_used}
@@ -22,7 +25,7 @@ use Rattle.lisp_turns.specs.Acts.{TurnAct}
 use Rattle.lisp_turns.specs.Beginning.{Begins}
 use Rattle.lisp_turns.specs.Due.{IsDuty, IsRefused}
 use Rattle.lisp_turns.specs.Node.{NodeState, Server, Router}
-use Rattle.lisp_turns.specs.Outside.{Call}
+use Rattle.lisp_turns.specs.Outside.{Call, Listens}
 use Rattle.lisp_turns.specs.Turn.{TurnState, IsTurn}
 use Rattle.lisp_deployment.specs.Deployment.{DeploymentState, node_count, calls_in, sent_by, TakesTurn, IsAmong}
 use Rattle.lisp_deployment.specs.Lives.{Survives, IsCut, BeginsLife, EndsAsConfigured}
@@ -33,7 +36,7 @@ use Rattle.lisp_deployment.specs.Printed.{all_lines, accepted_nonces}
 use Rattle.lisp_model.specs.declared.event.Event.TheVariants as events
 use Rattle.lisp_model.specs.declared.line.Line.TheVariants as lines
 use Rattle.lisp_records.specs.declared.address.Addr.TheVariants.{V4}
-use Rattle.lisp_turns.specs.Act.{line_act, numbered}
+use Rattle.lisp_turns.specs.Act.{ActValue, line_act, numbered}
 use Rattle.lisp_turns.specs.Part.{lines_of}
 use Rattle.std.specs.Prelude.{Result}
 use Rattle.lisp_records.specs.declared.address.Addr.{Addr}
@@ -46,8 +49,8 @@ use Rattle.lisp_model.specs.Keys.{KnowsKey}
 use Rattle.lisp_model.specs.Network.{IsNetwork}
 use Rattle.lisp_model.specs.Trace.{Step, Opening, address_at, etr_config_of, router_at, secret_at, is_server}
 use Rattle.lisp_refinement.specs.World.{DatagramValue}
-use Rattle.lisp_deployment.specs.Lives.{arrived_in}
-use Rattle.lisp_deployment.specs.Received.{received_in, MayHold, IsUnforged, ReceivesUnforged}
+use Rattle.lisp_deployment.specs.Lives.{arrived_in, sites_taken}
+use Rattle.lisp_deployment.specs.Received.{received_in, sites_told, MayHold, IsUnforged, ReceivesUnforged}
 use Rattle.lisp_deployment.specs.Told.{Holds, AnswersShowHeld, RowWasSent, HeldRowsWereSent, CountedLinesWereAccepted}
 
 -- a live row isn't dropped, and a dead one may stay
@@ -211,20 +214,37 @@ here = V4 (1 ∷ [])
 abbrev there : Addr
 there = V4 (2 ∷ [])
 
-moved : (config : ConfigValue) (number : ℕ) (bytes secret : List ℕ) (message : MessageValue) → address_at config number ≡ there → message_at bytes ≡ Ok message → MayHold config number secret → is_authentic bytes secret ≡ true
-    → IsUnforged config (record { from = here; to = here; bytes = bytes } ∷ []) number (here, bytes) → ⊥
-moved config number bytes secret message address reads holds authentic (inl (zero, within, is)) = (let differs : V4 (1 ∷ []) ≡ V4 (2 ∷ []) = ap (λ (x : DatagramValue). x.to) is ∙ address in absurd cc)
-moved config number bytes secret message address reads holds authentic (inl (suc i, within, is)) = omega (arith, within)
-moved config number bytes secret message address reads holds authentic (inr (inl noise)) = (let clash : ◌≡◌ {A = Result MessageValue ReadFault} (Err noise.0) (Ok message) = sym noise.1 ∙ reads in absurd cc)
-moved config number bytes secret message address reads holds authentic (inr (inr forged)) = absurd (true≢false (sym authentic ∙ forged secret holds))
+moved : (config : ConfigValue) (given : List (List SiteValue)) (number : ℕ) (bytes secret : List ℕ) (message : MessageValue) → address_at config number ≡ there → message_at bytes ≡ Ok message → MayHold config given number secret → is_authentic bytes secret ≡ true
+    → IsUnforged config given (record { from = here; to = here; bytes = bytes } ∷ []) number (here, bytes) → ⊥
+moved config given number bytes secret message address reads holds authentic (inl (zero, within, is)) = (let differs : V4 (1 ∷ []) ≡ V4 (2 ∷ []) = ap (λ (x : DatagramValue). x.to) is ∙ address in absurd cc)
+moved config given number bytes secret message address reads holds authentic (inl (suc i, within, is)) = omega (arith, within)
+moved config given number bytes secret message address reads holds authentic (inr (inl noise)) = (let clash : ◌≡◌ {A = Result MessageValue ReadFault} (Err noise.0) (Ok message) = sym noise.1 ∙ reads in absurd cc)
+moved config given number bytes secret message address reads holds authentic (inr (inr forged)) = absurd (true≢false (sym authentic ∙ forged secret holds))
 
 -- a router may be under each key of its site, and hold its secret; it doesn't hold those of other sites
-under_another : (config : ConfigValue) (number key : ℕ) → KnowsKey config number key → is_server config number ≡ false → MayHold config number (secret_at config.sites (router_at config number).me.site key)
-under_another config number key known router = inr (router, key, inr known, refl)
+module _ (config : ConfigValue) (given : List (List SiteValue)) (number : ℕ) where
+  under_another : (key : ℕ) → KnowsKey config number key → is_server config number ≡ false → MayHold config given number (secret_at config.sites (router_at config number).me.site key)
+  under_another key known router = inr (router, key, inr known, refl)
 
-other_secret : (config : ConfigValue) (number : ℕ) (secret : List ℕ) → is_server config number ≡ false → ((key : ℕ) → secret ≢ secret_at config.sites (router_at config number).me.site key) → MayHold config number secret → ⊥
-other_secret config number secret router differs (inl (server, has)) = absurd (true≢false (sym server ∙ router))
-other_secret config number secret router differs (inr (kind, key, under, is)) = differs key is
+  other_secret : (secret : List ℕ) → is_server config number ≡ false → ((key : ℕ) → secret ≢ secret_at config.sites (router_at config number).me.site key) → MayHold config given number secret → ⊥
+  other_secret secret router differs (inl (server, sites, given_is, has)) = absurd (true≢false (sym server ∙ router))
+  other_secret secret router differs (inr (kind, key, under, is)) = differs key is
+
+  -- a Map-Server may hold those of sites that were given, and of no others
+  given_secret : (sites : List SiteValue) (secret : List ℕ) → is_server config number ≡ true → Contains given sites → Contains (flat_map (λ s. map (λ k. k.secret) s.keys) sites) secret → MayHold config given number secret
+  given_secret sites secret server given_is has = inl (server, sites, in_tail config.sites given sites given_is, has)
+
+not_given : (config : ConfigValue) (number : ℕ) (secret : List ℕ) → is_server config number ≡ true → (Contains (flat_map (λ s. map (λ k. k.secret) s.keys) config.sites) secret → ⊥) → MayHold config [] number secret → ⊥
+not_given config number secret server lacks (inl (kind, sites, (zero, low, is), has)) = lacks (subst (λ (l : List SiteValue). Contains (flat_map (λ s. map (λ k. k.secret) s.keys) l) secret) (sym is) has)
+not_given config number secret server lacks (inl (kind, sites, (suc i, low, is), has)) = omega (arith, low)
+not_given config number secret server lacks (inr (router, key, under, is)) = absurd (true≢false (sym server ∙ router))
+
+-- sites that a Map-Server is told to take are given, and so are those that it took before a crash
+told_once : (sites : List SiteValue) → sites_told (Listens (Some (orders.Reload sites)) ∷ Listens None ∷ []) ≡ sites ∷ []
+told_once sites = refl
+
+taken_once : (sites : List SiteValue) (act : ActValue) → sites_taken (record { event = events.Reload 0 sites; act = act; told = false; taken = false } ∷ []) ≡ sites ∷ []
+taken_once sites act = refl
 
 -- what a crash cut off was received, too
 module _ (A : Type 0) (config : ConfigValue) (number : ℕ) (old new : DeploymentState) (begins : DoesDeed A config (Life number []) old new) (cut_off : begins.life.untold ≡ heard ∷ []) where

@@ -13,6 +13,7 @@ pub mod Printed
 pub mod Killed
 pub mod Adding
 pub mod Holding
+pub mod Giving
 pub mod Standing
 pub mod Posting
 pub mod Replying

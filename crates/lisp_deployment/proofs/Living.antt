@@ -1,6 +1,6 @@
 -- A node's life ends, perhaps in a turn, and its next one begins: the deployment goes on to be a network.
 use Rattle.std.proofs.Common.{Ok, ◌≡◌, ◌⊎◌, inl, inr, Bool, true, false, true≢false, ℕ, ◌+◌, ◌-◌, ◌<◌, ◌≤◌, List, [], ◌∷◌, ◌++◌, length, length-set, map, reverse, Option, Some, None, refl, sym, ap, subst, ◌∙◌, append-nil, arith}
-use Rattle.std.specs.Prelude.{◌≢◌, ◌==◌, slice_get, slice_set}
+use Rattle.std.specs.Prelude.{◌≢◌, ◌==◌, if◌then◌else◌, slice_get, slice_set}
 use Rattle.std.specs.List.{AllByRecursion}
 use Rattle.std.proofs.lemmas.Bool.Decides.{Decides-eqb}
 use Rattle.std.proofs.lemmas.List.{append_assoc}
@@ -8,17 +8,22 @@ use Rattle.std.proofs.lemmas.Option.{slice_get_within, get_or_from_slice_get}
 use Rattle.lisp_records.specs.declared.address.Addr.{Addr}
 use Rattle.lisp_records.specs.Moment.{max_moment}
 use Rattle.lisp_policy.specs.Configuration.{ConfigValue, RouterEntryValue}
+use Rattle.lisp_policy.specs.Extends.{extends}
+use Rattle.lisp_policy.specs.Site.{SiteValue}
 use Rattle.lisp_nonces.specs.Store.{StoreState}
+use Rattle.lisp_server.specs.Server.{ServerState, empty_server, reloaded}
 use Rattle.lisp_model.specs.declared.event.Event.TheVariants as events
+use Rattle.lisp_model.specs.declared.line.Line.{Line}
 use Rattle.lisp_model.specs.declared.line.Line.TheVariants as lines
 use Rattle.lisp_model.specs.Trace.{EventValue, router_at, etr_config_of, ShownStore, Step, Opening, address_at}
 use Rattle.lisp_refinement.specs.World.{ServerNodeState, RouterNodeState, DatagramValue, WorldState}
 use Rattle.lisp_refinement.specs.Calls.{CoreAnswersStartOver, config_of, database_of}
-use Rattle.lisp_refinement.specs.Events.{address_of}
+use Rattle.lisp_refinement.specs.Events.{address_of, reload_line, NetworkReloads}
 use Rattle.lisp_refinement.specs.Reopening.{StoreReopens, ServerReopens, RouterReopens}
 use Rattle.lisp_refinement.specs.Nodes.{fresh_server}
 use Rattle.lisp_refinement.specs.Stands.{StandsForRouter, Stands, StandsAfter}
 use Rattle.lisp_refinement.proofs.Acting.{address_is}
+use Rattle.lisp_refinement.proofs.Reloading.{reload_stands}
 use Rattle.lisp_refinement.proofs.Restarting.{reopen_server_stands, reopen_router_stands}
 use Rattle.lisp_etr.specs.Config.{EtrConfigValue}
 use Rattle.lisp_records.specs.Record.{MapRecordValue}
@@ -37,10 +42,12 @@ use Rattle.lisp_turns.proofs.OwnActs.{heard_own, taken_own, taken_did}
 use Rattle.lisp_turns.proofs.Reaching.{Reaches, goes_further}
 use Rattle.lisp_turns.proofs.Ticking.{tick_reaches}
 use Rattle.lisp_deployment.specs.Deployment.{DeploymentState, node_count, sent_by, IsAmong, DeploymentStands}
-use Rattle.lisp_deployment.specs.Lives.{store_of, BeginsLife, IsAsConfigured, EndsAsConfigured, arrived_in, IsLife, LifeGoesOn, LostTurnsAreCuts, LivesStand}
+use Rattle.lisp_deployment.specs.Lives.{store_of, BeginsLife, IsAsConfigured, EndsAsConfigured, arrived_in, sites_taken, TakesOneOf, TakesAgain, IsLife, LifeGoesOn, LostTurnsAreCuts, LivesStand}
 use Rattle.lisp_refinement.proofs.Passing.{passing_stands, idling_passes}
 use Rattle.lisp_deployment.proofs.OthersStand.{others_kept, others_stand, has_it, has_others}
 use Rattle.lisp_deployment.proofs.Deploying.{among_more, kept_clock, kept_bag}
+use Rattle.lisp_deployment.proofs.Giving.{acts_take}
+use Rattle.lisp_model.proofs.ListLemmas.{at_head, in_tail}
 
 -- what is among a list is among a longer one
 among_wider : {X : Type 0} (xs ys zs : List X) → IsAmong xs ys → IsAmong xs (ys ++ zs)
@@ -121,6 +128,34 @@ own_told : (number : ℕ) (acts : List TurnAct) → AllByRecursion (λ a. IsOwn 
 own_told number [] own told = tt
 own_told number (a ∷ earlier) own told = ((own.0, told.0), own_told number earlier own.1 told.1)
 
+-- whichever their events are, if each is told
+still_all : (P : EventValue → Type 0) (acts : List TurnAct) → AllByRecursion (λ a. P a.event) acts → AllByRecursion (λ a. P a.event) (all_told acts)
+still_all P [] all = tt
+still_all P (a ∷ earlier) all = (all.0, still_all P earlier all.1)
+
+-- a Map-Server that takes the sites of its configuration again: so it acts, nothing arrives, and it has these
+own_again : (config : ConfigValue) (number : ℕ) (steps : List Step) → TakesAgain config number steps → AllByRecursion (λ s. IsOwn number s.event) steps
+own_again config number [] again = tt
+own_again config number (s ∷ steps) again = (subst (λ (e : EventValue). IsOwn number e) (sym again.0) refl, own_again config number steps again.1)
+
+none_again : (config : ConfigValue) (number : ℕ) (steps : List Step) → TakesAgain config number steps → arrivals steps ≡ []
+none_again config number [] again = refl
+none_again config number (s ∷ steps) again = (λ i. arrival (again.0 i) ++ none_again config number steps again.1 i)
+
+its_own_again : (config : ConfigValue) (number : ℕ) (given : List (List SiteValue)) (steps : List Step) → TakesAgain config number steps → AllByRecursion (λ s. TakesOneOf (config.sites ∷ given) s.event) steps
+its_own_again config number given [] again = tt
+its_own_again config number given (s ∷ steps) again = (
+  subst (λ (e : EventValue). TakesOneOf (config.sites ∷ given) e) (sym again.0) (at_head config.sites given),
+  its_own_again config number given steps again.1,
+)
+
+reloaded_sites : (old : ServerState) (new : List SiteValue) → (reloaded old new).sites ≡ new
+reloaded_sites old new = by (extends old.sites new)
+  where
+    by : (b : Bool) → (if b then record old { sites = new } else empty_server new).sites ≡ new
+    by true = refl
+    by false = refl
+
 -- a turn that is lost
 only_own : (number : ℕ) (acts : List TurnAct) → AreOwn number acts → AllByRecursion (λ a. IsOwn number a.event) acts
 only_own number [] own = tt
@@ -168,12 +203,13 @@ module _ (w : WorldState) (now : ℕ) (o : Opening) (T : List Step) (stand : Sta
   still_has number (Server n) has = has
   still_has number (Router n) has = has
 
-  idle_reaches : (number : ℕ) (node : NodeState) → HasNode w number node → Reaches number [] [] [] node now w o T
-  idle_reaches number node has = record {
+  idle_reaches : (Allows : EventValue → Type 0) → ((ms : ℕ) → Allows (events.Tick ms)) → (number : ℕ) (node : NodeState) → HasNode w number node → Reaches Allows number [] [] [] node now w o T
+  idle_reaches Allows tick number node has = record {
     steps = idle_step ∷ [];
     left = idled;
     stands = idle_stands;
     own = (tt, tt);
+    allowed = (tick ms, tt);
     are_printed = inl (tt, refl);
     bag = sym (append-nil w.bag);
     heard = refl;
@@ -189,9 +225,19 @@ pub record LifeIsTold (config : ConfigValue) (number : ℕ) (untold told : List 
   pub bag : left.bag ≡ w.bag ++ sent_by config number (acts_calls told)
 
 module _ (A : Type 0) (config : ConfigValue) (number : ℕ) (told : List TurnAct) (old new : DeploymentState) (life : BeginsLife A config number told old new) (w : WorldState) (o : Opening) (T : List Step) (stand : DeploymentStands config old w o T) where
+  -- the sites that it took in its acts
+  abbrev taken : List (List SiteValue)
+  taken = sites_taken (life.untold ++ told)
+
+  abbrev Takes : EventValue → Type 0
+  Takes event = TakesOneOf (config.sites ∷ taken) event
+
+  all_take : AllByRecursion (λ a. Takes a.event) (life.untold ++ told)
+  all_take = acts_take (config.sites ∷ taken) (life.untold ++ told) (in_tail config.sites taken)
+
   -- what it did until it ended
   abbrev Ended : NodeState → Type 0
-  Ended node = Reaches number [] [] [] node life.ended w o T
+  Ended node = Reaches Takes number [] [] [] node life.ended w o T
 
   ended_bound : life.ended ≤ max_moment
   ended_bound = omega (arith, life.later.1, life.bound)
@@ -203,16 +249,16 @@ module _ (A : Type 0) (config : ConfigValue) (number : ℕ) (told : List TurnAct
   passed = by life.cut.passes
     where
       by : Passes (old.nodes number).node life.cut.passed life.ended ⊎ (life.cut.passed ≡ (old.nodes number).node) → Ended life.cut.passed
-      by (inl passes) = tick_reaches A number (old.nodes number).node life.cut.passed life.ended w o T stand.stands (stand.nodes number life.known) begins_early ended_bound passes
-      by (inr same) = subst Ended (sym same) (idle_reaches w life.ended o T stand.stands begins_early ended_bound number (old.nodes number).node (stand.nodes number life.known))
+      by (inl passes) = tick_reaches A Takes (λ ms. tt) number (old.nodes number).node life.cut.passed life.ended w o T stand.stands (stand.nodes number life.known) begins_early ended_bound passes
+      by (inr same) = subst Ended (sym same) (idle_reaches w life.ended o T stand.stands begins_early ended_bound Takes (λ ms. tt) number (old.nodes number).node (stand.nodes number life.known))
 
   split : (between : NodeState) × DoesAll A config number life.cut.passed between life.ended told × DoesAll A config number between life.last life.ended life.untold
   split = split_did A config number life.cut.passed life.last life.ended life.untold told life.cut.did
 
   -- what was told
-  until_told : Reaches number (lines_of (acts_calls told) ++ []) (sent_of (acts_calls told) ++ []) (arrived told ++ []) split.0 life.ended w o T
-  until_told = goes_further number [] (lines_of (acts_calls told)) [] (sent_of (acts_calls told)) [] (arrived told) life.cut.passed split.0 life.ended life.ended w o T stand.stands passed
-      (acts_reach A config number life.cut.passed split.0 life.ended told split.1 (own_told number told (all_earlier (λ a. IsOwn number a.event) life.untold told life.cut.own) life.cut.are_told)
+  until_told : Reaches Takes number (lines_of (acts_calls told) ++ []) (sent_of (acts_calls told) ++ []) (arrived told ++ []) split.0 life.ended w o T
+  until_told = goes_further Takes number [] (lines_of (acts_calls told)) [] (sent_of (acts_calls told)) [] (arrived told) life.cut.passed split.0 life.ended life.ended w o T stand.stands passed
+      (acts_reach A Takes config number life.cut.passed split.0 life.ended told split.1 (own_told number told (all_earlier (λ a. IsOwn number a.event) life.untold told life.cut.own) life.cut.are_told) (all_earlier (λ a. Takes a.event) life.untold told all_take)
       passed.left o (passed.steps ++ T) passed.stands stand.config_is passed.node_is passed.clock)
 
   abbrev first : List Step
@@ -232,9 +278,9 @@ module _ (A : Type 0) (config : ConfigValue) (number : ℕ) (told : List TurnAct
   told_others = has_others w until_told.left o T until_told.steps stand.stands until_told.stands number until_told.own split.0 until_told.node_is
 
   -- and what wasn't
-  untold_reaches : Reaches number (lines_of (acts_calls (all_told life.untold))) (sent_of (acts_calls (all_told life.untold))) (arrived (all_told life.untold)) life.last life.ended at_told o first
-  untold_reaches = acts_reach A config number split.0 life.last life.ended (all_told life.untold) (told_did A config number split.0 life.last life.ended life.untold split.2)
-      (told_own number life.untold (all_later (λ a. IsOwn number a.event) life.untold told life.cut.own)) at_told o first told_stands stand.config_is told_has (kept_clock w until_told.left number split.0 ∙ until_told.clock)
+  untold_reaches : Reaches Takes number (lines_of (acts_calls (all_told life.untold))) (sent_of (acts_calls (all_told life.untold))) (arrived (all_told life.untold)) life.last life.ended at_told o first
+  untold_reaches = acts_reach A Takes config number split.0 life.last life.ended (all_told life.untold) (told_did A config number split.0 life.last life.ended life.untold split.2)
+      (told_own number life.untold (all_later (λ a. IsOwn number a.event) life.untold told life.cut.own)) (still_all Takes life.untold (all_later (λ a. Takes a.event) life.untold told all_take)) at_told o first told_stands stand.config_is told_has (kept_clock w until_told.left number split.0 ∙ until_told.clock)
 
   abbrev until_end : List Step
   until_end = untold_reaches.steps ++ first
@@ -294,8 +340,8 @@ module _ (A : Type 0) (config : ConfigValue) (number : ℕ) (told : List TurnAct
   abbrev Goes : Type 0
   Goes = LifeIsTold config number life.untold told new w o T
 
-  module _ (left : WorldState) (s : Step) (event_is : s.event ≡ events.Restart number 0 None) (line_is : s.line ≡ lines.Restarted number) (stands : Stands left o (s ∷ until_start)) (bag : left.bag ≡ at_start.bag ++ [])
-      (clock : left.clock ≡ at_start.clock) (has : HasNode left number (new.nodes number).node) (others : (k : ℕ) (other : NodeState) → k ≢ number → HasNode at_end k other → HasNode left k other) where
+  module _ (left : WorldState) (s : Step) (again : List Step) (takes_again : TakesAgain config number again) (event_is : s.event ≡ events.Restart number 0 None) (line_is : s.line ≡ lines.Restarted number) (stands : Stands left o (s ∷ again ++ until_start))
+      (bag : left.bag ≡ at_start.bag ++ []) (clock : left.clock ≡ at_start.clock) (has : HasNode left number (new.nodes number).node) (others : (k : ℕ) (other : NodeState) → k ≢ number → HasNode at_end k other → HasNode left k other) where
     nodes_are : (k : ℕ) → k < node_count config → HasNode left k (new.nodes k).node
     nodes_are k known = by (k == number) refl
       where
@@ -311,34 +357,61 @@ module _ (A : Type 0) (config : ConfigValue) (number : ℕ) (told : List TurnAct
         (among_wider (old.sent ++ sent_by config number (acts_calls told)) (w.bag ++ sent_by config number (acts_calls told)) more
         (among_more old.sent w.bag (sent_by config number (acts_calls told)) stand.sent))
 
-    life_steps : IsLife number told (s ∷ waits ∷ untold_reaches.steps ++ until_told.steps)
+    -- its steps: those that were told, and then the others
+    abbrev rest : List Step
+    rest = waits ∷ untold_reaches.steps
+
+    abbrev untold : List Step
+    untold = again ++ rest
+
+    abbrev all_steps : List Step
+    all_steps = s ∷ untold ++ until_told.steps
+
+    life_steps : IsLife number told all_steps
     life_steps = record {
       first = until_told.steps;
       printed = subst (ArePrinted until_told.steps) (append-nil (lines_of (acts_calls told))) until_told.are_printed;
-      untold = waits ∷ untold_reaches.steps;
-      own = (tt, all_of_both (λ x. IsOwn number x.event) untold_reaches.steps until_told.steps untold_reaches.own until_told.own);
+      untold = untold;
+      own = all_of_both (λ x. IsOwn number x.event) untold until_told.steps (all_of_both (λ x. IsOwn number x.event) again rest (own_again config number again takes_again) (tt, untold_reaches.own)) until_told.own;
       restart = s;
       event = event_is;
       line = line_is;
       is = refl;
     }
 
-    what_arrived : arrivals (s ∷ waits ∷ untold_reaches.steps ++ until_told.steps) ≡ arrived_in (life.untold ++ told)
-    what_arrived = (λ i. arrival (event_is i) ++ arrivals (untold_reaches.steps ++ until_told.steps)) ∙ arrivals_both untold_reaches.steps until_told.steps
-        ∙ (λ i. untold_reaches.heard i ++ (until_told.heard ∙ append-nil (arrived told)) i)
+    untold_arrived : arrivals untold ≡ arrived (all_told life.untold)
+    untold_arrived = arrivals_both again rest ∙ ap (λ (l : List (Addr × List ℕ)). l ++ arrivals rest) (none_again config number again takes_again) ∙ untold_reaches.heard
+
+    what_arrived : arrivals all_steps ≡ arrived_in (life.untold ++ told)
+    what_arrived = (λ i. arrival (event_is i) ++ arrivals (untold ++ until_told.steps)) ∙ arrivals_both untold until_told.steps
+        ∙ (λ i. untold_arrived i ++ (until_told.heard ∙ append-nil (arrived told)) i)
         ∙ (λ i. same_arrived life.untold i ++ arrived_is told i) ∙ sym (arrived_both life.untold told)
+
+    what_it_takes : AllByRecursion (λ x. Takes x.event) all_steps
+    what_it_takes = (
+      subst Takes (sym event_is) tt,
+      all_of_both (λ x. Takes x.event) untold until_told.steps (all_of_both (λ x. Takes x.event) again rest (its_own_again config number taken again takes_again) (tt, untold_reaches.allowed)) until_told.allowed,
+    )
+
+    regrouped : (untold ++ until_told.steps) ++ T ≡ again ++ until_start
+    regrouped = append_assoc untold until_told.steps T ∙ append_assoc again rest first
 
     goes_on : Goes
     unfolding life_steps
     goes_on = record {
       goes = record {
-        steps = s ∷ waits ∷ untold_reaches.steps ++ until_told.steps;
+        steps = all_steps;
         left = left;
         life = life_steps;
         heard = what_arrived;
+        again = again;
+        rest = rest;
+        parts = refl;
+        takes_again = takes_again;
         swallowed = inl (tt, subst (ArePrinted untold_reaches.steps) (all_told_lines life.untold) untold_reaches.are_printed);
+        takes = what_it_takes;
         stands = record {
-          stands = subst (λ (l : List Step). Stands left o (s ∷ waits ∷ l)) (sym (append_assoc untold_reaches.steps until_told.steps T)) stands;
+          stands = subst (λ (l : List Step). Stands left o (s ∷ l)) (sym regrouped) stands;
           config_is = stand.config_is;
           nodes = nodes_are;
           clock = clock ∙ start_moment;
@@ -358,32 +431,57 @@ module _ (A : Type 0) (config : ConfigValue) (number : ℕ) (told : List TurnAct
     begins : Begins config number life.store new.moment (Server begun)
     begins = subst (λ (n : NodeState). Begins config number life.store new.moment n) begun_is life.begins
 
-    sites : last.core.sites ≡ config.sites
-    sites = (start_stands.servers number last was).sites ∙ ap (λ (c : ConfigValue). c.sites) stand.config_is
+    -- it takes the sites of its configuration again
+    abbrev taking : ServerNodeState
+    taking = record { core = reloaded last.core config.sites; store = last.store; started = if extends last.core.sites config.sites then last.started else at_start.clock }
 
+    abbrev at_taking : WorldState
+    at_taking = record at_start { bag = at_start.bag ++ []; servers = slice_set at_start.servers number taking }
+
+    abbrev taking_line : Line
+    taking_line = reload_line number (extends last.core.sites config.sites) (length config.sites)
+
+    takes : NetworkReloads at_start at_taking number config.sites taking_line
+    takes = record {
+      acts = record { before = last; after = taking; was = was; left = refl };
+      reloads = record { core = refl; store = refl; started = refl };
+      said = refl;
+    }
+
+    abbrev took : (actor : ℕ) × (s : ShownStore) × Stands at_taking o (record { event = events.Reload number config.sites; line = taking_line; actor = actor; shown = s } ∷ until_start)
+    took = reload_stands at_start at_taking number config.sites taking_line takes o until_start start_stands
+
+    abbrev taking_step : Step
+    taking_step = record { event = events.Reload number config.sites; line = taking_line; actor = took.0; shown = took.1 }
+
+    has_taken : slice_get at_taking.servers number ≡ Some taking
+    has_taken = get_set_there at_start.servers number taking (slice_get_within at_start.servers number last was)
+
+    -- and begins anew
     abbrev with_server : WorldState
-    with_server = record at_start { bag = at_start.bag ++ []; servers = slice_set at_start.servers number begun }
+    with_server = record at_taking { bag = at_taking.bag ++ []; servers = slice_set at_taking.servers number begun }
 
-    server_restarts : ServerReopens at_start with_server number 0 (lines.Restarted number)
+    server_restarts : ServerReopens at_taking with_server number 0 (lines.Restarted number)
     server_restarts = record {
-      acts = record { before = last; after = begun; was = was; left = refl };
-      core = ap (λ (n : ServerNodeState). n.core) begins.1 ∙ ap fresh_server (sym sites);
+      acts = record { before = taking; after = begun; was = has_taken; left = refl };
+      core = ap (λ (n : ServerNodeState). n.core) begins.1 ∙ ap fresh_server (sym (reloaded_sites last.core config.sites));
       reopens = subst (λ (p : StoreState × StoreState). StoreReopens p.0 p.1 0) {x = (store_of life.last, life.store)} {y = (last.store, begun.store)}
           (λ i. (store_of (last_is i), sym (ap (λ (n : ServerNodeState). n.store) begins.1) i)) reopens;
       started = ap (λ (n : ServerNodeState). n.started) begins.1 ∙ sym start_moment;
       said = refl;
     }
 
-    abbrev server_restarted : (actor : ℕ) × (s : ShownStore) × Stands with_server o (record { event = events.Restart number 0 None; line = lines.Restarted number; actor = actor; shown = s } ∷ until_start)
-    server_restarted = reopen_server_stands at_start with_server number 0 (lines.Restarted number) server_restarts o until_start start_stands
+    abbrev server_restarted : (actor : ℕ) × (s : ShownStore) × Stands with_server o (record { event = events.Restart number 0 None; line = lines.Restarted number; actor = actor; shown = s } ∷ taking_step ∷ until_start)
+    server_restarted = reopen_server_stands at_taking with_server number 0 (lines.Restarted number) server_restarts o (taking_step ∷ until_start) took.2
 
     beside_server : (k : ℕ) (other : NodeState) → k ≢ number → HasNode at_end k other → HasNode with_server k other
-    beside_server k (Server m) differs there = get_set_other at_end.servers number k begun m differs there
-    beside_server k (Router m) differs (place, number_is, there) = (place, number_is ∙ ap (λ l. l + place) (sym (length-set at_end.servers number begun)), there)
+    beside_server k (Server m) differs there = get_set_other at_taking.servers number k begun m differs (get_set_other at_end.servers number k taking m differs there)
+    beside_server k (Router m) differs (place, number_is, there) =
+        (place, number_is ∙ ap (λ l. l + place) (sym (length-set at_taking.servers number begun ∙ length-set at_end.servers number taking)), there)
 
     server_goes_on : Goes
-    server_goes_on = goes_on with_server (record { event = events.Restart number 0 None; line = lines.Restarted number; actor = server_restarted.0; shown = server_restarted.1 }) refl refl server_restarted.2 refl refl
-        (subst (λ (n : NodeState). HasNode with_server number n) (sym begun_is) (get_set_there at_start.servers number begun (slice_get_within at_start.servers number last was))) beside_server
+    server_goes_on = goes_on with_server (record { event = events.Restart number 0 None; line = lines.Restarted number; actor = server_restarted.0; shown = server_restarted.1 }) (taking_step ∷ []) (refl, tt) refl refl server_restarted.2
+        (append-nil (at_start.bag ++ [])) refl (subst (λ (n : NodeState). HasNode with_server number n) (sym begun_is) (get_set_there at_taking.servers number begun (slice_get_within at_taking.servers number taking has_taken))) beside_server
 
   -- of a router that keeps its key and its database
   module _ (last begun : RouterNodeState) (last_is : life.last ≡ Router last) (begun_is : (new.nodes number).node ≡ Router begun) (configured : IsAsConfigured config number last)
@@ -433,7 +531,7 @@ module _ (A : Type 0) (config : ConfigValue) (number : ℕ) (told : List TurnAct
     beside_router k (Router m) differs (at, k_is, has) = (at, k_is, get_set_other at_end.routers place at begun m (λ same. differs (omega (arith, same, k_is, number_is))) has)
 
     router_goes_on : Goes
-    router_goes_on = goes_on with_router (record { event = events.Restart number 0 None; line = lines.Restarted number; actor = router_restarted.0; shown = router_restarted.1 }) refl refl router_restarted.2 refl refl
+    router_goes_on = goes_on with_router (record { event = events.Restart number 0 None; line = lines.Restarted number; actor = router_restarted.0; shown = router_restarted.1 }) [] tt refl refl router_restarted.2 refl refl
         (subst (λ (n : NodeState). HasNode with_router number n) (sym begun_is) (place, number_is, get_set_there at_start.routers place begun (slice_get_within at_start.routers place last was))) beside_router
 
   -- of either kind

@@ -42,12 +42,15 @@ own_actor t number (events.Change router db) (lines.Down named) own row = inl (r
 own_actor t number (events.Rotate router key Done) (lines.Rotated named under) own row = inl (row.acts.acts ∙ own)
 own_actor t number (events.Rotate router key Done) (lines.Down named) own row = inl (row.1.acts.acts ∙ own)
 own_actor t number (events.Rotate router key Done) (lines.Refused named (refusals.Rotate why)) own row = inl (row.1.acts ∙ own)
+own_actor t number (events.Reload server new) (lines.Reloaded named count) own row = inl (row.acts.acts ∙ own)
+own_actor t number (events.Reload server new) (lines.Renewed named count) own row = inl (row.acts.acts ∙ own)
 own_actor t number (events.Tick ms) _ own row = absurd row
 own_actor t number (events.Send router server part Done) _ own row = absurd row
 own_actor t number (events.Resend server router) _ own row = absurd row
 own_actor t number (events.Notice server router Done) _ own row = absurd row
 own_actor t number (events.Change router db) _ own row = absurd row
 own_actor t number (events.Rotate router key Done) _ own row = absurd row
+own_actor t number (events.Reload server new) _ own row = absurd row
 own_actor t number _ _ own row = absurd own
 
 -- a Map-Server, with its store; and a router

@@ -14,7 +14,7 @@ use Rattle.lisp_records.specs.Router.{router_eq}
 use Rattle.lisp_model.specs.declared.event.Event.TheVariants as events
 use Rattle.lisp_model.specs.declared.line.Line.{Line}
 use Rattle.lisp_model.specs.declared.line.Line.TheVariants as lines
-use Rattle.lisp_model.specs.Trace.{EventValue, Step, Opening, addresses, router_at, key as key_of, etr_config, etr_config_of, database, clock, is_server}
+use Rattle.lisp_model.specs.Trace.{EventValue, Step, Opening, addresses, router_at, key as key_of, etr_config, etr_config_of, sites, database, clock, is_server}
 use Rattle.lisp_model.specs.Bag.{Item, Arrival, arrival_in, as_notify, acceptances_in, register_item, reply_item, notice_item, ack_item, items_added, past, bag, since_start}
 use Rattle.lisp_model.specs.Clean.{Clean}
 use Rattle.lisp_model.specs.Context.{Context}
@@ -110,7 +110,7 @@ module _ (o : Opening) (T : List Step) (distinct : AllPairs (λ a b. a ≢ b) (a
             }
         by (inr none) = absurd (in_none i none)
     posted (lines.Accepted server router key nonce (Some datagram)) row i has m says =
-        let found = from_map (reply_item o.config server) (acceptances_in (arrival_in (bag o T) s.event) (clock T)) i has in absurd (says_other (sym (ap (λ (x : Item). x.message) found.2) ∙ says))
+        let found = from_map (reply_item o.config (sites o T server) server) (acceptances_in (arrival_in (bag o T) s.event) (clock T)) i has in absurd (says_other (sym (ap (λ (x : Item). x.message) found.2) ∙ says))
     posted (lines.Accepted server router key nonce None) row i has m says = absurd (in_none i has)
     posted (lines.Noticed router server nonce datagram) row i has m says = by (arrival_in (bag o T) s.event) has
       where

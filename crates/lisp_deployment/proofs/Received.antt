@@ -5,6 +5,7 @@ use Rattle.std.proofs.lemmas.List.{append_assoc}
 use Rattle.std.proofs.lemmas.List.Elements.{Contains-append_left, Contains-append_right}
 use Rattle.lisp_records.specs.declared.address.Addr.{Addr}
 use Rattle.lisp_policy.specs.Configuration.{ConfigValue}
+use Rattle.lisp_policy.specs.Site.{SiteValue}
 use Rattle.lisp_model.specs.declared.event.Event.TheVariants as events
 use Rattle.lisp_model.specs.declared.line.Line.{Line}
 use Rattle.lisp_model.specs.Bag.{bag}
@@ -20,15 +21,16 @@ use Rattle.lisp_turns.specs.Outside.{Call}
 use Rattle.lisp_turns.specs.Part.{IsOwn, arrival, arrivals, datagram_from, lines_of, received_of}
 use Rattle.lisp_deployment.specs.Deeds.{Deed, Turn, Life, BeginsAgain, DoesDeed, DoDeeds, IsOf, AreOf}
 use Rattle.lisp_deployment.specs.Deployment.{DeploymentState, sent_by, TakesTurn, DeploymentStands}
-use Rattle.lisp_deployment.specs.Lives.{IsLife, arrived_in}
-use Rattle.lisp_deployment.specs.Received.{node_of, received_in, IsForgedFor, IsUnforged, ReceivesUnforged, HasCleanTrace, UnforgedDeploymentsAreClean}
+use Rattle.lisp_deployment.specs.Lives.{IsLife, arrived_in, sites_taken}
+use Rattle.lisp_deployment.specs.Received.{node_of, received_in, sites_told, given_in, given_by, IsForgedFor, IsUnforged, ReceivesUnforged, HasCleanTrace, UnforgedDeploymentsAreClean}
 use Rattle.lisp_deployment.specs.Printed.{lines_in, all_lines}
 use Rattle.lisp_deployment.specs.Opening.{DeploymentBegins, DeploymentOpens}
 use Rattle.lisp_nonces.specs.Store.{StoreState}
 use Rattle.lisp_model.specs.Network.{IsNetwork}
 use Rattle.lisp_deployment.proofs.Deploying.{turned, its_part, turn_bag, turn_stands}
 use Rattle.lisp_deployment.proofs.Adding.{got}
-use Rattle.lisp_deployment.proofs.Holding.{may_hold}
+use Rattle.lisp_deployment.proofs.Giving.{ordered_given, taken_given, more_given}
+use Rattle.lisp_deployment.proofs.Holding.{TakeGiven, may_hold}
 use Rattle.lisp_deployment.proofs.Telling.{AreAllTold, turn_tells, life_tells}
 use Rattle.lisp_deployment.proofs.Living.{lives_are_told}
 use Rattle.lisp_deployment.proofs.Opening.{first_opens}
@@ -36,16 +38,16 @@ use Rattle.lisp_deployment.proofs.Printed.{contains_among}
 use Rattle.lisp_refinement.proofs.Headlines.{networks_promise}
 
 -- something that arrives at a node does no harm after a trace
-abbrev IsHarmlessTo : Opening → List Step → ℕ → Addr × List ℕ → Type 0
-IsHarmlessTo o T number m = IsEcho (bag o T) m.0 (address_at o.config number) m.1 ⊎ (IsNoise m.1 ⊎ IsForgedFor o.config number m.1)
+abbrev IsHarmlessTo : Opening → List (List SiteValue) → List Step → ℕ → Addr × List ℕ → Type 0
+IsHarmlessTo o given T number m = IsEcho (bag o T) m.0 (address_at o.config number) m.1 ⊎ (IsNoise m.1 ⊎ IsForgedFor o.config given number m.1)
 
-module _ (o : Opening) (T : List Step) (number : ℕ) where
+module _ (o : Opening) (given : List (List SiteValue)) (T : List Step) (number : ℕ) where
   -- nor does it after more steps
-  still_harmless : (steps : List Step) (m : Addr × List ℕ) → IsHarmlessTo o T number m → IsHarmlessTo o (steps ++ T) number m
+  still_harmless : (steps : List Step) (m : Addr × List ℕ) → IsHarmlessTo o given T number m → IsHarmlessTo o given (steps ++ T) number m
   still_harmless [] m is = is
   still_harmless (s ∷ steps) m is = by (still_harmless steps m is)
     where
-      by : IsHarmlessTo o (steps ++ T) number m → IsHarmlessTo o (s ∷ steps ++ T) number m
+      by : IsHarmlessTo o given (steps ++ T) number m → IsHarmlessTo o given (s ∷ steps ++ T) number m
       by (inl echo) = inl (record { item = echo.item; sent = Contains-append_left (bag o (steps ++ T)) _ echo.item echo.sent; source = echo.source; target = echo.target; same = echo.same })
       by (inr other) = inr other
 
@@ -58,59 +60,61 @@ module _ (o : Opening) (T : List Step) (number : ℕ) where
   all_earlier P (x ∷ xs) ys all = all_earlier P xs ys all.1
 
   -- an event of the node
-  one_harmless : (steps : List Step) → LegalTrace o (steps ++ T) → (event : EventValue) → IsOwn number event → AllByRecursion (IsHarmlessTo o T number) (arrival event) → IsHarmless o (steps ++ T) event
-  one_harmless steps legal (events.Junk to from bytes) here all = subst (λ (n : ℕ). IsHarmless o (steps ++ T) (events.Junk n from bytes)) (sym here) (by (still_harmless steps (from, bytes) all.0))
+  one_harmless : (steps : List Step) → LegalTrace o (steps ++ T) → TakeGiven o given (steps ++ T) → (event : EventValue) → IsOwn number event → AllByRecursion (IsHarmlessTo o given T number) (arrival event) → IsHarmless o (steps ++ T) event
+  one_harmless steps legal take (events.Junk to from bytes) here all = subst (λ (n : ℕ). IsHarmless o (steps ++ T) (events.Junk n from bytes)) (sym here) (by (still_harmless steps (from, bytes) all.0))
     where
-      by : IsHarmlessTo o (steps ++ T) number (from, bytes) → IsHarmless o (steps ++ T) (events.Junk number from bytes)
+      by : IsHarmlessTo o given (steps ++ T) number (from, bytes) → IsHarmless o (steps ++ T) (events.Junk number from bytes)
       by (inl echo) = inl echo
       by (inr (inl noise)) = inr (inl noise)
-      by (inr (inr forged)) = inr (inr (λ secret has. forged secret (may_hold o (steps ++ T) number legal secret has)))
-  one_harmless steps legal _ own all = tt
+      by (inr (inr forged)) = inr (inr (λ secret has. forged secret (may_hold o given (steps ++ T) number legal take secret has)))
+  one_harmless steps legal take _ own all = tt
 
   -- steps of the node
-  clean_steps : (steps : List Step) → AllByRecursion (λ s. IsOwn number s.event) steps → LegalTrace o (steps ++ T) → AllByRecursion (IsHarmlessTo o T number) (arrivals steps) → Clean o T → Clean o (steps ++ T)
-  clean_steps [] own legal all clean = clean
-  clean_steps (s ∷ steps) own legal all clean = (
-    one_harmless steps legal.1 s.event own.0 (all_later (IsHarmlessTo o T number) (arrival s.event) (arrivals steps) all),
-    clean_steps steps own.1 legal.1 (all_earlier (IsHarmlessTo o T number) (arrival s.event) (arrivals steps) all) clean,
+  clean_steps : (steps : List Step) → AllByRecursion (λ s. IsOwn number s.event) steps → LegalTrace o (steps ++ T) → TakeGiven o given (steps ++ T) → AllByRecursion (IsHarmlessTo o given T number) (arrivals steps) → Clean o T → Clean o (steps ++ T)
+  clean_steps [] own legal take all clean = clean
+  clean_steps (s ∷ steps) own legal take all clean = (
+    one_harmless steps legal.1 take.1 s.event own.0 (all_later (IsHarmlessTo o given T number) (arrival s.event) (arrivals steps) all),
+    clean_steps steps own.1 legal.1 take.1 (all_earlier (IsHarmlessTo o given T number) (arrival s.event) (arrivals steps) all) clean,
   )
 
 -- what isn't forged does no harm
-module _ (config : ConfigValue) (d : DeploymentState) (w : WorldState) (o : Opening) (T : List Step) (stand : DeploymentStands config d w o T) (number : ℕ) where
+module _ (config : ConfigValue) (given : List (List SiteValue)) (d : DeploymentState) (w : WorldState) (o : Opening) (T : List Step) (stand : DeploymentStands config d w o T) (number : ℕ) where
   echoes : (datagram : DatagramValue) → Contains d.sent datagram → IsEcho (bag o T) datagram.from datagram.to datagram.bytes
   echoes datagram has =
       let there = got w.bag datagram (contains_among d.sent w.bag datagram stand.sent has) in
       let l = lies w o T stand.stands there.0 datagram there.1 in
       record { item = l.item; sent = in_get (bag o T) there.0 l.item l.sent; source = sym l.carries.from; target = sym l.carries.to; same = sym l.carries.bytes }
 
-  unforged_harmless : (m : Addr × List ℕ) → IsUnforged config d.sent number m → IsHarmlessTo o T number m
-  unforged_harmless m is = subst (λ (c : ConfigValue). IsEcho (bag o T) m.0 (address_at c number) m.1 ⊎ (IsNoise m.1 ⊎ IsForgedFor c number m.1)) (sym stand.config_is) (by is)
+  unforged_harmless : (m : Addr × List ℕ) → IsUnforged config given d.sent number m → IsHarmlessTo o given T number m
+  unforged_harmless m is = subst (λ (c : ConfigValue). IsEcho (bag o T) m.0 (address_at c number) m.1 ⊎ (IsNoise m.1 ⊎ IsForgedFor c given number m.1)) (sym stand.config_is) (by is)
     where
-      by : IsUnforged config d.sent number m → IsEcho (bag o T) m.0 (address_at config number) m.1 ⊎ (IsNoise m.1 ⊎ IsForgedFor config number m.1)
+      by : IsUnforged config given d.sent number m → IsEcho (bag o T) m.0 (address_at config number) m.1 ⊎ (IsNoise m.1 ⊎ IsForgedFor config given number m.1)
       by (inl sent) = inl (echoes (datagram_from m.0 (address_at config number, m.1)) sent)
       by (inr other) = inr other
 
-  all_harmless : (ms : List (Addr × List ℕ)) → AllByRecursion (IsUnforged config d.sent number) ms → AllByRecursion (IsHarmlessTo o T number) ms
+  all_harmless : (ms : List (Addr × List ℕ)) → AllByRecursion (IsUnforged config given d.sent number) ms → AllByRecursion (IsHarmlessTo o given T number) ms
   all_harmless [] all = tt
   all_harmless (m ∷ ms) all = (unforged_harmless m all.0, all_harmless ms all.1)
 
 -- a deployment goes on to be a network with a clean trace, by a deed
-record GoesOnCleanly (config : ConfigValue) (deed : Deed) (new : DeploymentState) (printed : List Line) (w : WorldState) (o : Opening) (T : List Step) : Type 0 where
+record GoesOnCleanly (config : ConfigValue) (given : List (List SiteValue)) (deed : Deed) (new : DeploymentState) (printed : List Line) (w : WorldState) (o : Opening) (T : List Step) : Type 0 where
   pub steps : List Step
   pub left : WorldState
   pub is_of : IsOf deed w left o T steps
   pub stands : DeploymentStands config new left o (steps ++ T)
+  pub take : TakeGiven o given (steps ++ T)
   pub clean : Clean o (steps ++ T)
   pub all_told : AreAllTold o (steps ++ T) (lines_in deed ++ printed) new.sent
 
 -- the steps of a life
-life_clean : (config : ConfigValue) (number : ℕ) (told : List TurnAct) (o : Opening) (T steps : List Step) (life : IsLife number told steps) → LegalTrace o (steps ++ T) → AllByRecursion (IsHarmlessTo o T number) (arrivals steps) → Clean o T → Clean o (steps ++ T)
-life_clean config number told o T steps life legal all clean =
+life_clean : (config : ConfigValue) (given : List (List SiteValue)) (number : ℕ) (told : List TurnAct) (o : Opening) (T steps : List Step) (life : IsLife number told steps) → LegalTrace o (steps ++ T) → TakeGiven o given (steps ++ T)
+    → AllByRecursion (IsHarmlessTo o given T number) (arrivals steps) → Clean o T → Clean o (steps ++ T)
+life_clean config given number told o T steps life legal take all clean =
     subst (λ (l : List Step). Clean o (l ++ T)) (sym life.is) (
       subst (λ (e : EventValue). IsHarmless o ((life.untold ++ life.first) ++ T) e) (sym life.event) tt,
-      clean_steps o T number (life.untold ++ life.first) life.own (subst (λ (l : List Step). LegalTrace o (l ++ T)) life.is legal).1
-          (subst (λ (e : EventValue). AllByRecursion (IsHarmlessTo o T number) (arrival e ++ arrivals (life.untold ++ life.first))) life.event
-          (subst (λ (l : List Step). AllByRecursion (IsHarmlessTo o T number) (arrivals l)) life.is all)) clean,
+      clean_steps o given T number (life.untold ++ life.first) life.own (subst (λ (l : List Step). LegalTrace o (l ++ T)) life.is legal).1 (subst (λ (l : List Step). TakeGiven o given (l ++ T)) life.is take).1
+          (subst (λ (e : EventValue). AllByRecursion (IsHarmlessTo o given T number) (arrival e ++ arrivals (life.untold ++ life.first))) life.event
+          (subst (λ (l : List Step). AllByRecursion (IsHarmlessTo o given T number) (arrivals l)) life.is all)) clean,
     )
 
 -- what arrives in the steps of a life is what arrives before its restart
@@ -118,85 +122,97 @@ before_restart : (P : Addr × List ℕ → Type 0) (number : ℕ) (told : List T
 before_restart P number told steps life all = subst (λ (e : EventValue). AllByRecursion P (arrival e ++ arrivals (life.untold ++ life.first))) life.event (subst (λ (l : List Step). AllByRecursion P (arrivals l)) life.is all)
 
 module _ (A : Type 0) (config : ConfigValue) where
-  module _ (printed : List Line) (number : ℕ) (old new : DeploymentState) (w : WorldState) (o : Opening) (T : List Step) (stand : DeploymentStands config old w o T) (clean : Clean o T) (told : AreAllTold o T printed old.sent) where
+  module _ (given : List (List SiteValue)) (printed : List Line) (number : ℕ) (old new : DeploymentState) (w : WorldState) (o : Opening) (T : List Step) (stand : DeploymentStands config old w o T) (took : TakeGiven o given T) (clean : Clean o T)
+      (told : AreAllTold o T printed old.sent) where
     -- as its network's configuration says
     abbrev ItsUnforged : Addr × List ℕ → Type 0
-    ItsUnforged m = IsUnforged o.config old.sent number m
+    ItsUnforged m = IsUnforged o.config given old.sent number m
 
-    still_unforged : (ms : List (Addr × List ℕ)) → AllByRecursion (IsUnforged config old.sent number) ms → AllByRecursion ItsUnforged ms
-    still_unforged ms all = subst (λ (c : ConfigValue). AllByRecursion (IsUnforged c old.sent number) ms) (sym stand.config_is) all
+    still_unforged : (ms : List (Addr × List ℕ)) → AllByRecursion (IsUnforged config given old.sent number) ms → AllByRecursion ItsUnforged ms
+    still_unforged ms all = subst (λ (c : ConfigValue). AllByRecursion (IsUnforged c given old.sent number) ms) (sym stand.config_is) all
 
-    one_turn : (calls : List Call) (takes : TakesTurn A config number calls old new) → AllByRecursion (IsUnforged config old.sent number) (received_of calls) → GoesOnCleanly config (Turn number calls) new printed w o T
-    one_turn calls takes unforged =
+    one_turn : (calls : List Call) (takes : TakesTurn A config number calls old new) → ((sites : List SiteValue) → Contains (sites_told calls) sites → Contains given sites)
+        → AllByRecursion (IsUnforged config given old.sent number) (received_of calls) → GoesOnCleanly config given (Turn number calls) new printed w o T
+    one_turn calls takes are_given unforged =
         let goes = turned A config number calls old new takes w o T stand in
         let part = its_part A config number calls old new takes w o T stand in
-        let clean_then = clean_steps o T number goes.steps part.own part.stands.steps.legal
-        (subst (λ (ms : List (Addr × List ℕ)). AllByRecursion (IsHarmlessTo o T number) ms) (sym part.heard) (all_harmless config old w o T stand number (received_of calls) unforged)) clean in
+        let take = ordered_given o calls given are_given goes.steps T part.ordered took in
+        let clean_then = clean_steps o given T number goes.steps part.own part.stands.steps.legal take
+        (subst (λ (ms : List (Addr × List ℕ)). AllByRecursion (IsHarmlessTo o given T number) ms) (sym part.heard) (all_harmless config given old w o T stand number (received_of calls) unforged)) clean in
         record {
           steps = goes.steps;
           left = goes.left;
           is_of = part;
           stands = turn_stands A config number calls old new takes w o T stand;
+          take = take;
           clean = clean_then;
           all_told = subst (λ (l : List DatagramValue). AreAllTold o (goes.steps ++ T) (lines_of calls ++ printed) l) (sym takes.sent)
-              (turn_tells o T printed old.sent told number w goes.left goes.steps (lines_of calls) (sent_by config number calls) stand.stands part.stands (turn_bag A config number calls old new takes w o T stand) part.own part.printed
-              (subst (λ (ms : List (Addr × List ℕ)). AllByRecursion ItsUnforged ms) (sym part.heard) (still_unforged (received_of calls) unforged)) clean_then);
+              (turn_tells o given T printed old.sent told number w goes.left goes.steps (lines_of calls) (sent_by config number calls) stand.stands part.stands (turn_bag A config number calls old new takes w o T stand) part.own part.printed
+              (subst (λ (ms : List (Addr × List ℕ)). AllByRecursion ItsUnforged ms) (sym part.heard) (still_unforged (received_of calls) unforged)) take clean_then);
         }
 
-    one_life : (acts : List TurnAct) (begins : BeginsAgain A config number acts old new) → AllByRecursion (IsUnforged config old.sent number) (arrived_in (begins.life.untold ++ acts))
-        → GoesOnCleanly config (Life number acts) new printed w o T
-    one_life acts begins unforged =
+    one_life : (acts : List TurnAct) (begins : BeginsAgain A config number acts old new) → ((sites : List SiteValue) → Contains (sites_taken (begins.life.untold ++ acts)) sites → Contains given sites)
+        → AllByRecursion (IsUnforged config given old.sent number) (arrived_in (begins.life.untold ++ acts)) → GoesOnCleanly config given (Life number acts) new printed w o T
+    one_life acts begins are_given unforged =
         let tells = lives_are_told A config number acts old new begins.life begins.configured w o T stand in
         let goes = tells.goes in
         let life = goes.life in
         let legal = goes.stands.stands.steps.legal in
-        let clean_then = life_clean config number acts o T goes.steps life legal
-        (subst (λ (ms : List (Addr × List ℕ)). AllByRecursion (IsHarmlessTo o T number) ms) (sym goes.heard) (all_harmless config old w o T stand number (arrived_in (begins.life.untold ++ acts)) unforged)) clean in
+        let take = taken_given o config stand.config_is (sites_taken (begins.life.untold ++ acts)) given are_given goes.steps T goes.takes took in
+        let clean_then = life_clean config given number acts o T goes.steps life legal take
+        (subst (λ (ms : List (Addr × List ℕ)). AllByRecursion (IsHarmlessTo o given T number) ms) (sym goes.heard) (all_harmless config given old w o T stand number (arrived_in (begins.life.untold ++ acts)) unforged)) clean in
         record {
           steps = goes.steps;
           left = goes.left;
           is_of = life;
           stands = goes.stands;
+          take = take;
           clean = clean_then;
           all_told = subst (λ (p : List Step × List DatagramValue). AreAllTold o (p.0 ++ T) (lines_of (acts_calls acts) ++ printed) p.1)
               {x = (life.restart ∷ life.untold ++ life.first, old.sent ++ sent_by config number (acts_calls acts))} {y = (goes.steps, new.sent)} (λ i. (sym life.is i, sym begins.life.sent i))
-              (life_tells o T printed old.sent told number w tells.left life.restart life.untold life.first (lines_of (acts_calls acts)) (sent_by config number (acts_calls acts)) life.line stand.stands tells.stands tells.bag life.own life.printed
+              (life_tells o given T printed old.sent told number w tells.left life.restart life.untold life.first (lines_of (acts_calls acts)) (sent_by config number (acts_calls acts)) life.line stand.stands tells.stands tells.bag life.own life.printed
               (before_restart ItsUnforged number acts goes.steps life (subst (λ (ms : List (Addr × List ℕ)). AllByRecursion ItsUnforged ms) (sym goes.heard) (still_unforged (arrived_in (begins.life.untold ++ acts)) unforged)))
-              (subst (λ (l : List Step). LegalTrace o (l ++ T)) life.is legal).1 (subst (λ (l : List Step). Clean o (l ++ T)) life.is clean_then).1);
+              (subst (λ (l : List Step). LegalTrace o (l ++ T)) life.is legal).1 (subst (λ (l : List Step). TakeGiven o given (l ++ T)) life.is take).1 (subst (λ (l : List Step). Clean o (l ++ T)) life.is clean_then).1);
         }
 
-  one_deed : (deed : Deed) (old new : DeploymentState) (does : DoesDeed A config deed old new) → AllByRecursion (IsUnforged config old.sent (node_of deed)) (received_in A config deed old new does) → (printed : List Line)
-      → (w : WorldState) (o : Opening) (T : List Step) → DeploymentStands config old w o T → Clean o T → AreAllTold o T printed old.sent → GoesOnCleanly config deed new printed w o T
-  one_deed (Turn number calls) old new takes unforged printed w o T stand clean told = one_turn printed number old new w o T stand clean told calls takes unforged
-  one_deed (Life number acts) old new begins unforged printed w o T stand clean told = one_life printed number old new w o T stand clean told acts begins unforged
+  one_deed : (given : List (List SiteValue)) (deed : Deed) (old new : DeploymentState) (does : DoesDeed A config deed old new) → ((sites : List SiteValue) → Contains (given_in A config deed old new does) sites → Contains given sites)
+      → AllByRecursion (IsUnforged config given old.sent (node_of deed)) (received_in A config deed old new does) → (printed : List Line) (w : WorldState) (o : Opening) (T : List Step) → DeploymentStands config old w o T → TakeGiven o given T → Clean o T
+      → AreAllTold o T printed old.sent → GoesOnCleanly config given deed new printed w o T
+  one_deed given (Turn number calls) old new takes are_given unforged printed w o T stand took clean told = one_turn given printed number old new w o T stand took clean told calls takes are_given unforged
+  one_deed given (Life number acts) old new begins are_given unforged printed w o T stand took clean told = one_life given printed number old new w o T stand took clean told acts begins are_given unforged
 
   -- and by deeds
-  record GoOnCleanly (deeds : List Deed) (new : DeploymentState) (w : WorldState) (o : Opening) (T : List Step) : Type 0 where
+  record GoOnCleanly (given : List (List SiteValue)) (deeds : List Deed) (new : DeploymentState) (w : WorldState) (o : Opening) (T : List Step) : Type 0 where
     pub steps : List Step
     pub left : WorldState
     pub are_of : AreOf deeds w left o T steps
     pub stands : DeploymentStands config new left o (steps ++ T)
+    pub take : TakeGiven o given (steps ++ T)
     pub clean : Clean o (steps ++ T)
     pub all_told : AreAllTold o (steps ++ T) (all_lines deeds) new.sent
 
-  deeds_clean : (deeds : List Deed) (old new : DeploymentState) (did : DoDeeds A config deeds old new) → ReceivesUnforged A config deeds old new did
-      → (w : WorldState) (o : Opening) (T : List Step) → DeploymentStands config old w o T → Clean o T → AreAllTold o T [] old.sent → GoOnCleanly deeds new w o T
-  deeds_clean [] old new is unforged w o T stand clean told = record {
+  deeds_clean : (deeds : List Deed) (old new : DeploymentState) (did : DoDeeds A config deeds old new) → ReceivesUnforged A config deeds old new did → (w : WorldState) (o : Opening) (T : List Step) → DeploymentStands config old w o T → TakeGiven o [] T → Clean o T
+      → AreAllTold o T [] old.sent → GoOnCleanly (given_by A config deeds old new did) deeds new w o T
+  deeds_clean [] old new is unforged w o T stand took clean told = record {
     steps = [];
     left = w;
     are_of = (refl, refl);
     stands = subst (λ (d : DeploymentState). DeploymentStands config d w o T) (sym is) stand;
+    take = took;
     clean = clean;
     all_told = subst (λ (d : DeploymentState). AreAllTold o T [] d.sent) (sym is) told;
   }
-  deeds_clean (deed ∷ earlier) old new (between, did, does) unforged w o T stand clean told =
-      let first = deeds_clean earlier old between did unforged.0 w o T stand clean told in
-      let second = one_deed deed between new does unforged.1 (all_lines earlier) first.left o (first.steps ++ T) first.stands first.clean first.all_told in
+  deeds_clean (deed ∷ earlier) old new (between, did, does) unforged w o T stand took clean told =
+      let now = given_in A config deed between new does in
+      let before = given_by A config earlier old between did in
+      let first = deeds_clean earlier old between did unforged.0 w o T stand took clean told in
+      let second = one_deed (now ++ before) deed between new does (Contains-append_left now before) unforged.1 (all_lines earlier) first.left o (first.steps ++ T) first.stands (more_given o now before (first.steps ++ T) first.take) first.clean first.all_told in
       record {
         steps = second.steps ++ first.steps;
         left = second.left;
         are_of = (first.left, first.steps, second.steps, first.are_of, second.is_of, refl);
         stands = subst (λ (l : List Step). DeploymentStands config new second.left o l) (sym (append_assoc second.steps first.steps T)) second.stands;
+        take = subst (λ (l : List Step). TakeGiven o (now ++ before) l) (sym (append_assoc second.steps first.steps T)) second.take;
         clean = subst (λ (l : List Step). Clean o l) (sym (append_assoc second.steps first.steps T)) second.clean;
         all_told = subst (λ (l : List Step). AreAllTold o l (all_lines (deed ∷ earlier)) new.sent) (sym (append_assoc second.steps first.steps T)) second.all_told;
       }
@@ -216,14 +232,14 @@ none_told o sent none = record {
   accepted_are = λ server x has. absurd (in_none x has);
   replies_are = λ g has n read may. absurd (in_none g (subst (λ (l : List DatagramValue). Contains l g) none has));
   counts_are = λ s has node server part key nonce line. absurd (in_none s has);
-  since = λ server t before at router key nonce reply line no_restart. absurd (in_none t (subst (λ (l : List Step). Contains l t) (sym at.splits) (Contains-append_right at.after (t ∷ before) t (at_head t before))));
+  since = λ server t before at router key nonce reply line no_start. absurd (in_none t (subst (λ (l : List Step). Contains l t) (sym at.splits) (Contains-append_right at.after (t ∷ before) t (at_head t before))));
 }
 
 pub runs_cleanly : (A : Type 0) (config : ConfigValue) (stores : ℕ → StoreState) (begun d : DeploymentState) (deeds : List Deed) → IsNetwork config → DeploymentBegins config stores begun → (did : DoDeeds A config deeds begun d)
     → ReceivesUnforged A config deeds begun d did → CleanRun A config stores begun d deeds did
 runs_cleanly A config stores begun d deeds network begins did unforged =
     let opens = first_opens config stores begun network begins in
-    let goes = deeds_clean A config deeds begun d did unforged opens.0 opens.1 [] opens.2.stands tt (none_told opens.1 begun.sent begins.unsent) in
+    let goes = deeds_clean A config deeds begun d did unforged opens.0 opens.1 [] opens.2.stands tt tt (none_told opens.1 begun.sent begins.unsent) in
     let stand = subst (λ (l : List Step). DeploymentStands config d goes.left opens.1 l) (append-nil goes.steps) goes.stands in
     let clean = subst (λ (l : List Step). Clean opens.1 l) (append-nil goes.steps) goes.clean in
     let headline = networks_promise goes.left opens.1 goes.steps stand.stands in

@@ -17,7 +17,7 @@ use Rattle.lisp_admission.specs.Pairs.{router_of}
 use Rattle.lisp_model.specs.declared.event.Event.TheVariants as events
 use Rattle.lisp_model.specs.declared.line.Line.{Line}
 use Rattle.lisp_model.specs.declared.line.Line.TheVariants as lines
-use Rattle.lisp_model.specs.Trace.{EventValue, Step, Opening, address_at, router_at, is_server, clock}
+use Rattle.lisp_model.specs.Trace.{EventValue, Step, Opening, address_at, router_at, is_server, sites, clock}
 use Rattle.lisp_model.specs.Accepted.{acceptances, acceptances_in_step}
 use Rattle.lisp_model.specs.Bag.{Item, Arrival, arrival_in, as_notify, acceptances_in, register_item, reply_item, notice_item, ack_item, items_added, past, bag, since_start}
 use Rattle.lisp_model.specs.Clean.{Clean}
@@ -102,7 +102,7 @@ record IsReplied (o : Opening) (T : List Step) (s : Step) (line : Line) (i : Ite
   line_is : line ≡ lines.Accepted server router key nonce (Some datagram)
   acceptance : Acceptance
   among : Contains (acceptances_in_step o T s) acceptance
-  is : i ≡ reply_item o.config server acceptance
+  is : i ≡ reply_item o.config (sites o T server) server acceptance
 
 -- who accepts is a Map-Server
 accepts_at : (t : Context) (e : EventValue) (server : ℕ) (router : RouterId) (key nonce : ℕ) (reply : Option ℕ) → MayCome t e (lines.Accepted server router key nonce reply) → is_server t.opening.config server ≡ true
@@ -121,7 +121,7 @@ module _ (o : Opening) (T : List Step) (legal : LegalTrace o T) (s : Step) where
       by (inl is) = absurd (says_other (sym (ap (λ (x : Item). x.message) is) ∙ says))
       by (inr none) = absurd (in_none i none)
   replied (lines.Accepted server router key nonce (Some datagram)) row i has n says may =
-      let found = from_map (reply_item o.config server) (acceptances_in (arrival_in (bag o T) s.event) (clock T)) i has in
+      let found = from_map (reply_item o.config (sites o T server) server) (acceptances_in (arrival_in (bag o T) s.event) (clock T)) i has in
       record {
         server = server;
         router = router;
@@ -175,7 +175,7 @@ module _ (o : Opening) (printed : List Line) where
       let a = accepting o s U legal.0 r.server r.router r.key r.nonce (Some r.datagram) r.line_is in
       let x = taken_of o s U r.router r.key r.nonce a in
       let only : r.acceptance ≡ x = alone x (head_or_tail x [] r.acceptance (subst (λ (xs : List Acceptance). Contains xs r.acceptance) (taken_alone o s U r.router r.key r.nonce a) r.among)) in
-      let item : i ≡ reply_item o.config r.server x = r.is ∙ ap (reply_item o.config r.server) only in
+      let item : i ≡ reply_item o.config (sites o U r.server) r.server x = r.is ∙ ap (reply_item o.config (sites o U r.server) r.server) only in
       record {
         server = r.server;
         kind = accepts_at (context_of o U s) s.event r.server r.router r.key r.nonce (Some r.datagram) (subst (λ (line : Line). MayCome (context_of o U s) s.event line) r.line_is legal.0.row);

@@ -130,6 +130,11 @@ module _ (o : Opening) (T : List Step) (s : Step) where
       by : (b : Bool) → Contains (if b then [] else notices o T k) x → IsHigh (bag o T) x
       by false has = old x has
       by true has = absurd (in_none x has)
+  high_case (lines.Renewed server sites) row k old x has = still_high (bag o T) [] x (by (server == k) has)
+    where
+      by : (b : Bool) → Contains (if b then [] else notices o T k) x → IsHigh (bag o T) x
+      by false has = old x has
+      by true has = absurd (in_none x has)
   high_case line row k old x has = still_high (bag o T) (added line) x (old x has)
 
 pub are_high : (o : Opening) (T : List Step) → LegalTrace o T → (k : ℕ) → AreHigh (bag o T) (notices o T k)

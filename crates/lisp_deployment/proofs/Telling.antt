@@ -1,9 +1,10 @@
 -- What was told of what the nodes of a deployment did: of the Map-Registers that they sent, of those that Map-Servers accepted, of the replies
--- to them, of what routers counted, and of what a Map-Server accepted since its restart.
+-- to them, of what routers counted, and of what a Map-Server accepted since its last start.
 use Rattle.std.proofs.Common.{◌≡◌, ◌⊎◌, inl, inr, ℕ, List, [], ◌∷◌, ◌++◌, Some, sym, ap, subst, ◌∙◌}
 use Rattle.std.specs.List.{AllByRecursion, Contains}
 use Rattle.std.proofs.lemmas.List.{append_assoc}
 use Rattle.std.proofs.lemmas.List.Elements.{Contains-append_left, Contains-append_cases}
+use Rattle.lisp_policy.specs.Site.{SiteValue}
 use Rattle.lisp_model.specs.declared.line.Line.{Line}
 use Rattle.lisp_model.specs.declared.line.Line.TheVariants as lines
 use Rattle.lisp_model.specs.Clean.{Clean}
@@ -15,6 +16,7 @@ use Rattle.lisp_refinement.specs.Stands.{Stands}
 use Rattle.lisp_turns.specs.Act.{numbered}
 use Rattle.lisp_turns.specs.Part.{IsOwn, IsQuiet, ArePrinted, arrivals}
 use Rattle.lisp_deployment.specs.Received.{IsUnforged}
+use Rattle.lisp_deployment.proofs.Holding.{TakeGiven}
 use Rattle.lisp_deployment.proofs.Posting.{WasTold, told_still, SendsAreTold, datagrams_told}
 use Rattle.lisp_deployment.proofs.Accepting.{AreTold, AcceptedAreTold, accepted_told, restarted_told}
 use Rattle.lisp_deployment.proofs.Replying.{WasReplied, replied_still, RepliesAreTold, AreReplied, datagrams_replied}
@@ -63,7 +65,7 @@ pub record AreAllTold (o : Opening) (T : List Step) (printed : List Line) (sent 
   pub counts_are : CountsAreTold o T printed
   pub since : (server : ℕ) → ToldSince server printed T
 
-module _ (o : Opening) (T : List Step) (printed : List Line) (sent : List DatagramValue) (told : AreAllTold o T printed sent) (number : ℕ) where
+module _ (o : Opening) (given : List (List SiteValue)) (T : List Step) (printed : List Line) (sent : List DatagramValue) (told : AreAllTold o T printed sent) (number : ℕ) where
   -- what was sent before, and what is new
   more_sent : (steps : List Step) (more : List Line) (new : List DatagramValue) → AreTold o (steps ++ T) (more ++ printed) new → AreTold o (steps ++ T) (more ++ printed) (sent ++ new)
   more_sent steps more new its g has m read = by (Contains-append_cases sent new g has)
@@ -85,31 +87,31 @@ module _ (o : Opening) (T : List Step) (printed : List Line) (sent : List Datagr
 
   -- in a turn
   pub turn_tells : (w left : WorldState) (steps : List Step) (ls : List Line) (new : List DatagramValue) → Stands w o T → Stands left o (steps ++ T) → left.bag ≡ w.bag ++ new → AllByRecursion (λ s. IsOwn number s.event) steps → ArePrinted steps ls
-      → AllByRecursion (IsUnforged o.config sent number) (arrivals steps) → Clean o (steps ++ T) → AreAllTold o (steps ++ T) (ls ++ printed) (sent ++ new)
-  turn_tells w left steps ls new before after bag own is unforged clean = record {
+      → AllByRecursion (IsUnforged o.config given sent number) (arrivals steps) → TakeGiven o given (steps ++ T) → Clean o (steps ++ T) → AreAllTold o (steps ++ T) (ls ++ printed) (sent ++ new)
+  turn_tells w left steps ls new before after bag own is unforged take clean = record {
     sent_are = more_sent steps ls new (datagrams_told w left o T steps (ls ++ printed) new before after clean (sends_told steps ls printed is) bag);
-    accepted_are = λ server x has. told_still o [] (steps ++ T) ls printed x.message (accepted_told o T printed sent told.sent_are number steps own after.steps.legal unforged told.accepted_are server x has);
+    accepted_are = λ server x has. told_still o [] (steps ++ T) ls printed x.message (accepted_told o given T printed sent told.sent_are number steps own after.steps.legal take unforged told.accepted_are server x has);
     replies_are = more_replied steps ls new (datagrams_replied w left o T steps (ls ++ printed) new before after clean (replies_told steps ls printed is) bag);
-    counts_are = more_counted o (steps ++ T) ls printed (counts_told o T printed sent told.replies_are number before.steps.legal before.steps.network (clean_before steps T clean) steps own after.steps.legal unforged told.counts_are);
+    counts_are = more_counted o (steps ++ T) ls printed (counts_told o given T printed sent told.replies_are number before.steps.legal before.steps.network (clean_before steps T clean) steps own after.steps.legal take unforged told.counts_are);
     since = λ server. turn_told server ls printed steps T (printed_told steps ls is) (told.since server);
   }
 
   -- and where a life begins, after steps of which some were told
   pub life_tells : (w left : WorldState) (restart : Step) (untold first : List Step) (ls : List Line) (new : List DatagramValue) → restart.line ≡ lines.Restarted number → Stands w o T → Stands left o (first ++ T) → left.bag ≡ w.bag ++ new
-      → AllByRecursion (λ s. IsOwn number s.event) (untold ++ first) → ArePrinted first ls → AllByRecursion (IsUnforged o.config sent number) (arrivals (untold ++ first)) → LegalTrace o ((untold ++ first) ++ T) → Clean o ((untold ++ first) ++ T)
+      → AllByRecursion (λ s. IsOwn number s.event) (untold ++ first) → ArePrinted first ls → AllByRecursion (IsUnforged o.config given sent number) (arrivals (untold ++ first)) → LegalTrace o ((untold ++ first) ++ T) → TakeGiven o given ((untold ++ first) ++ T) → Clean o ((untold ++ first) ++ T)
       → AreAllTold o (restart ∷ (untold ++ first) ++ T) (ls ++ printed) (sent ++ new)
-  life_tells w left restart untold first ls new line before after bag own is unforged legal clean = record {
+  life_tells w left restart untold first ls new line before after bag own is unforged legal take clean = record {
     sent_are = more_sent (restart ∷ untold ++ first) ls new (λ g has m read.
         subst (λ (l : List Step). WasTold o (restart ∷ l) (ls ++ printed) m) (sym (append_assoc untold first T))
         (told_still o (restart ∷ untold) (first ++ T) [] (ls ++ printed) m
         (datagrams_told w left o T first (ls ++ printed) new before after (clean_before untold (first ++ T) (subst (Clean o) (append_assoc untold first T) clean)) (sends_told first ls printed is) bag g has m read)));
     accepted_are = λ server x has. told_still o [] (restart ∷ (untold ++ first) ++ T) ls printed x.message
-        (restarted_told o ((untold ++ first) ++ T) restart number printed line (accepted_told o T printed sent told.sent_are number (untold ++ first) own legal unforged told.accepted_are) server x has);
+        (restarted_told o ((untold ++ first) ++ T) restart number printed line (accepted_told o given T printed sent told.sent_are number (untold ++ first) own legal take unforged told.accepted_are) server x has);
     replies_are = more_replied (restart ∷ untold ++ first) ls new (λ g has n read may.
         subst (λ (l : List Step). WasReplied o (restart ∷ l) (ls ++ printed) g.from g.to n) (sym (append_assoc untold first T))
         (replied_still o (restart ∷ untold) (first ++ T) [] (ls ++ printed) g.from g.to n
         (datagrams_replied w left o T first (ls ++ printed) new before after (clean_before untold (first ++ T) (subst (Clean o) (append_assoc untold first T) clean)) (replies_told first ls printed is) bag g has n read may)));
     counts_are = more_counted o (restart ∷ (untold ++ first) ++ T) ls printed (restarted_counts o ((untold ++ first) ++ T) restart number printed line
-        (counts_told o T printed sent told.replies_are number before.steps.legal before.steps.network (clean_before (untold ++ first) T clean) (untold ++ first) own legal unforged told.counts_are));
+        (counts_told o given T printed sent told.replies_are number before.steps.legal before.steps.network (clean_before (untold ++ first) T clean) (untold ++ first) own legal take unforged told.counts_are));
     since = λ server. life_told o T number restart (untold ++ first) line own legal server ls printed (told.since server);
   }

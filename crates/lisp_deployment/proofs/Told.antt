@@ -127,7 +127,7 @@ its_row A config stores begun d deeds did run server held holds row has =
     let taken = stays_accepted o trace was.accepting was.before_accepting a.there server row.router row.key row.nonce a.reply a.line a.arrived in
     record {
       was = was;
-      accepted = run.all_told.since server was.accepting was.before_accepting a.there row.router row.key row.nonce a.reply a.line a.no_restart;
+      accepted = run.all_told.since server was.accepting was.before_accepting a.there row.router row.key row.nonce a.reply a.line a.no_start;
       sent = sent_line o trace steps.legal steps.network (all_lines deeds) server a.arrived.message a.arrived.arrival.from was.node was.sending was.before_sending was.sent
           (run.all_told.accepted_are server (taken_of o was.accepting was.before_accepting row.router row.key row.nonce a.arrived) taken);
     }

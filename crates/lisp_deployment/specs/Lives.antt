@@ -1,14 +1,15 @@
 -- The lives of a node in a deployment: it starts, takes turns, and stops, perhaps in the middle of one.
 use Rattle.std.specs.Prelude.{◌≡◌, ◌≢◌, ◌⊎◌, ℕ, ◌<◌, ◌≤◌, IsTrue, true, false, List, [], ◌∷◌, ◌++◌, map, None}
-use Rattle.std.specs.List.{AllByRecursion}
+use Rattle.std.specs.List.{AllByRecursion, Contains}
 use Rattle.lisp_records.specs.declared.address.Addr.{Addr}
 use Rattle.lisp_records.specs.Moment.{max_moment}
 use Rattle.lisp_policy.specs.Configuration.{ConfigValue}
+use Rattle.lisp_policy.specs.Site.{SiteValue}
 use Rattle.lisp_nonces.specs.Kept.{NarrowsEach}
 use Rattle.lisp_nonces.specs.Store.{StoreState}
 use Rattle.lisp_model.specs.declared.event.Event.TheVariants as events
 use Rattle.lisp_model.specs.declared.line.Line.TheVariants as lines
-use Rattle.lisp_model.specs.Trace.{router_at, etr_config_of, Step, Opening}
+use Rattle.lisp_model.specs.Trace.{router_at, etr_config_of, EventValue, Step, Opening}
 use Rattle.lisp_refinement.specs.Calls.{config_of, database_of}
 use Rattle.lisp_refinement.specs.World.{RouterNodeState, WorldState}
 use Rattle.lisp_nodes.specs.Cores.{first_used}
@@ -81,8 +82,27 @@ abbrev pub arrived_in : List TurnAct → List (Addr × List ℕ)
 arrived_in [] = []
 arrived_in (a ∷ earlier) = arrival a.event ++ arrived_in earlier
 
+-- the sites that a Map-Server took in acts, each time all of them
+abbrev pub sites_taken_in : EventValue → List (List SiteValue)
+sites_taken_in (events.Reload server sites) = sites ∷ []
+sites_taken_in _ = []
+
+abbrev pub sites_taken : List TurnAct → List (List SiteValue)
+sites_taken [] = []
+sites_taken (a ∷ earlier) = sites_taken_in a.event ++ sites_taken earlier
+
+-- a Map-Server takes no sites but some of these
+abbrev pub TakesOneOf : List (List SiteValue) → EventValue → Type 0
+TakesOneOf given (events.Reload server sites) = Contains given sites
+TakesOneOf given _ = Unit {0}
+
+-- steps in which a Map-Server takes the sites of its configuration again
+abbrev pub TakesAgain : ConfigValue → ℕ → List Step → Type 0
+TakesAgain config number steps = AllByRecursion (λ s. s.event ≡ events.Reload number config.sites) steps
+
 -- The steps of a life that begins: first what was told of the last turn, of which the lines are those that were printed; then what nobody
--- was told, and time that passes; and last the restart.
+-- was told: the rest of that turn, time that passes, and that a Map-Server takes the sites of its configuration again; and last the
+-- restart.
 pub record IsLife (number : ℕ) (told : List TurnAct) (steps : List Step) : Type 0 where
   pub first : List Step
   pub printed : ArePrinted first (lines_of (acts_calls told))
@@ -93,15 +113,21 @@ pub record IsLife (number : ℕ) (told : List TurnAct) (steps : List Step) : Typ
   pub line : restart.line ≡ lines.Restarted number
   pub is : steps ≡ restart ∷ untold ++ first
 
--- a deployment that is a network went on to be one by them; what arrived in them is what arrived in the acts, and the lines of what nobody
--- was told are those of the acts of which nobody was told
+-- A deployment that is a network went on to be one by them. What arrived in them is what arrived in the acts, and the lines of what nobody
+-- was told are those of the acts of which nobody was told; but a Map-Server takes the sites of its configuration again, as its next life
+-- reads them anew. It takes no other sites than those, and those that it took in the acts.
 pub record LifeGoesOn (config : ConfigValue) (number : ℕ) (untold told : List TurnAct) (new : DeploymentState) (o : Opening)
     (T : List Step) : Type 0 where
   pub steps : List Step
   pub left : WorldState
   pub life : IsLife number told steps
   pub heard : arrivals steps ≡ arrived_in (untold ++ told)
-  pub swallowed : ArePrinted life.untold (map (λ a. a.act.line) untold)
+  pub again : List Step
+  pub rest : List Step
+  pub parts : life.untold ≡ again ++ rest
+  pub takes_again : TakesAgain config number again
+  pub swallowed : ArePrinted rest (map (λ a. a.act.line) untold)
+  pub takes : AllByRecursion (λ s. TakesOneOf (config.sites ∷ sites_taken (untold ++ told)) s.event) steps
   pub stands : DeploymentStands config new left o (steps ++ T)
 
 -- A node's next life is a restart, where a router ended as it is configured.

@@ -48,8 +48,8 @@ pub fn lost_turns_are_cuts<A: Allocator>()
 {}
 
 /// A node that crashes, perhaps in a turn, and begins its next life over what its store kept, is a restart in the network's trace,
-/// unless it is a router that went over to another key or was given another database. Of what it did before the crash the
-/// network may have more than was printed and sent.
+/// unless it is a router that went over to another key or was given another database. A Map-Server that took other sites has those of its
+/// configuration again. Of what a node did before the crash the network may have more than was printed and sent.
 pub fn lives_stand<A: Allocator>()
     ensures { LivesStand A }
 {}

@@ -13,7 +13,11 @@
 //!   didn't send any more. Nobody receives such a message.
 //! - To the trace all that a node receives comes from outside; what another node sent is an echo of it there. That nobody
 //!   outside knows a secret is a premise about what was received (`ReceivesUnforged`): then the trace is clean.
-//! - A secret that a node may hold is, of a router, that of each key of its site: a router may go over to any of them.
+//! - A secret that a node may hold is, of a router, that of each key of its site: a router may go over to any of them. A Map-Server may
+//!   hold those of each site of the configuration, and of sites that a Map-Server was given while it ran.
+//! - A life begins with the sites of the configuration, as a process reads its file. Where a Map-Server ended its life under others, the
+//!   trace has a step in which it takes those of the configuration again; nobody is told of it, as of what a crash swallows. That the file
+//!   has other sites by then isn't said: a deployment is of one configuration.
 //! - That a store keeps over a crash what it said that it saved is a premise: no contract sees a program that is killed.
 #![tactic(auto)]
 

@@ -37,7 +37,7 @@ pub fn read_script<R: Files + AllocGlobal>(
     let Ok(text) = str::from_utf8(&bytes) else {
         return Err(Ending::from(PlayFault::NotUtf8));
     };
-    match parse_script(rt.alloc(), config, text) {
+    match parse_script(rt.alloc(), rt.alloc(), config, text) {
         Ok(commands) => Ok(commands),
         Err(fault) => Err(Ending::from(PlayFault::Script(fault))),
     }

@@ -1,5 +1,5 @@
 -- A line is its parts.
-use Rattle.std.proofs.Common.{◌≡◌, ℕ, List, [], ◌++◌, None, refl, ap, ◌∙◌, codes, append_assoc}
+use Rattle.std.proofs.Common.{sym, ◌≡◌, ℕ, List, [], ◌++◌, None, refl, ap, ◌∙◌, codes, append_assoc}
 use Rattle.std.proofs.lemmas.List.{append-nil}
 use Rattle.std.specs.Fmt.{decimal}
 use Rattle.lisp_policy.specs.Configuration.{ConfigValue}
@@ -41,6 +41,8 @@ line_parts c place (lines.Rotated router key) = plain c place (lines.Rotated rou
 line_parts c place (lines.Emptied router key) = plain c place (lines.Emptied router key) (simp append_assoc (ap (λ (t : List ℕ). codes "emptied " ++ (node_name c router ++ t)) (alone place (codes " key " ++ decimal key))))
 line_parts c place (lines.Notice server router key nonce datagram) = plain c place (lines.Notice server router key nonce datagram) (simp append_assoc refl)
 line_parts c place (lines.Resent server router datagram) = plain c place (lines.Resent server router datagram) (simp append_assoc refl)
+line_parts c place (lines.Reloaded server sites) = plain c place (lines.Reloaded server sites) (ap (λ (t : List ℕ). codes "reloaded " ++ t) (alone place (node_name c server ++ (codes " sites " ++ decimal sites ++ codes " kept")) ∙ sym (append_assoc (node_name c server ++ codes " sites ") (decimal sites) (codes " kept") ∙ append_assoc (node_name c server) (codes " sites ") (decimal sites ++ codes " kept"))))
+line_parts c place (lines.Renewed server sites) = plain c place (lines.Renewed server sites) (ap (λ (t : List ℕ). codes "reloaded " ++ t) (alone place (node_name c server ++ (codes " sites " ++ decimal sites ++ codes " restarted")) ∙ sym (append_assoc (node_name c server ++ codes " sites ") (decimal sites) (codes " restarted") ∙ append_assoc (node_name c server) (codes " sites ") (decimal sites ++ codes " restarted"))))
 line_parts c place (lines.Down router) = plain c place (lines.Down router) (ap (λ (t : List ℕ). codes "down " ++ t) (alone place (node_name c router ++ []) ∙ append-nil (node_name c router)))
 line_parts c place (lines.Refused node what) = plain c place (lines.Refused node what) (simp append_assoc (ap (λ (t : List ℕ). codes "refused " ++ t) (alone place (node_name c node ++ (codes " " ++ (decimal (refusal_number what) ++ carried_words what))))))
 

@@ -44,6 +44,8 @@ line_words c place (lines.Rotated router key) = codes "rotated " ++ node_name c 
 line_words c place (lines.Emptied router key) = codes "emptied " ++ node_name c router ++ key_text key
 line_words c place (lines.Notice server router key nonce datagram) = codes "notice " ++ pair_text (node_name c server) (node_name c router) ++ keyed_text key nonce ++ datagram_text place (Some datagram)
 line_words c place (lines.Resent server router datagram) = codes "resent " ++ pair_text (node_name c server) (node_name c router) ++ datagram_text place (Some datagram)
+line_words c place (lines.Reloaded server sites) = codes "reloaded " ++ node_name c server ++ codes " sites " ++ decimal sites ++ codes " kept"
+line_words c place (lines.Renewed server sites) = codes "reloaded " ++ node_name c server ++ codes " sites " ++ decimal sites ++ codes " restarted"
 line_words c place (lines.Down router) = codes "down " ++ node_name c router
 line_words c place (lines.Refused node what) = codes "refused " ++ node_name c node ++ codes " " ++ decimal (refusal_number what) ++ carried_words what
 

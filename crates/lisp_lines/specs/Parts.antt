@@ -26,6 +26,8 @@ verb (lines.Rotated _ _) = codes "rotated"
 verb (lines.Emptied _ _) = codes "emptied"
 verb (lines.Notice _ _ _ _ _) = codes "notice"
 verb (lines.Resent _ _ _) = codes "resent"
+verb (lines.Reloaded _ _) = codes "reloaded"
+verb (lines.Renewed _ _) = codes "reloaded"
 verb (lines.Down _) = codes "down"
 verb (lines.Refused _ _) = codes "refused"
 
@@ -42,6 +44,8 @@ nodes_text c (lines.Rotated router _) = codes " " ++ node_name c router
 nodes_text c (lines.Emptied router _) = codes " " ++ node_name c router
 nodes_text c (lines.Notice server router _ _ _) = codes " " ++ pair_text (node_name c server) (node_name c router)
 nodes_text c (lines.Resent server router _) = codes " " ++ pair_text (node_name c server) (node_name c router)
+nodes_text c (lines.Reloaded server _) = codes " " ++ node_name c server
+nodes_text c (lines.Renewed server _) = codes " " ++ node_name c server
 nodes_text c (lines.Down router) = codes " " ++ node_name c router
 nodes_text c (lines.Refused node _) = codes " " ++ node_name c node
 nodes_text c _ = []
@@ -63,6 +67,8 @@ details_text (lines.Ticked ms now) = codes " " ++ decimal ms ++ codes " now " ++
 details_text (lines.Rotated _ key) = key_text key
 details_text (lines.Emptied _ key) = key_text key
 details_text (lines.Notice _ _ key nonce _) = keyed_text key nonce
+details_text (lines.Reloaded _ sites) = codes " sites " ++ decimal sites ++ codes " kept"
+details_text (lines.Renewed _ sites) = codes " sites " ++ decimal sites ++ codes " restarted"
 details_text (lines.Refused _ what) = refusal_text what
 details_text _ = []
 

@@ -68,6 +68,7 @@ fn verb(line: &Line) -> &'static str
         Line::Emptied { .. } => "emptied",
         Line::Notice { .. } => "notice",
         Line::Resent { .. } => "resent",
+        Line::Reloaded { .. } | Line::Renewed { .. } => "reloaded",
         Line::Down { .. } => "down",
         Line::Refused { .. } => "refused",
     }
@@ -87,6 +88,8 @@ fn put_nodes<A: Memory, E: Allocator>(
         | Line::Restarted { node }
         | Line::Rotated { router: node, .. }
         | Line::Emptied { router: node, .. }
+        | Line::Reloaded { server: node, .. }
+        | Line::Renewed { server: node, .. }
         | Line::Down { router: node }
         | Line::Refused { node, .. } => put_node(text, node_name(config, node)),
         Line::Sent { router, server, .. }
@@ -128,6 +131,8 @@ fn put_details<A: Memory>(text: &mut String<A>, line: &Line) -> Result<(), Alloc
         Line::Nowhere { datagram } => text.try_write(format_args!(" {datagram}")),
         Line::Ticked { ms, now } => text.try_write(format_args!(" {ms} now {now}")),
         Line::Rotated { key, .. } | Line::Emptied { key, .. } => put_key(text, *key),
+        Line::Reloaded { sites, .. } => text.try_write(format_args!(" sites {sites} kept")),
+        Line::Renewed { sites, .. } => text.try_write(format_args!(" sites {sites} restarted")),
         Line::Refused { what, .. } => put_refusal(text, what),
         Line::Restarted { .. } | Line::Resent { .. } | Line::Down { .. } => Ok(()),
     }

@@ -10,7 +10,7 @@ use Rattle.lisp_etr.specs.Hearing.{ack_of}
 use Rattle.lisp_admission.specs.Checks.{reply_to}
 use Rattle.lisp_model.specs.declared.line.Line.{Line}
 use Rattle.lisp_model.specs.declared.line.Line.TheVariants as lines
-use Rattle.lisp_model.specs.Trace.{EventValue, Step, Opening, ShownStore, addresses, address_at, is_router, router_at, clock}
+use Rattle.lisp_model.specs.Trace.{EventValue, Step, Opening, ShownStore, addresses, address_at, is_router, router_at, sites, clock}
 use Rattle.lisp_model.specs.History.{history}
 use Rattle.lisp_model.specs.Held.{heard_last}
 use Rattle.lisp_model.specs.Timers.{Notice, notice_to}
@@ -95,7 +95,7 @@ module _ (o : Opening) (T : List Step) (reads : ReadsBack) (all : AllFrom o (his
       at (inr no_more) = absurd (in_none i no_more)
   posts s (lines.Accepted server router key nonce None) line harmless row i has n is ack = absurd (in_none i has)
   posts s (lines.Accepted server router key nonce (Some datagram)) line harmless row i has n is ack =
-      let found = from_map (reply_item o.config server) (acceptances_in (arrival_in (bag o T) s.event) (clock T)) i has in
+      let found = from_map (reply_item o.config (sites o T server) server) (acceptances_in (arrival_in (bag o T) s.event) (clock T)) i has in
       absurd (not_plain (reply_to found.0.message) n (said_same (reply_to found.0.message) n (sym (ap (λ (x : Item). x.message) found.2) ∙ is)) refl ack)
   posts s (lines.Noticed router server nonce datagram) line harmless row i has n is ack = answered s.actor s.shown s.event router server nonce datagram harmless row i has n is s line
   posts s (lines.Notice server router key nonce datagram) line harmless row i has n is ack =

@@ -32,6 +32,7 @@ sent_none o T actor after (events.Rotate _ _ _) router server part key nonce dat
 sent_none o T actor after (events.Lose _ _ _) router server part key nonce datagram r row = absurd row
 sent_none o T actor after (events.Notice _ _ _) router server part key nonce datagram r row = absurd row
 sent_none o T actor after (events.Resend _ _) router server part key nonce datagram r row = absurd row
+sent_none o T actor after (events.Reload _ _) router server part key nonce datagram r row = absurd row
 
 -- places in a list with one more element at its end
 module _ {X : Type 0} where

@@ -8,13 +8,14 @@ use Rattle.std.proofs.lemmas.Bool.Decides.{Decides-eqb}
 use Rattle.lisp_records.specs.declared.address.Addr.{Addr}
 use Rattle.lisp_records.specs.declared.router.RouterId.{RouterId}
 use Rattle.lisp_policy.specs.Configuration.{ConfigValue, HasServers}
+use Rattle.lisp_policy.specs.Site.{SiteValue}
 use Rattle.lisp_messages.specs.Message.{MapNotifyValue}
 use Rattle.lisp_messages.specs.Authentic.{is_authentic}
 use Rattle.lisp_admission.specs.Checks.{signed_by}
 use Rattle.lisp_admission.specs.Checks.{secret_at as known_secret}
 use Rattle.lisp_model.specs.declared.line.Line.{Line}
 use Rattle.lisp_model.specs.declared.line.Line.TheVariants as lines
-use Rattle.lisp_model.specs.Trace.{EventValue, Step, Opening, ShownStore, addresses, address_at, is_server, is_router, router_at, etr_config}
+use Rattle.lisp_model.specs.Trace.{EventValue, Step, Opening, ShownStore, addresses, address_at, is_server, is_router, router_at, secret_at, sites, etr_config}
 use Rattle.lisp_model.specs.Bag.{Item, bag}
 use Rattle.lisp_model.specs.Timers.{Notice, notices}
 use Rattle.lisp_model.specs.Network.{NamesServers}
@@ -26,7 +27,8 @@ use Rattle.lisp_model.proofs.AcknowledgementOrigins.{IsAnswer, all_answers}
 use Rattle.lisp_model.proofs.ArrivalLemmas.{comes}
 use Rattle.lisp_model.proofs.CleanLemmas.{addr_same, in_find, server_of}
 use Rattle.lisp_model.proofs.HearingLemmas.{find_true, router_of}
-use Rattle.lisp_model.proofs.NoticeOrigins.{WentOut, site_secrets, all_went_out}
+use Rattle.lisp_model.proofs.NoticeOrigins.{WentOut, all_went_out}
+use Rattle.lisp_model.proofs.SitesLemmas.{Signs, signs_in}
 use Rattle.lisp_model.proofs.Origins.{ReadsBack, all_from}
 use Rattle.lisp_model.proofs.ReplyOrigins.{all_known}
 
@@ -64,8 +66,8 @@ awaited o T from m x e =
     record { to = λ i is. addr_same i.to from (ap (went_to from) (sym is) ∙ two.0); nonce = (Decides-eqb x.nonce m.nonce).0 one.1 }
 
 module _ (o : Opening) (distinct : AllPairs (λ a b. a ≢ b) (addresses o.config)) (names : NamesServers o.config) (reads : ReadsBack) (T : List Step) (legal : LegalTrace o T) (clean : Clean o T) where
-  holds_secret : (node : ℕ) → is_server o.config node ≡ true → (secret : List ℕ) → Contains (site_secrets o.config) secret → Contains (secrets_of o T node) secret
-  holds_secret node kind secret known = subst (λ b. Contains (if b then flat_map (λ s. map (λ k. k.secret) s.keys) o.config.sites else (etr_config o T node).secret ∷ []) secret) (sym kind) known
+  holds_secret : (node : ℕ) → is_server o.config node ≡ true → (site key : ℕ) → Signs (sites o T node) site key → Contains (secrets_of o T node) (secret_at (sites o T node) site key)
+  holds_secret node kind site key signs = subst (λ b. Contains (if b then flat_map (λ s. map (λ k. k.secret) s.keys) (sites o T node) else (etr_config o T node).secret ∷ []) (secret_at (sites o T node) site key)) (sym kind) (signs_in (sites o T node) site key signs)
 
   -- a notice that was noticed before
   pub record WasNoticed (server nonce : ℕ) (router : RouterId) : Type 0 where
@@ -76,9 +78,9 @@ module _ (o : Opening) (distinct : AllPairs (λ a b. a ≢ b) (addresses o.confi
     pub line : before.line ≡ lines.Noticed node server nonce datagram
     pub me : (router_at o.config node).me ≡ router
 
-  ended : (from : Addr) (m what : MapNotifyValue) (x : Notice) (item : Item) (server nonce : ℕ) (router : RouterId) → IsAnswer o T item what → WentOut o (bag o T) x → IsAwaited o T from m x
+  ended : (from : Addr) (m what : MapNotifyValue) (x : Notice) (item : Item) (server nonce : ℕ) (router : RouterId) (has : List SiteValue) → IsAnswer o T item what → WentOut o has (bag o T) x → IsAwaited o T from m x
       → item.from ≡ from → item.to ≡ address_at o.config server → is_server o.config server ≡ true → m.nonce ≡ what.nonce → nonce ≡ x.nonce → router ≡ x.router → WasNoticed server nonce router
-  ended from m what x item server nonce router ans w a source target kind read number its =
+  ended from m what x item server nonce router has ans w a source target kind read number its =
       let went : w.item.to ≡ from = a.to w.item w.place in
       let same : address_at o.config ans.node ≡ address_at o.config w.router = sym ans.from ∙ source ∙ sym went ∙ w.to in
       let who : ans.node ≡ w.router = router_of o.config distinct ans.node w.router ans.kind w.kind same in
@@ -104,9 +106,9 @@ module _ (o : Opening) (distinct : AllPairs (λ a b. a ≢ b) (addresses o.confi
       let w = all_went_out o distinct reads T legal clean actor x (in_find (awaits t c.arrival.from c.row.message) (notices o T actor) x c.row.stands) in
       let a = awaited o T c.arrival.from c.row.message x (find_true (awaits t c.arrival.from c.row.message) (notices o T actor) x c.row.stands) in
       let acts : actor ≡ server = c.row.acts.acts in
-      let origin = c.origin c.row.message c.row.read _ (holds_secret actor (ap (is_server o.config) acts ∙ c.row.acts.kind) _ w.known) (signed_under (known_secret o.config.sites x.router.site x.key) c.arrival.bytes c.row.authentic) in
+      let origin = c.origin c.row.message c.row.read _ (holds_secret actor (ap (is_server o.config) acts ∙ c.row.acts.kind) x.router.site x.key w.signs) (signed_under (known_secret (sites o T actor) x.router.site x.key) c.arrival.bytes c.row.authentic) in
       let ans = all_answers o distinct reads T legal clean origin.item origin.sent origin.what origin.says (◌∙◌ {a = origin.what.ack} {b = c.row.message.ack} {c = true} (sym origin.head.ack) c.row.ack) in
-      ended c.arrival.from c.row.message origin.what x origin.item server nonce router ans w a origin.source (subst (λ (k : ℕ). origin.item.to ≡ address_at o.config k) acts origin.target) c.row.acts.kind origin.head.nonce c.row.number c.row.who
+      ended c.arrival.from c.row.message origin.what x origin.item server nonce router (sites o T actor) ans w a origin.source (subst (λ (k : ℕ). origin.item.to ≡ address_at o.config k) acts origin.target) c.row.acts.kind origin.head.nonce c.row.number c.row.who
 
 -- what is done was noticed
 pub done_was_noticed : (o : Opening) (T : List Step) → AllPairs (λ a b. a ≢ b) (addresses o.config) → NamesServers o.config → ReadsBack → (s : Step) → LegalTrace o (s ∷ T) → Clean o (s ∷ T) → DoneWasNoticed o T s

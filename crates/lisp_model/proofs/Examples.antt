@@ -20,3 +20,4 @@ pub mod Indices
 pub mod Networks
 pub mod MemoryLines
 pub mod Limits
+pub mod Reloads

@@ -58,6 +58,8 @@ IsBy (lines.Rotated router _) node = router ≡ node
 IsBy (lines.Emptied router _) node = router ≡ node
 IsBy (lines.Notice server _ _ _ _) node = server ≡ node
 IsBy (lines.Resent server _ _) node = server ≡ node
+IsBy (lines.Reloaded server _) node = server ≡ node
+IsBy (lines.Renewed server _) node = server ≡ node
 IsBy (lines.Down router) node = router ≡ node
 IsBy (lines.Refused named _) node = named ≡ node
 

@@ -15,7 +15,7 @@ use Rattle.lisp_etr.specs.declared.notify_fault.NotifyFault.TheVariants.{NotMine
 use Rattle.lisp_records.specs.Result.{◌>>=◌}
 use Rattle.lisp_etr.specs.Hearing.{ServerNotify, check, checked_notify, notify_read}
 use Rattle.lisp_etr.specs.Config.{EtrConfigValue}
-use Rattle.lisp_model.specs.Trace.{Step, Opening, addresses, address_at, router_at, etr_config, is_server, is_router}
+use Rattle.lisp_model.specs.Trace.{Step, Opening, addresses, address_at, router_at, etr_config, sites, is_server, is_router}
 use Rattle.lisp_model.specs.Bag.{Arrival}
 use Rattle.lisp_model.specs.Clean.{secrets_of}
 use Rattle.lisp_model.specs.Counted.{server_from, notify_at}
@@ -125,7 +125,7 @@ pub not_both : (c : ConfigValue) (k : ℕ) → is_router c k ≡ true → is_ser
 not_both c k router server = true≢false (sym server ∙ no_server c k (router_above c k router) (is_server c k) refl)
 
 pub knows_own : (o : Opening) (T : List Step) (k : ℕ) → is_router o.config k ≡ true → Contains (secrets_of o T k) (etr_config o T k).secret
-knows_own o T k is = subst (λ b. Contains (if b then flat_map (λ s. map (λ key. key.secret) s.keys) o.config.sites else (etr_config o T k).secret ∷ []) (etr_config o T k).secret) (sym (no_server o.config k (router_above o.config k is) (is_server o.config k) refl)) (at_head _ [])
+knows_own o T k is = subst (λ b. Contains (if b then flat_map (λ s. map (λ key. key.secret) s.keys) (sites o T k) else (etr_config o T k).secret ∷ []) (etr_config o T k).secret) (sym (no_server o.config k (router_above o.config k is) (is_server o.config k) refl)) (at_head _ [])
 
 pub router_of : (c : ConfigValue) → AllPairs (λ a b. a ≢ b) (addresses c) → (i j : ℕ) → is_router c i ≡ true → is_router c j ≡ true → address_at c i ≡ address_at c j → i ≡ j
 router_of c distinct i j is_i is_j same = one_node c distinct i j (router_in c i is_i) (router_in c j is_j) same

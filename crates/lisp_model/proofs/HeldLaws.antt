@@ -42,6 +42,11 @@ within (lines.Restarted node) new sin old k x before has = at (node == k) has
     at : (b : Bool) → Contains (if b then [] else sin) x → Contains old x
     at true has = absurd (in_none x has)
     at false has = before has
+within (lines.Renewed server _) new sin old k x before has = at (server == k) has
+  where
+    at : (b : Bool) → Contains (if b then [] else sin) x → Contains old x
+    at true has = absurd (in_none x has)
+    at false has = before has
 within _ new sin old k x before has = before has
 
 pub since_accepted : (o : Opening) (T : List Step) (k : ℕ) (x : Acceptance) → Contains (since_start o T k) x → Contains (acceptances o T k) x

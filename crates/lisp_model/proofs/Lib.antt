@@ -29,6 +29,7 @@ pub mod LatestLaws
 pub mod CountedLaws
 pub mod AbsentLaws
 pub mod AcknowledgementOrigins
+pub mod SitesLemmas
 pub mod NoticeOrigins
 pub mod DoneLaws
 pub mod HeldLaws

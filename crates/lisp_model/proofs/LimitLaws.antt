@@ -1,36 +1,40 @@
 -- At each moment a server holds no more of a site than the site may have.
-use Rattle.std.proofs.Common.{◌≡◌, ℕ, ◌+◌, ◌-◌, ◌<◌, ◌≤◌, Bool, true, false, List, [], ◌∷◌, ◌++◌, Option, Some, None, Ok, refl, sym, ap, subst, inl, inr, ◌∙◌, true≢false, arith}
-use Rattle.std.specs.Prelude.{◌≢◌, ◌==◌, ◌⊎◌, if◌then◌else◌, slice_get}
-use Rattle.std.specs.List.{find}
+use Rattle.std.proofs.Common.{◌≡◌, ℕ, ◌+◌, ◌-◌, ◌≤◌, Bool, true, false, List, [], ◌∷◌, ◌++◌, Option, Some, None, refl, sym, ap, subst, inl, inr, ◌∙◌, true≢false, arith}
+use Rattle.std.specs.Prelude.{◌≢◌, ◌==◌, ◌&&◌, ◌⊎◌, if◌then◌else◌, reverse}
+use Rattle.std.specs.List.{Contains, find}
 use Rattle.std.specs.Option.{is_some, option_and_then, option_map}
-use Rattle.std.proofs.lemmas.Bool.{cases_eq}
+use Rattle.std.proofs.lemmas.Bool.{and_parts, cases_eq}
 use Rattle.std.proofs.lemmas.Bool.Decides.{Decides-ltb}
 use Rattle.lisp_records.specs.declared.address.Addr.{Addr}
 use Rattle.lisp_records.specs.declared.router.RouterId.{RouterId}
-use Rattle.lisp_records.specs.Address.{PrefixValue}
+use Rattle.lisp_records.specs.Address.{PrefixValue, prefix_eq}
 use Rattle.lisp_records.specs.Router.{router_eq}
 use Rattle.lisp_records.specs.Row.{RowValue, is_alive}
 use Rattle.lisp_records.proofs.RouterLaws.{router_eq-Decides}
-use Rattle.lisp_policy.specs.Configuration.{ConfigValue}
+use Rattle.lisp_policy.specs.Site.{SiteValue, secret_of, site_of}
+use Rattle.lisp_policy.specs.Extends.{extends}
 use Rattle.lisp_messages.specs.Message.{MapRegisterValue}
 use Rattle.lisp_lookup.specs.Growth.{AtMost, Fits, HasRow, HasRouter, StaysWithin}
 use Rattle.lisp_lookup.specs.Table.{is_row_of, if_alive}
 use Rattle.lisp_lookup.proofs.GrowthLaws.{renewed_fits, fits_at_most}
 use Rattle.lisp_admission.specs.Checks.{most_routers_at, most_rows_at}
 use Rattle.lisp_admission.specs.Pairs.{router_of}
+use Rattle.lisp_admission.proofs.Extended.{routers_widen, rows_widen}
 use Rattle.lisp_model.specs.declared.event.Event.TheVariants as events
 use Rattle.lisp_model.specs.declared.line.Line.{Line}
 use Rattle.lisp_model.specs.declared.line.Line.TheVariants as lines
-use Rattle.lisp_model.specs.Trace.{EventValue, Step, Opening, clock, time_of}
+use Rattle.lisp_model.specs.Trace.{EventValue, Step, Opening, sites, sites_after, clock, time_of}
 use Rattle.lisp_model.specs.Held.{Acceptance, accepted_rows, held_rows}
 use Rattle.lisp_model.specs.Bag.{Arrival, acceptances_in, arrival_in, arrival_of, bag, junk_arrival, since_start, since_start_after}
-use Rattle.lisp_model.specs.Context.{Context}
 use Rattle.lisp_model.specs.Receiving.{IsAccepted}
-use Rattle.lisp_model.specs.Legal.{Legal, LegalTrace, MayCome, context_of}
+use Rattle.lisp_model.specs.Legal.{LegalTrace, MayCome, context_of}
 use Rattle.lisp_model.specs.Promises.{IsWithin, SitesStayWithin}
+use Rattle.lisp_model.proofs.Agreement.{held_found}
 use Rattle.lisp_model.proofs.HeldMore.{held_other}
+use Rattle.lisp_model.proofs.HearingLemmas.{find_true}
 use Rattle.lisp_model.proofs.Locality.{same_number, unless}
 use Rattle.lisp_model.proofs.RisingSteps.{taken_one}
+use Rattle.lisp_model.proofs.SitesLemmas.{Signs, Keeps, Renews, sites_step, since_signs}
 
 -- what is alive at a moment was alive before
 alive_before : (h : RowValue) (now later : ℕ) → now ≤ later → is_alive h later ≡ true → is_alive h now ≡ true
@@ -48,35 +52,35 @@ live_before since now later before router eid some = by (find (is_row_of router 
     by None some = absurd (true≢false (sym some))
     by (Some h) some = at h (is_alive h later) (is_alive h now) (alive_before h now later before) some
 
-module _ (c : ConfigValue) (site : ℕ) where
+module _ (sites : List SiteValue) (site : ℕ) where
   -- time takes rows away alone
-  passes : (since : List Acceptance) (now later : ℕ) → now ≤ later → IsWithin c since now site → IsWithin c since later site
+  passes : (since : List Acceptance) (now later : ℕ) → now ≤ later → IsWithin sites since now site → IsWithin sites since later site
   passes since now later before was = record {
     routers = λ most is. renewed_fits most (HasRouter (held_rows since now) site) (HasRouter (held_rows since later) site) (was.routers most is) (λ router has. (has.0, has.1, live_before since now later before router has.1 has.2));
     rows = λ most is. renewed_fits most (HasRow (held_rows since now) site) (HasRow (held_rows since later) site) (was.rows most is) (λ key has. (has.0, live_before since now later before key.0 key.1 has.1));
   }
 
   -- nothing is held at first
-  none_within : (now : ℕ) → IsWithin c [] now site
+  none_within : (now : ℕ) → IsWithin sites [] now site
   none_within now = record {
     routers = λ most is. ([], omega arith, λ router has. absurd (true≢false (sym has.2)));
     rows = λ most is. ([], omega arith, λ key has. absurd (true≢false (sym has.1)));
   }
 
   -- a Map-Register is accepted where its site has space for it
-  module _ (m : MapRegisterValue) (from : Addr) (now : ℕ) (since : List Acceptance) (was : IsWithin c since now site)
-      (fits : Fits (most_routers_at c.sites m.site) (most_rows_at c.sites m.site) m.site (held_rows since now) (held_rows (record { message = m; from = from; moment = now } ∷ since) now)) where
+  module _ (m : MapRegisterValue) (from : Addr) (now : ℕ) (since : List Acceptance) (was : IsWithin sites since now site)
+      (fits : Fits (most_routers_at sites m.site) (most_rows_at sites m.site) m.site (held_rows since now) (held_rows (record { message = m; from = from; moment = now } ∷ since) now)) where
     abbrev more : List Acceptance
     more = record { message = m; from = from; moment = now } ∷ since
 
-    own : site ≡ m.site → IsWithin c more now site
+    own : site ≡ m.site → IsWithin sites more now site
     own is = record {
       routers = λ most limit. fits_at_most most (HasRouter (held_rows since now) site) (HasRouter (held_rows more now) site) (was.routers most limit)
           (subst (λ (o : Option ℕ). StaysWithin o (HasRouter (held_rows since now) site) (HasRouter (held_rows more now) site)) limit
-          (subst (λ (s : ℕ). StaysWithin (most_routers_at c.sites s) (HasRouter (held_rows since now) s) (HasRouter (held_rows more now) s)) (sym is) fits.routers));
+          (subst (λ (s : ℕ). StaysWithin (most_routers_at sites s) (HasRouter (held_rows since now) s) (HasRouter (held_rows more now) s)) (sym is) fits.routers));
       rows = λ most limit. fits_at_most most (HasRow (held_rows since now) site) (HasRow (held_rows more now) site) (was.rows most limit)
           (subst (λ (o : Option ℕ). StaysWithin o (HasRow (held_rows since now) site) (HasRow (held_rows more now) site)) limit
-          (subst (λ (s : ℕ). StaysWithin (most_rows_at c.sites s) (HasRow (held_rows since now) s) (HasRow (held_rows more now) s)) (sym is) fits.rows));
+          (subst (λ (s : ℕ). StaysWithin (most_rows_at sites s) (HasRow (held_rows since now) s) (HasRow (held_rows more now) s)) (sym is) fits.rows));
     }
 
     -- the rows of another site stay
@@ -90,58 +94,116 @@ module _ (c : ConfigValue) (site : ℕ) where
     stays : site ≢ m.site → (router : RouterId) (eid : PrefixValue) → router.site ≡ site → is_some (held_rows more now router eid) ≡ true → is_some (held_rows since now router eid) ≡ true
     stays differ router eid of some = ap is_some (held_other m from now since router eid (not_its router of differ)) ∙ some
 
-    others : site ≢ m.site → IsWithin c more now site
+    others : site ≢ m.site → IsWithin sites more now site
     others differ = record {
       routers = λ most limit. renewed_fits most (HasRouter (held_rows since now) site) (HasRouter (held_rows more now) site) (was.routers most limit) (λ router has. (has.0, has.1, stays differ router has.1 has.0 has.2));
       rows = λ most limit. renewed_fits most (HasRow (held_rows since now) site) (HasRow (held_rows more now) site) (was.rows most limit) (λ key has. (has.0, stays differ key.0 key.1 has.0 has.1));
     }
 
-    one_more : IsWithin c more now site
+    one_more : IsWithin sites more now site
     one_more = either (cases_eq site m.site)
       where
-        either : (site ≡ m.site) ⊎ (site ≢ m.site) → IsWithin c more now site
+        either : (site ≡ m.site) ⊎ (site ≢ m.site) → IsWithin sites more now site
         either (inl is) = own is
         either (inr differ) = others differ
 
+at_most_more : {K : Type 0} (least most : ℕ) (Is : K → Type 0) → least ≤ most → AtMost Is least → AtMost Is most
+at_most_more least most Is wide (listed, few, all) = (listed, omega (arith, wide, few), all)
+
+-- sites whose limits are as wide
+module _ (old new : List SiteValue) (site : ℕ) (since : List Acceptance) (now : ℕ) (known : (x : Acceptance) → Contains since x → Signs old x.message.site x.message.key_id) where
+  -- nothing is held of a site that isn't there
+  none_of : site_of old site ≡ None → (router : RouterId) (eid : PrefixValue) → router.site ≡ site → is_some (held_rows since now router eid) ≡ true → ⊥
+  none_of none router eid of some = by (held_rows since now router eid) refl some
+    where
+      no_secret : (key : ℕ) → Signs old site key → ⊥
+      no_secret key signs = clash (sym (ap (option_and_then (λ s. secret_of s key)) none) ∙ signs.1)
+        where
+          clash : {x : List ℕ} → ◌≡◌ {A = Option (List ℕ)} None (Some x) → ⊥
+          clash e = absurd cc
+
+      by : (h : Option RowValue) → held_rows since now router eid ≡ h → is_some h ≡ true → ⊥
+      by None is some = true≢false (sym some)
+      by (Some h) is some =
+          let found = held_found since router eid now h is in
+          let matches = find_true (λ r. router_eq (router_of found.acceptance.message) router && prefix_eq r.eid eid) (reverse found.acceptance.message.records) found.mapping found.last in
+          let who = (router_eq-Decides (router_of found.acceptance.message) router).0 (and_parts (router_eq (router_of found.acceptance.message) router) (prefix_eq found.mapping.eid eid) matches).0 in
+          let its : Signs old router.site found.acceptance.message.key_id = subst (λ (r : RouterId). Signs old r.site found.acceptance.message.key_id) who (known found.acceptance found.taken) in
+          no_secret found.acceptance.message.key_id (subst (λ (n : ℕ). Signs old n found.acceptance.message.key_id) of its)
+
+  widens : extends old new ≡ true → IsWithin old since now site → IsWithin new since now site
+  widens more was = by (site_of old site) refl
+    where
+      by : (o : Option SiteValue) → site_of old site ≡ o → IsWithin new since now site
+      by None none = record {
+        routers = λ most is. ([], omega arith, λ router has. absurd (none_of none router has.1 has.0 has.2));
+        rows = λ most is. ([], omega arith, λ key has. absurd (none_of none key.0 key.1 has.0 has.1));
+      }
+      by (Some its) found = record {
+        routers = λ most is. let w = routers_widen old new more site its found most is in at_most_more w.0 most (HasRouter (held_rows since now) site) w.2 (was.routers w.0 w.1);
+        rows = λ most is. let w = rows_widen old new more site its found most is in at_most_more w.0 most (HasRow (held_rows since now) site) w.2 (was.rows w.0 w.1);
+      }
+
 -- a legal step keeps to the limits
-module _ (o : Opening) (T : List Step) (s : Step) (server site : ℕ) (was : IsWithin o.config (since_start o T server) (clock T) site) where
+module _ (o : Opening) (T : List Step) (legal : LegalTrace o T) (s : Step) (server site : ℕ) (was : IsWithin (sites o T server) (since_start o T server) (clock T) site) where
   abbrev now : ℕ
   now = clock T
 
   abbrev old : List Acceptance
   old = since_start o T server
 
-  later : (since : List Acceptance) (e : EventValue) → IsWithin o.config since now site → IsWithin o.config since (now + time_of e) site
-  later since e within = passes o.config site since now (now + time_of e) (omega arith) within
+  abbrev its : List SiteValue
+  its = sites o T server
+
+  later : (since : List Acceptance) (e : EventValue) (has : List SiteValue) → IsWithin has since now site → IsWithin has since (now + time_of e) site
+  later since e has within = passes has site since now (now + time_of e) (omega arith) within
+
+  keeps : (since : List Acceptance) (new : List SiteValue) → ((x : Acceptance) → Contains since x → Contains old x) → Keeps its new → IsWithin its since now site → IsWithin new since now site
+  keeps since new sub (inl same) within = subst (λ (has : List SiteValue). IsWithin has since now site) (sym same) within
+  keeps since new sub (inr more) within = widens its new site since now (λ x has. since_signs o T legal server x (sub x has)) more within
 
   accepts : (a : Arrival) (named : ℕ) (router : RouterId) (key nonce : ℕ) (datagram : Option ℕ) → IsAccepted (context_of o T s) a named router key nonce datagram
-      → IsWithin o.config (if named == server then acceptances_in (Some a) now ++ old else old) now site
+      → IsWithin its (if named == server then acceptances_in (Some a) now ++ old else old) now site
   accepts a named router key nonce datagram row = either (cases_eq named server)
     where
-      taken : named ≡ server → IsWithin o.config (record { message = row.message; from = a.from; moment = now } ∷ old) now site
-      taken is = one_more o.config site row.message a.from now old was
-          (subst (λ (node : ℕ). Fits (most_routers_at o.config.sites row.message.site) (most_rows_at o.config.sites row.message.site) row.message.site (held_rows (since_start o T node) now) (held_rows (record { message = row.message; from = a.from; moment = now } ∷ since_start o T node) now)) (row.acts.acts ∙ is) row.space)
+      taken : named ≡ server → IsWithin its (record { message = row.message; from = a.from; moment = now } ∷ old) now site
+      taken is = one_more its site row.message a.from now old was
+          (subst (λ (node : ℕ). Fits (most_routers_at (sites o T node) row.message.site) (most_rows_at (sites o T node) row.message.site) row.message.site (held_rows (since_start o T node) now) (held_rows (record { message = row.message; from = a.from; moment = now } ∷ since_start o T node) now)) (row.acts.acts ∙ is) row.space)
 
-      either : (named ≡ server) ⊎ (named ≢ server) → IsWithin o.config (if named == server then acceptances_in (Some a) now ++ old else old) now site
-      either (inl is) = subst (λ (b : Bool). IsWithin o.config (if b then acceptances_in (Some a) now ++ old else old) now site) (sym (ap (λ (n : ℕ). n == server) is ∙ same_number server))
-          (subst (λ (new : List Acceptance). IsWithin o.config (new ++ old) now site) (sym (taken_one a now row.message row.admits.read)) (taken is))
-      either (inr differ) = subst (λ (since : List Acceptance). IsWithin o.config since now site) (sym (unless named server (acceptances_in (Some a) now ++ old) old differ)) was
+      either : (named ≡ server) ⊎ (named ≢ server) → IsWithin its (if named == server then acceptances_in (Some a) now ++ old else old) now site
+      either (inl is) = subst (λ (b : Bool). IsWithin its (if b then acceptances_in (Some a) now ++ old else old) now site) (sym (ap (λ (n : ℕ). n == server) is ∙ same_number server))
+          (subst (λ (new : List Acceptance). IsWithin its (new ++ old) now site) (sym (taken_one a now row.message row.admits.read)) (taken is))
+      either (inr differ) = subst (λ (since : List Acceptance). IsWithin its since now site) (sym (unless named server (acceptances_in (Some a) now ++ old) old differ)) was
 
-  restarts : (named : ℕ) → IsWithin o.config (if named == server then [] else old) now site
+  restarts : (named : ℕ) → IsWithin its (if named == server then [] else old) now site
   restarts named = by (named == server)
     where
-      by : (b : Bool) → IsWithin o.config (if b then [] else old) now site
-      by true = none_within o.config site now
+      by : (b : Bool) → IsWithin its (if b then [] else old) now site
+      by true = none_within its site now
       by false = was
 
-  within_after : (e : EventValue) (line : Line) → MayCome (context_of o T s) e line → IsWithin o.config (since_start_after line (acceptances_in (arrival_in (bag o T) e) now) server old) (now + time_of e) site
-  within_after (events.Deliver k fate) (lines.Accepted named router key nonce datagram) row = later _ (events.Deliver k fate)
-      (subst (λ (a : Option Arrival). IsWithin o.config (if named == server then acceptances_in a now ++ old else old) now site) (sym (ap (option_map arrival_of) row.sent)) (accepts (arrival_of row.item) named router key nonce datagram row.arrives))
-  within_after (events.Junk to from bytes) (lines.Accepted named router key nonce datagram) row = later _ (events.Junk to from bytes) (accepts (junk_arrival from bytes) named router key nonce datagram row.arrives)
-  within_after e (lines.Accepted named router key nonce datagram) row = absurd row
-  within_after e (lines.Restarted named) row = later _ e (restarts named)
-  within_after e _ row = later old e was
+  renews : (named : ℕ) (new : List SiteValue) → Keeps its new ⊎ (named ≡ server) → IsWithin new (if named == server then [] else old) now site
+  renews named new (inl kept) = by (named == server)
+    where
+      by : (b : Bool) → IsWithin new (if b then [] else old) now site
+      by true = none_within new site now
+      by false = keeps old new (λ x has. has) kept was
+  renews named new (inr is) = subst (λ (b : Bool). IsWithin new (if b then [] else old) now site) (sym (ap (λ (n : ℕ). n == server) is ∙ same_number server)) (none_within new site now)
+
+  within_after : (e : EventValue) (line : Line) → MayCome (context_of o T s) e line → Keeps its (sites_after e server its) ⊎ Renews line server
+      → IsWithin (sites_after e server its) (since_start_after line (acceptances_in (arrival_in (bag o T) e) now) server old) (now + time_of e) site
+  within_after (events.Deliver k fate) (lines.Accepted named router key nonce datagram) row kept = later _ (events.Deliver k fate) its
+      (subst (λ (a : Option Arrival). IsWithin its (if named == server then acceptances_in a now ++ old else old) now site) (sym (ap (option_map arrival_of) row.sent)) (accepts (arrival_of row.item) named router key nonce datagram row.arrives))
+  within_after (events.Junk to from bytes) (lines.Accepted named router key nonce datagram) row kept = later _ (events.Junk to from bytes) its (accepts (junk_arrival from bytes) named router key nonce datagram row.arrives)
+  within_after e (lines.Accepted named router key nonce datagram) row kept = absurd row
+  within_after (events.Restart node pick db) (lines.Restarted named) row kept = later _ (events.Restart node pick db) its (restarts named)
+  within_after (events.Deliver k fate) (lines.Restarted named) row kept = absurd row.arrives
+  within_after (events.Junk to from bytes) (lines.Restarted named) row kept = absurd row.arrives
+  within_after e (lines.Restarted named) row kept = absurd row
+  within_after e (lines.Renewed named count) row kept = later _ e (sites_after e server its) (renews named (sites_after e server its) kept)
+  within_after e line row (inl kept) = later old e (sites_after e server its) (keeps old (sites_after e server its) (λ x has. has) kept was)
+  within_after e line row (inr renewed) = absurd renewed
 
 pub sites_stay_within : (o : Opening) (T : List Step) → LegalTrace o T → SitesStayWithin o T
-sites_stay_within o [] legal server site = none_within o.config site 0
-sites_stay_within o (s ∷ T) legal server site = within_after o T s server site (sites_stay_within o T legal.1 server site) s.event s.line legal.0.row
+sites_stay_within o [] legal server site = none_within o.config.sites site 0
+sites_stay_within o (s ∷ T) legal server site = within_after o T legal.1 s server site (sites_stay_within o T legal.1 server site) s.event s.line legal.0.row (sites_step o T s s.event s.line legal.0.row server)

@@ -4,12 +4,13 @@ use Rattle.std.specs.Prelude.{◌≢◌, ◌==◌, ◌&&◌, if◌then◌else◌
 use Rattle.std.proofs.lemmas.Bool.Decides.{Decides-eqb}
 use Rattle.lisp_records.specs.Record.{MapRecordValue}
 use Rattle.lisp_policy.specs.Configuration.{ConfigValue}
+use Rattle.lisp_policy.specs.Site.{SiteValue}
 use Rattle.lisp_model.specs.declared.event.Event.TheVariants as events
 use Rattle.lisp_model.specs.declared.line.Line.{Line}
 use Rattle.lisp_model.specs.declared.line.Line.TheVariants as lines
 use Rattle.lisp_model.specs.declared.refusal.Refusal.TheVariants as refusals
 use Rattle.lisp_admission.specs.declared.refused.Refused.TheVariants as refuseds
-use Rattle.lisp_model.specs.Trace.{EventValue, Step, Opening, shown_store, clock, time_of, up_after, key_after, database_after}
+use Rattle.lisp_model.specs.Trace.{EventValue, Step, Opening, shown_store, clock, time_of, up_after, key_after, sites_after, database_after}
 use Rattle.lisp_model.specs.Keys.{keys_since_loss_after, keys_before_loss_after}
 use Rattle.lisp_model.specs.Held.{Acceptance}
 use Rattle.lisp_model.specs.Timers.{RoundTimes, Notice, round_after, notices_after, last_notice_after}
@@ -72,14 +73,17 @@ by_actor t (events.Notice server router fate) (lines.Notice s r key nonce datagr
 by_actor t (events.Notice server router fate) (lines.Refused named (refusals.Notice why)) row = row.0 ∙ sym row.1.acts
 by_actor t (events.Resend server router) (lines.Resent s r datagram) row = row.0 ∙ sym row.2.acts.acts
 by_actor t (events.Resend server router) (lines.Refused named (refusals.Notice why)) row = row.0 ∙ sym row.1.acts
+by_actor t (events.Reload server new) (lines.Reloaded named count) row = row.names ∙ sym row.acts.acts
+by_actor t (events.Reload server new) (lines.Renewed named count) row = row.names ∙ sym row.acts.acts
 by_actor t _ _ row = absurd row
 
--- and so does its event, where it gives a database or a key
+-- and so does its event, where it gives a database, a key or sites
 abbrev pub GivenBy : EventValue → Line → ℕ → Type 0
 GivenBy (events.Change router _) (lines.Changed _ _) node = router ≡ node
 GivenBy (events.Restart named _ _) _ node = named ≡ node
 GivenBy (events.Rotate router _ _) _ node = router ≡ node
 GivenBy (events.Lose router _ _) _ node = router ≡ node
+GivenBy (events.Reload server _) _ node = server ≡ node
 GivenBy _ _ node = Unit {0}
 
 pub given_by : (t : Context) (e : EventValue) (line : Line) → MayCome t e line → GivenBy e line t.node
@@ -95,6 +99,9 @@ given_by t (events.Change router db) _ row = tt
 given_by t (events.Restart node pick db) _ row = absurd row
 given_by t (events.Rotate router key fate) _ row = absurd row
 given_by t (events.Lose router key db) _ row = absurd row
+given_by t (events.Reload server new) (lines.Reloaded named count) row = sym row.acts.acts
+given_by t (events.Reload server new) (lines.Renewed named count) row = sym row.acts.acts
+given_by t (events.Reload server new) _ row = absurd row
 given_by t _ _ row = tt
 
 module _ (node k : ℕ) (other : k ≢ node) where
@@ -104,6 +111,7 @@ module _ (node k : ℕ) (other : k ≢ node) where
   pub since_other : (line : Line) → IsBy line node → (new old : List Acceptance) → since_start_after line new k old ≡ old
   since_other (lines.Accepted server _ _ _ _) is new old = unless server k (new ++ old) old (differs server is)
   since_other (lines.Restarted named) is new old = unless named k [] old (differs named is)
+  since_other (lines.Renewed server _) is new old = unless server k [] old (differs server is)
   since_other _ is new old = refl
 
   pub accepted_other : (line : Line) → IsBy line node → (new old : List Acceptance) → acceptances_after line new k old ≡ old
@@ -120,15 +128,18 @@ module _ (node k : ℕ) (other : k ≢ node) where
   notices_other c (lines.Resent server _ _) is now old = unless server k _ old (differs server is)
   notices_other c (lines.Done server _ _) is now old = unless server k _ old (differs server is)
   notices_other c (lines.Restarted named) is now old = unless named k _ old (differs named is)
+  notices_other c (lines.Renewed server _) is now old = unless server k _ old (differs server is)
   notices_other c _ is now old = refl
 
   pub last_notice_other : (line : Line) → IsBy line node → (old : Option ℕ) → last_notice_after line k old ≡ old
   last_notice_other (lines.Notice server _ _ nonce _) is old = unless server k (Some nonce) old (differs server is)
   last_notice_other (lines.Restarted named) is old = unless named k None old (differs named is)
+  last_notice_other (lines.Renewed server _) is old = unless server k None old (differs server is)
   last_notice_other _ is old = refl
 
   pub began_other : (line : Line) → IsBy line node → (now old : ℕ) → began_after line now k old ≡ old
   began_other (lines.Restarted named) is now old = unless named k now old (differs named is)
+  began_other (lines.Renewed server _) is now old = unless server k now old (differs server is)
   began_other _ is now old = refl
 
   pub up_other : (e : EventValue) (line : Line) → IsBy line node → (old : Bool) → up_after e line k old ≡ old
@@ -148,6 +159,10 @@ module _ (node k : ℕ) (other : k ≢ node) where
   key_other (events.Rotate router key _) (lines.Rotated _ _) is old = unless router k key old (differs router is)
   key_other (events.Lose router key _) _ is old = unless router k key old (differs router is)
   key_other _ _ is old = refl
+
+  pub sites_other : (e : EventValue) (line : Line) → GivenBy e line node → (old : List SiteValue) → sites_after e k old ≡ old
+  sites_other (events.Reload server new) _ is old = unless server k new old (differs server is)
+  sites_other _ _ is old = refl
 
   pub since_loss_other : (e : EventValue) (line : Line) → GivenBy e line node → (old : List ℕ) → keys_since_loss_after e line k old ≡ old
   since_loss_other (events.Rotate router key _) (lines.Rotated _ _) is old = unless router k (key ∷ old) old (differs router is)
@@ -210,6 +225,7 @@ leaves_others o T s l =
         notices = notices_other s.actor k other o.config s.line by _ _;
         last_notice = last_notice_other s.actor k other s.line by _;
         began = began_other s.actor k other s.line by _ _;
+        sites = sites_other s.actor k other s.event s.line given _;
       };
       router = λ k kind other. record {
         shown = unless s.actor k s.shown (shown_store o T k) (differs s.actor k other s.actor refl);

@@ -32,7 +32,7 @@ use Rattle.lisp_model.specs.declared.refusal.Refusal.TheVariants as refusals
 use Rattle.lisp_model.specs.Trace.{EventValue, Step, Opening, is_up, is_server, is_router, is_listed}
 use Rattle.lisp_model.specs.Timers.{Notice}
 use Rattle.lisp_model.specs.Bag.{Item, Arrival, arrival_of, arrival_in, junk_arrival, bag}
-use Rattle.lisp_model.specs.Context.{Context, values, IsBase}
+use Rattle.lisp_model.specs.Context.{Context, its_sites, values, IsBase}
 use Rattle.lisp_model.specs.Sending.{CountsFrom, HasPart, pair_at, last_sent, start_values, RefusesToSend}
 use Rattle.lisp_model.specs.Receiving.{Admits, HasSpace, LacksSpace, rows_before, rows_with, last_in, awaiting, has_tag_for, RefusesMessage, RefusesAck, FailsNotify, FailsCheck}
 use Rattle.lisp_model.specs.Legal.{MayCome, Arrives, Legal, LegalTrace, context_of}
@@ -75,7 +75,7 @@ module _ (t : Context) (reached_here : is_up t.past t.node ≡ true → Reached 
 
 -- a Map-Register that passes all checks with a fresh nonce
 module _ (t : Context) (kind : is_server t.opening.config t.node ≡ true) (a : Arrival) where
-  module _ (m : MapRegisterValue) (admits : Admits t a m) (above : Follows (most_jump_at t.opening.config.sites m.site) (last_in t (pair_of m)) (values t (pair_of m)) m.nonce) (space : HasSpace t a m) where
+  module _ (m : MapRegisterValue) (admits : Admits t a m) (above : Follows (most_jump_at (its_sites t) m.site) (last_in t (pair_of m)) (values t (pair_of m)) m.nonce) (space : HasSpace t a m) where
     same_register : (x : MapRegisterValue) → a.read ≡ Ok (Registers x) → m ≡ x
     same_register x read = let both : ◌≡◌ {A = Result MessageValue ReadFault} (Ok (Registers m)) (Ok (Registers x)) = sym admits.read ∙ read in cc
 
@@ -99,15 +99,15 @@ module _ (t : Context) (kind : is_server t.opening.config t.node ≡ true) (a : 
 
     accept_or_excused : (named : ℕ) (why : Refused) → RefusesMessage t a why → IsExcused t (lines.Refused named (refusals.Receive why))
     accept_or_excused named (refuseds.StoreLoad fault) row = row.fails.cause
-    accept_or_excused named (refuseds.Replay saved) row = absurd (not_stale (most_jump_at t.opening.config.sites m.site) (last_in t (pair_of m)) (values t (pair_of m)) m.nonce saved above
+    accept_or_excused named (refuseds.Replay saved) row = absurd (not_stale (most_jump_at (its_sites t) m.site) (last_in t (pair_of m)) (values t (pair_of m)) m.nonce saved above
         (subst (λ (x : MapRegisterValue). IsBase (last_in t (pair_of x)) (values t (pair_of x)) (Some saved)) (sym (same_register row.message row.admits.read)) row.counts)
         (subst (λ (x : MapRegisterValue). x.nonce ≤ saved) (sym (same_register row.message row.admits.read)) row.stale))
-    accept_or_excused named (refuseds.Jump site saved) row = absurd (not_far (most_jump_at t.opening.config.sites m.site) (last_in t (pair_of m)) (values t (pair_of m)) m.nonce saved above
+    accept_or_excused named (refuseds.Jump site saved) row = absurd (not_far (most_jump_at (its_sites t) m.site) (last_in t (pair_of m)) (values t (pair_of m)) m.nonce saved above
         (subst (λ (x : MapRegisterValue). IsBase (last_in t (pair_of x)) (values t (pair_of x)) (Some saved)) (sym (same_register row.message row.admits.read)) row.counts)
-        (subst (λ (x : MapRegisterValue). IsFar (most_jump_at t.opening.config.sites x.site) saved x.nonce) (sym (same_register row.message row.admits.read)) row.far))
+        (subst (λ (x : MapRegisterValue). IsFar (most_jump_at (its_sites t) x.site) saved x.nonce) (sym (same_register row.message row.admits.read)) row.far))
     accept_or_excused named (refuseds.Full site full) row =
         let same = sym (same_register row.message row.admits.read) in
-        absurd (full_or_fits (most_routers_at t.opening.config.sites m.site) (most_rows_at t.opening.config.sites m.site) m.site (rows_before t) (rows_with t a m) full space (subst (λ (x : MapRegisterValue). LacksSpace t a x full) same row.lacks))
+        absurd (full_or_fits (most_routers_at (its_sites t) m.site) (most_rows_at (its_sites t) m.site) m.site (rows_before t) (rows_with t a m) full space (subst (λ (x : MapRegisterValue). LacksSpace t a x full) same row.lacks))
     accept_or_excused named refuseds.OutOfMemory row = λ other. absurd (other refl)
     accept_or_excused named (refuseds.StoreSave fault) row = row.fails.cause
     accept_or_excused named _ row = absurd (passes_no_check _ a.read admits.read row.0)

@@ -82,6 +82,11 @@ module _ (o : Opening) where
       at : (b : Bool) → Known (if b then [] else old) nonces
       at true x has = absurd (in_none x has)
       at false x has = known x has
+  known_case (lines.Renewed server _) now k old nonces known = at (server == k)
+    where
+      at : (b : Bool) → Known (if b then [] else old) nonces
+      at true x has = absurd (in_none x has)
+      at false x has = known x has
   known_case _ now k old nonces known = known
 
   known_nonces : (T : List Step) (k : ℕ) → Known (notices o T k) (notice_nonces T k)
@@ -118,6 +123,11 @@ module _ (o : Opening) where
       at true m n has_m has_n same = differ m n (was m has_m) (was n has_n) same
       at false m n has_m has_n same = differ m n has_m has_n same
   differ_case (lines.Restarted node) now k old nonces known falls differ = at (node == k)
+    where
+      at : (b : Bool) → Differ (if b then [] else old)
+      at true m n has_m has_n same = absurd (in_none m has_m)
+      at false m n has_m has_n same = differ m n has_m has_n same
+  differ_case (lines.Renewed server _) now k old nonces known falls differ = at (server == k)
     where
       at : (b : Bool) → Differ (if b then [] else old)
       at true m n has_m has_n same = absurd (in_none m has_m)

@@ -1,37 +1,33 @@
 -- Over a clean trace each notice that stands went to where its router was heard, under a secret that the server holds.
-use Rattle.std.proofs.Common.{◌≡◌, ℕ, zero, suc, Bool, true, false, cond, List, [], ◌∷◌, ◌++◌, length, map, Option, Some, None, Ok, sym, ap, subst, inl, inr, ◌∙◌}
+use Rattle.std.proofs.Common.{◌≡◌, ℕ, zero, suc, Bool, true, false, cond, List, [], ◌∷◌, ◌++◌, length, map, Option, Some, None, refl, sym, ap, subst, inl, inr, ◌∙◌}
 use Rattle.std.specs.Prelude.{◌≢◌, ◌⊎◌, ◌==◌, not, if◌then◌else◌, slice_get}
-use Rattle.std.specs.List.{AllPairs, Contains, filter, flat_map}
-use Rattle.std.specs.Option.{option_map, option_to_list, unwrap_or}
-use Rattle.std.proofs.lemmas.List.Elements.{Contains-append_cases}
-use Rattle.lisp_records.specs.declared.address.Addr.{Addr}
+use Rattle.std.specs.List.{AllPairs, Contains, filter}
+use Rattle.std.specs.Option.{option_map, option_to_list}
 use Rattle.lisp_records.specs.declared.router.RouterId.{RouterId}
+use Rattle.std.proofs.lemmas.Bool.Decides.{Decides-eqb}
 use Rattle.lisp_records.specs.Router.{router_eq}
 use Rattle.lisp_records.proofs.RouterLaws.{router_eq-Decides}
-use Rattle.lisp_policy.specs.Configuration.{ConfigValue}
-use Rattle.lisp_messages.specs.Message.{MapRegisterValue}
-use Rattle.lisp_admission.specs.Checks.{secret_under}
-use Rattle.lisp_admission.proofs.Secrets.{stands_under, its_secret}
+use Rattle.lisp_policy.specs.Site.{SiteValue}
 use Rattle.lisp_admission.specs.Pairs.{router_of}
 use Rattle.lisp_model.specs.declared.event.Event.TheVariants as events
 use Rattle.lisp_model.specs.declared.line.Line.{Line}
 use Rattle.lisp_model.specs.declared.line.Line.TheVariants as lines
-use Rattle.lisp_model.specs.Trace.{EventValue, Step, Opening, ShownStore, addresses, address_at, is_router, router_at, secret_at, clock}
+use Rattle.lisp_model.specs.Trace.{EventValue, Step, Opening, ShownStore, addresses, address_at, is_router, router_at, sites, sites_after, clock}
 use Rattle.lisp_model.specs.Held.{Acceptance, heard_last}
 use Rattle.lisp_model.specs.Timers.{Notice, notices, notices_after, notices_to_others, resent_at}
-use Rattle.lisp_model.specs.Bag.{Item, Arrival, arrival_in, acceptances_in, notice_item, items_added, past, bag, since_start}
-use Rattle.lisp_model.specs.Accepted.{acceptances, acceptances_after}
-use Rattle.lisp_model.specs.Clean.{IsHarmless, Clean}
+use Rattle.lisp_model.specs.Bag.{Item, arrival_in, notice_item, items_added, past, bag, since_start}
+use Rattle.lisp_model.specs.Clean.{Clean}
 use Rattle.lisp_model.specs.Legal.{MayCome, LegalTrace, context_of}
-use Rattle.lisp_model.proofs.ArrivalLemmas.{comes}
 use Rattle.lisp_model.proofs.ChangeLemmas.{get_last}
-use Rattle.lisp_model.proofs.CleanLemmas.{in_find, in_flat_map, from_map, secret_in}
+use Rattle.lisp_model.proofs.CleanLemmas.{in_find, from_map}
 use Rattle.lisp_model.proofs.HearingLemmas.{find_true}
 use Rattle.lisp_model.proofs.HeldLaws.{since_accepted}
 use Rattle.lisp_model.proofs.ListLemmas.{at_head, in_tail, head_or_tail, in_none}
 use Rattle.lisp_model.proofs.OriginLaws.{were_sent}
-use Rattle.lisp_model.proofs.Origins.{ReadsBack, all_from, one_taken}
-use Rattle.lisp_model.proofs.ReplyOrigins.{entry_is, all_known}
+use Rattle.lisp_model.proofs.Origins.{ReadsBack}
+use Rattle.lisp_model.proofs.ReplyOrigins.{entry_is}
+use Rattle.lisp_model.proofs.Locality.{same_number}
+use Rattle.lisp_model.proofs.SitesLemmas.{Signs, Keeps, Renews, signs_on, sites_step, since_signs}
 
 -- a longer list has the same items at the same places
 module _ {X : Type 0} where
@@ -55,38 +51,27 @@ module _ {X : Type 0} where
   in_filter p [] x has = has
   in_filter p (y ∷ ys) x has = filter_case y x ys (filter p ys) (p y) has (in_filter p ys x)
 
--- the secrets of all sites
-abbrev pub site_secrets : ConfigValue → List (List ℕ)
-site_secrets c = flat_map (λ s. map (λ k. k.secret) s.keys) c.sites
-
--- the secret of a checked message is one of them
-known_secret : (c : ConfigValue) (from : Addr) (bytes : List ℕ) (m : MapRegisterValue) (key : List ℕ) → secret_under c.sites from bytes m ≡ Ok key → Contains (site_secrets c) (secret_at c.sites m.site m.key_id)
-known_secret c from bytes m key e =
-    let its = stands_under c.sites from bytes m key e in
-    subst (λ (found : Option (List ℕ)). Contains (site_secrets c) (unwrap_or found [])) (sym (its_secret c.sites from bytes m key e))
-    (in_flat_map (λ s. map (λ k. k.secret) s.keys) c.sites its.site key (in_find (λ s. s.id == m.site) c.sites its.site its.found) (secret_in its.site m.key_id key its.known))
-
--- a notice went to where its router was heard
-pub record WentOut (o : Opening) (items : List Item) (x : Notice) : Type 0 where
+-- a notice went to where its router was heard, whose site has its key
+pub record WentOut (o : Opening) (has : List SiteValue) (items : List Item) (x : Notice) : Type 0 where
   pub item : Item
   pub place : slice_get items x.datagram ≡ Some item
   pub router : ℕ
   pub kind : is_router o.config router ≡ true
   pub to : item.to ≡ address_at o.config router
   pub same : (router_at o.config router).me ≡ x.router
-  pub known : Contains (site_secrets o.config) (secret_at o.config.sites x.router.site x.key)
+  pub signs : Signs has x.router.site x.key
 
-abbrev pub AllWentOut : Opening → List Item → List Notice → Type 0
-AllWentOut o items notices = (x : Notice) → Contains notices x → WentOut o items x
+abbrev pub AllWentOut : Opening → List SiteValue → List Item → List Notice → Type 0
+AllWentOut o has items notices = (x : Notice) → Contains notices x → WentOut o has items x
 
-later_out : (o : Opening) (items more : List Item) (x : Notice) → WentOut o items x → WentOut o (items ++ more) x
-later_out o items more x w = record { item = w.item; place = get_more items more x.datagram w.item w.place; router = w.router; kind = w.kind; to = w.to; same = w.same; known = w.known }
+later_out : (o : Opening) (old new : List SiteValue) → Keeps old new → (items more : List Item) (x : Notice) → WentOut o old items x → WentOut o new (items ++ more) x
+later_out o old new keeps items more x w = record { item = w.item; place = get_more items more x.datagram w.item w.place; router = w.router; kind = w.kind; to = w.to; same = w.same; signs = signs_on old new x.router.site x.key keeps w.signs }
 
-again_out : (o : Opening) (items : List Item) (router : RouterId) (now : ℕ) (x : Notice) → WentOut o items x → WentOut o items (resent_at router now x)
-again_out o items router now x w = at (router_eq x.router router)
+again_out : (o : Opening) (has : List SiteValue) (items : List Item) (router : RouterId) (now : ℕ) (x : Notice) → WentOut o has items x → WentOut o has items (resent_at router now x)
+again_out o has items router now x w = at (router_eq x.router router)
   where
-    at : (b : Bool) → WentOut o items (if b then record x { moments = now ∷ x.moments } else x)
-    at true = record { item = w.item; place = w.place; router = w.router; kind = w.kind; to = w.to; same = w.same; known = w.known }
+    at : (b : Bool) → WentOut o has items (if b then record x { moments = now ∷ x.moments } else x)
+    at true = record { item = w.item; place = w.place; router = w.router; kind = w.kind; to = w.to; same = w.same; signs = w.signs }
     at false = w
 
 -- a notice that goes out
@@ -107,40 +92,16 @@ announces o T actor after (events.Restart _ _ _) server router key nonce datagra
 announces o T actor after (events.Rotate _ _ _) server router key nonce datagram row = absurd row
 announces o T actor after (events.Lose _ _ _) server router key nonce datagram row = absurd row
 announces o T actor after (events.Resend _ _) server router key nonce datagram row = absurd row
+announces o T actor after (events.Reload _ _) server router key nonce datagram row = absurd row
 
 module _ (o : Opening) (distinct : AllPairs (λ a b. a ≢ b) (addresses o.config)) (reads : ReadsBack) where
-  -- an accepted message was checked under a secret of its site
-  known_case : (T : List Step) → LegalTrace o T → Clean o T → (s : Step) → IsHarmless o T s.event → (line : Line) → MayCome (context_of o T s) s.event line → (k : ℕ) (x : Acceptance)
-      → Contains (acceptances_after line (acceptances_in (arrival_in (bag o T) s.event) (clock T)) k (acceptances o T k)) x → (Contains (acceptances o T k) x → Contains (site_secrets o.config) (secret_at o.config.sites x.message.site x.message.key_id)) → Contains (site_secrets o.config) (secret_at o.config.sites x.message.site x.message.key_id)
-  known_case T legal clean s harmless (lines.Accepted server router key nonce datagram) row k x has old = at (server == k) has
-    where
-      new : Contains (acceptances_in (arrival_in (bag o T) s.event) (clock T)) x → Contains (site_secrets o.config) (secret_at o.config.sites x.message.site x.message.key_id)
-      new one =
-          let all = all_known o distinct reads T legal clean in
-          let c = comes o T reads (all_from o T legal) (λ i in_it n is. (all i in_it n is).below) s.actor s.event (lines.Accepted server router key nonce datagram) s.shown tt harmless row in
-          let is = one_taken c.arrival (clock T) c.row.message c.row.admits.read x (subst (λ (a : Option Arrival). Contains (acceptances_in a (clock T)) x) c.is one) in
-          subst (λ (m : MapRegisterValue). Contains (site_secrets o.config) (secret_at o.config.sites m.site m.key_id)) (sym (ap (λ (y : Acceptance). y.message) is)) (known_secret o.config c.arrival.from c.arrival.bytes c.row.message c.row.admits.secret c.row.admits.checks)
-
-      at : (b : Bool) → Contains (if b then acceptances_in (arrival_in (bag o T) s.event) (clock T) ++ acceptances o T k else acceptances o T k) x → Contains (site_secrets o.config) (secret_at o.config.sites x.message.site x.message.key_id)
-      at false has = old has
-      at true has = both (Contains-append_cases (acceptances_in (arrival_in (bag o T) s.event) (clock T)) (acceptances o T k) x has)
-        where
-          both : Contains (acceptances_in (arrival_in (bag o T) s.event) (clock T)) x ⊎ Contains (acceptances o T k) x → Contains (site_secrets o.config) (secret_at o.config.sites x.message.site x.message.key_id)
-          both (inl one) = new one
-          both (inr before) = old before
-  known_case T legal clean s harmless _ row k x has old = old has
-
-  accepted_known : (T : List Step) → LegalTrace o T → Clean o T → (k : ℕ) (x : Acceptance) → Contains (acceptances o T k) x → Contains (site_secrets o.config) (secret_at o.config.sites x.message.site x.message.key_id)
-  accepted_known [] legal clean k x has = absurd (in_none x has)
-  accepted_known (s ∷ T) legal clean k x has = known_case T legal.1 clean.1 s clean.0 s.line legal.0.row k x has (accepted_known T legal.1 clean.1 k x)
-
   module _ (T : List Step) (legal : LegalTrace o T) (clean : Clean o T) where
     announced : (server router key nonce datagram now : ℕ) → Announces o T server router key datagram
-        → WentOut o (bag o T ++ option_to_list (option_map (notice_item o T (since_start o T server) server router key nonce) (heard_last (router_at o.config router).me (since_start o T server)))) (record { router = (router_at o.config router).me; key = key; nonce = nonce; datagram = datagram; moments = now ∷ [] })
+        → WentOut o (sites o T server) (bag o T ++ option_to_list (option_map (notice_item o T (since_start o T server) server router key nonce) (heard_last (router_at o.config router).me (since_start o T server)))) (record { router = (router_at o.config router).me; key = key; nonce = nonce; datagram = datagram; moments = now ∷ [] })
     announced server router key nonce datagram now a =
         let me : RouterId = (router_at o.config router).me in
-        let its = since_accepted o T server a.last (in_find (λ x. router_eq (router_of x.message) me) (since_start o T server) a.last a.heard) in
-        let w = were_sent o distinct reads T legal clean server a.last its in
+        let heard = in_find (λ x. router_eq (router_of x.message) me) (since_start o T server) a.last a.heard in
+        let w = were_sent o distinct reads T legal clean server a.last (since_accepted o T server a.last heard) in
         let e = entry_is o T legal w.entry w.sent in
         let named : router_of a.last.message ≡ me = (router_eq-Decides (router_of a.last.message) me).0 (find_true (λ x. router_eq (router_of x.message) me) (since_start o T server) a.last a.heard) in
         record {
@@ -150,50 +111,65 @@ module _ (o : Opening) (distinct : AllPairs (λ a b. a ≢ b) (addresses o.confi
           kind = e.kind;
           to = w.from;
           same = sym (ap router_of w.message) ∙ named;
-          known = subst (λ (k : ℕ). Contains (site_secrets o.config) (secret_at o.config.sites me.site k)) (sym a.under) (subst (λ (r : RouterId). Contains (site_secrets o.config) (secret_at o.config.sites r.site a.last.message.key_id)) named (accepted_known T legal clean server a.last its));
+          signs = subst (λ (k : ℕ). Signs (sites o T server) me.site k) (sym a.under) (subst (λ (r : RouterId). Signs (sites o T server) r.site a.last.message.key_id) named (since_signs o T legal server a.last heard));
         }
 
-    out_case : (s : Step) (line : Line) → MayCome (context_of o T s) s.event line → (k : ℕ) → AllWentOut o (bag o T) (notices o T k)
-        → AllWentOut o (bag o T ++ items_added o T (past o T) (arrival_in (bag o T) s.event) line) (notices_after o.config line (clock T) k (notices o T k))
-    out_case s (lines.Notice server router key nonce datagram) row k old x has = at (server == k) has
-      where
-        one : Notice
-        one = record { router = (router_at o.config router).me; key = key; nonce = nonce; datagram = datagram; moments = clock T ∷ [] }
+    module _ (s : Step) (k : ℕ) (old : AllWentOut o (sites o T k) (bag o T) (notices o T k)) where
+      abbrev after : List SiteValue
+      after = sites_after s.event k (sites o T k)
 
-        items : List Item
-        items = items_added o T (past o T) (arrival_in (bag o T) s.event) (lines.Notice server router key nonce datagram)
+      out_case : (line : Line) → MayCome (context_of o T s) s.event line → Keeps (sites o T k) after ⊎ Renews line k
+          → AllWentOut o after (bag o T ++ items_added o T (past o T) (arrival_in (bag o T) s.event) line) (notices_after o.config line (clock T) k (notices o T k))
+      out_case (lines.Notice server router key nonce datagram) row (inl keeps) x has = at (server == k) refl has
+        where
+          one : Notice
+          one = record { router = (router_at o.config router).me; key = key; nonce = nonce; datagram = datagram; moments = clock T ∷ [] }
 
-        new : WentOut o (bag o T ++ items) one
-        new = announced server router key nonce datagram (clock T) (announces o T s.actor s.shown s.event server router key nonce datagram row)
+          items : List Item
+          items = items_added o T (past o T) (arrival_in (bag o T) s.event) (lines.Notice server router key nonce datagram)
 
-        at : (b : Bool) → Contains (if b then one ∷ notices_to_others (router_at o.config router).me (notices o T k) else notices o T k) x → WentOut o (bag o T ++ items) x
-        at false has = later_out o (bag o T) items x (old x has)
-        at true has = both (head_or_tail one (notices_to_others (router_at o.config router).me (notices o T k)) x has)
-          where
-            both : (x ≡ one) ⊎ Contains (notices_to_others (router_at o.config router).me (notices o T k)) x → WentOut o (bag o T ++ items) x
-            both (inl same) = subst (WentOut o (bag o T ++ items)) (sym same) new
-            both (inr more) = later_out o (bag o T) items x (old x (in_filter (λ n. not (router_eq n.router (router_at o.config router).me)) (notices o T k) x more))
-    out_case s (lines.Resent server router datagram) row k old x has = at (server == k) has
-      where
-        items : List Item
-        items = items_added o T (past o T) (arrival_in (bag o T) s.event) (lines.Resent server router datagram)
+          new : WentOut o (sites o T server) (bag o T ++ items) one
+          new = announced server router key nonce datagram (clock T) (announces o T s.actor s.shown s.event server router key nonce datagram row)
 
-        at : (b : Bool) → Contains (if b then map (resent_at (router_at o.config router).me (clock T)) (notices o T k) else notices o T k) x → WentOut o (bag o T ++ items) x
-        at false has = later_out o (bag o T) items x (old x has)
-        at true has = let found = from_map (resent_at (router_at o.config router).me (clock T)) (notices o T k) x has in
-            later_out o (bag o T) items x (subst (WentOut o (bag o T)) (sym found.2) (again_out o (bag o T) (router_at o.config router).me (clock T) found.0 (old found.0 found.1)))
-    out_case s (lines.Done server router nonce) row k old x has = later_out o (bag o T) [] x (at (server == k) has)
-      where
-        at : (b : Bool) → Contains (if b then notices_to_others router (notices o T k) else notices o T k) x → WentOut o (bag o T) x
-        at false has = old x has
-        at true has = old x (in_filter (λ n. not (router_eq n.router router)) (notices o T k) x has)
-    out_case s (lines.Restarted node) row k old x has = later_out o (bag o T) [] x (at (node == k) has)
-      where
-        at : (b : Bool) → Contains (if b then [] else notices o T k) x → WentOut o (bag o T) x
-        at false has = old x has
-        at true has = absurd (in_none x has)
-    out_case s line row k old x has = later_out o (bag o T) (items_added o T (past o T) (arrival_in (bag o T) s.event) line) x (old x has)
+          here : (server == k) ≡ true → WentOut o after (bag o T ++ items) one
+          here is = let w = subst (λ (n : ℕ). WentOut o (sites o T n) (bag o T ++ items) one) ((Decides-eqb server k).0 is) new in
+              record { item = w.item; place = w.place; router = w.router; kind = w.kind; to = w.to; same = w.same; signs = signs_on (sites o T k) after one.router.site one.key keeps w.signs }
 
-  pub all_went_out : (T : List Step) → LegalTrace o T → Clean o T → (k : ℕ) → AllWentOut o (bag o T) (notices o T k)
+          at : (b : Bool) → (server == k) ≡ b → Contains (if b then one ∷ notices_to_others (router_at o.config router).me (notices o T k) else notices o T k) x → WentOut o after (bag o T ++ items) x
+          at false is has = later_out o (sites o T k) after keeps (bag o T) items x (old x has)
+          at true is has = both (head_or_tail one (notices_to_others (router_at o.config router).me (notices o T k)) x has)
+            where
+              both : (x ≡ one) ⊎ Contains (notices_to_others (router_at o.config router).me (notices o T k)) x → WentOut o after (bag o T ++ items) x
+              both (inl same) = subst (WentOut o after (bag o T ++ items)) (sym same) (here is)
+              both (inr more) = later_out o (sites o T k) after keeps (bag o T) items x (old x (in_filter (λ n. not (router_eq n.router (router_at o.config router).me)) (notices o T k) x more))
+      out_case (lines.Resent server router datagram) row (inl keeps) x has = at (server == k) has
+        where
+          items : List Item
+          items = items_added o T (past o T) (arrival_in (bag o T) s.event) (lines.Resent server router datagram)
+
+          at : (b : Bool) → Contains (if b then map (resent_at (router_at o.config router).me (clock T)) (notices o T k) else notices o T k) x → WentOut o after (bag o T ++ items) x
+          at false has = later_out o (sites o T k) after keeps (bag o T) items x (old x has)
+          at true has = let found = from_map (resent_at (router_at o.config router).me (clock T)) (notices o T k) x has in
+              later_out o (sites o T k) after keeps (bag o T) items x (subst (WentOut o (sites o T k) (bag o T)) (sym found.2) (again_out o (sites o T k) (bag o T) (router_at o.config router).me (clock T) found.0 (old found.0 found.1)))
+      out_case (lines.Done server router nonce) row (inl keeps) x has = later_out o (sites o T k) after keeps (bag o T) [] x (at (server == k) has)
+        where
+          at : (b : Bool) → Contains (if b then notices_to_others router (notices o T k) else notices o T k) x → WentOut o (sites o T k) (bag o T) x
+          at false has = old x has
+          at true has = old x (in_filter (λ n. not (router_eq n.router router)) (notices o T k) x has)
+      out_case (lines.Restarted node) row (inl keeps) x has = later_out o (sites o T k) after keeps (bag o T) [] x (at (node == k) has)
+        where
+          at : (b : Bool) → Contains (if b then [] else notices o T k) x → WentOut o (sites o T k) (bag o T) x
+          at false has = old x has
+          at true has = absurd (in_none x has)
+      out_case (lines.Renewed server count) row (inl keeps) x has = later_out o (sites o T k) after keeps (bag o T) [] x (at (server == k) has)
+        where
+          at : (b : Bool) → Contains (if b then [] else notices o T k) x → WentOut o (sites o T k) (bag o T) x
+          at false has = old x has
+          at true has = absurd (in_none x has)
+      out_case (lines.Renewed server count) row (inr renews) x has = absurd (in_none x (subst (λ (b : Bool). Contains (if b then [] else notices o T k) x) (ap (λ (n : ℕ). n == k) renews ∙ same_number k) has))
+      out_case line row (inl keeps) x has = later_out o (sites o T k) after keeps (bag o T) (items_added o T (past o T) (arrival_in (bag o T) s.event) line) x (old x has)
+      out_case line row (inr renews) x has = absurd renews
+
+  pub all_went_out : (T : List Step) → LegalTrace o T → Clean o T → (k : ℕ) → AllWentOut o (sites o T k) (bag o T) (notices o T k)
   all_went_out [] legal clean k x has = absurd (in_none x has)
-  all_went_out (s ∷ T) legal clean k x has = out_case T legal.1 clean.1 s s.line legal.0.row k (all_went_out T legal.1 clean.1 k) x has
+  all_went_out (s ∷ T) legal clean k x has = out_case T legal.1 clean.1 s k (all_went_out T legal.1 clean.1 k) s.line legal.0.row (sites_step o T s s.event s.line legal.0.row k) x has

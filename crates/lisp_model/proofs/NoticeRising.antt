@@ -197,6 +197,8 @@ module _ (t : Context) (its : is_server t.opening.config t.node ≡ true) (nonce
   row_safe (events.Notice server router fate) (lines.Refused named (refusals.Notice why)) row = tells_safe router why row.3
   row_safe (events.Resend server router) (lines.Resent s r datagram) row = quiet row.2.same
   row_safe (events.Resend server router) (lines.Refused named (refusals.Notice why)) row = repeats_safe router why row.3
+  row_safe (events.Reload server new) (lines.Reloaded named count) row = quiet row.same
+  row_safe (events.Reload server new) (lines.Renewed named count) row = restart_line named (row.names ∙ sym row.acts.acts) (forgets nonces (last_notice t.past t.node) (values t notice_pair) safe (values_after t notice_pair) (λ v has. subst (λ (kept : Kept). Contains (kept_at kept notice_pair) v) row.same has))
   row_safe _ _ row = absurd row
 
 -- another node's step

@@ -11,10 +11,11 @@ use Rattle.lisp_messages.specs.declared.fault.ReadFault.{ReadFault}
 use Rattle.lisp_messages.specs.Message.{MessageValue, MapRegisterValue, MapNotifyValue, IsMapRegister, IsMessage, Registers, Notifies}
 use Rattle.lisp_messages.specs.Reading.{message_at}
 use Rattle.lisp_etr.specs.Sending.{map_register_of}
+use Rattle.lisp_admission.specs.Checks.{secret_under}
 use Rattle.lisp_model.specs.declared.event.Event.TheVariants as events
 use Rattle.lisp_model.specs.declared.line.Line.{Line}
 use Rattle.lisp_model.specs.declared.line.Line.TheVariants as lines
-use Rattle.lisp_model.specs.Trace.{EventValue, Step, Opening, ShownStore, addresses, address_at, node_at, router_at, key as key_of, etr_config, etr_config_of, database, is_server, clock}
+use Rattle.lisp_model.specs.Trace.{EventValue, Step, Opening, ShownStore, addresses, address_at, node_at, router_at, key as key_of, etr_config, etr_config_of, sites, database, is_server, clock}
 use Rattle.lisp_model.specs.History.{SentRegister, sent_registers_in, history, message_of}
 use Rattle.lisp_model.specs.Held.{Acceptance, heard_last}
 use Rattle.lisp_model.specs.Timers.{Notice, notice_to}
@@ -82,8 +83,9 @@ module _ (o : Opening) (T : List Step) where
   posts node after (events.Lose _ _ _) (lines.Sent r s p key nonce datagram) row old a i has m is = absurd row
   posts node after (events.Notice _ _ _) (lines.Sent r s p key nonce datagram) row old a i has m is = absurd row
   posts node after (events.Resend _ _) (lines.Sent r s p key nonce datagram) row old a i has m is = absurd row
+  posts node after (events.Reload _ _) (lines.Sent r s p key nonce datagram) row old a i has m is = absurd row
   posts node after e (lines.Accepted server router key nonce None) row old a i has m is = absurd (in_none i has)
-  posts node after e (lines.Accepted server router key nonce (Some datagram)) row old a i has m is = let found = from_map (reply_item o.config server) (acceptances_in a (clock T)) i has in absurd (said_clash (sym (ap (λ (x : Item). x.message) found.2) ∙ is))
+  posts node after e (lines.Accepted server router key nonce (Some datagram)) row old a i has m is = let found = from_map (reply_item o.config (sites o T server) server) (acceptances_in a (clock T)) i has in absurd (said_clash (sym (ap (λ (x : Item). x.message) found.2) ∙ is))
   posts node after e (lines.Noticed router server nonce datagram) row old None i has m is = absurd (in_none i has)
   posts node after e (lines.Noticed router server nonce datagram) row old (Some a) i has m is = at (as_notify a.read) (in_option (option_map (ack_item o T router a) (as_notify a.read)) i has)
     where
@@ -182,8 +184,8 @@ module _ (o : Opening) (T : List Step) (distinct : AllPairs (λ a b. a ≢ b) (a
         only : x ≡ record { message = row.arrives.message; from = from; moment = clock T }
         only = one_taken (junk_arrival from bytes) (clock T) row.arrives.message row.arrives.admits.read x has
 
-        known : Checked o.config.sites bytes
-        known = checked o.config.sites from bytes row.arrives.message row.arrives.admits.secret row.arrives.admits.checks
+        known : Checked (sites o T to) bytes
+        known = checked (sites o T to) from bytes row.arrives.message row.arrives.admits.secret (subst (λ (k : ℕ). secret_under (sites o T k) from bytes row.arrives.message ≡ Ok row.arrives.admits.secret) row.acts row.arrives.admits.checks)
 
         at_server : is_server o.config to ≡ true
         at_server = ap (is_server o.config) (sym row.acts) ∙ row.arrives.acts.kind
@@ -194,7 +196,7 @@ module _ (o : Opening) (T : List Step) (distinct : AllPairs (λ a b. a ≢ b) (a
           where
             noise_clash : {f : ReadFault} {said : MessageValue} → ◌≡◌ {A = Result MessageValue ReadFault} (Err f) (Ok said) → ⊥
             noise_clash e = absurd cc
-        at (inr (inr forged)) = absurd (true≢false (sym known.authentic ∙ forged known.secret (subst (λ b. Contains (if b then flat_map (λ s. map (λ k. k.secret) s.keys) o.config.sites else (etr_config o T to).secret ∷ []) known.secret) (sym at_server) known.known)))
+        at (inr (inr forged)) = absurd (true≢false (sym known.authentic ∙ forged known.secret (subst (λ b. Contains (if b then flat_map (λ s. map (λ k. k.secret) s.keys) (sites o T to) else (etr_config o T to).secret ∷ []) known.secret) (sym at_server) known.known)))
     arrived (events.Change _ _) after harmless row x has = absurd row
     arrived (events.Send _ _ _ _) after harmless row x has = absurd row
     arrived (events.Tick _) after harmless row x has = absurd row
@@ -203,3 +205,4 @@ module _ (o : Opening) (T : List Step) (distinct : AllPairs (λ a b. a ≢ b) (a
     arrived (events.Lose _ _ _) after harmless row x has = absurd row
     arrived (events.Notice _ _ _) after harmless row x has = absurd row
     arrived (events.Resend _ _) after harmless row x has = absurd row
+    arrived (events.Reload _ _) after harmless row x has = absurd row

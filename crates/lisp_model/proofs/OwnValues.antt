@@ -188,4 +188,6 @@ module _ (t : Context) where
   leaves (events.Notice server router fate) (lines.Refused named (refusals.Notice why)) row = notice_refused router why row.3
   leaves (events.Resend server router) (lines.Resent s r datagram) row = quiet row.2.same
   leaves (events.Resend server router) (lines.Refused named (refusals.Notice why)) row = resend_refused router why row.3
+  leaves (events.Reload server new) (lines.Reloaded named count) row = quiet row.same
+  leaves (events.Reload server new) (lines.Renewed named count) row = quiet row.same
   leaves _ _ row = absurd row

@@ -8,12 +8,13 @@ use Rattle.lisp_records.specs.Database.{database_of}
 use Rattle.lisp_messages.specs.declared.fault.ReadFault.{ReadFault}
 use Rattle.lisp_messages.specs.Message.{MessageValue, MapRegisterValue, MapNotifyValue, Registers, Notifies}
 use Rattle.lisp_etr.specs.Hearing.{first_notice, ack_of}
+use Rattle.lisp_policy.specs.Site.{SiteValue}
 use Rattle.lisp_admission.specs.Checks.{reply_to}
 use Rattle.lisp_admission.specs.Nonces.{nonce_after}
 use Rattle.lisp_model.specs.declared.event.Event.TheVariants as events
 use Rattle.lisp_model.specs.declared.line.Line.{Line}
 use Rattle.lisp_model.specs.declared.line.Line.TheVariants as lines
-use Rattle.lisp_model.specs.Trace.{EventValue, Step, Opening, ShownStore, addresses, is_server, is_router, router_at, clock, database}
+use Rattle.lisp_model.specs.Trace.{EventValue, Step, Opening, ShownStore, addresses, is_server, is_router, router_at, sites, clock, database}
 use Rattle.lisp_model.specs.History.{SentRegister, history}
 use Rattle.lisp_model.specs.Held.{Acceptance, heard_last}
 use Rattle.lisp_model.specs.Timers.{Notice, notice_to}
@@ -55,6 +56,7 @@ sent_entry o T actor after (events.Rotate _ _ _) r s part k n g row = absurd row
 sent_entry o T actor after (events.Lose _ _ _) r s part k n g row = absurd row
 sent_entry o T actor after (events.Notice _ _ _) r s part k n g row = absurd row
 sent_entry o T actor after (events.Resend _ _) r s part k n g row = absurd row
+sent_entry o T actor after (events.Reload _ _) r s part k n g row = absurd row
 
 pub entry_is : (o : Opening) (T : List Step) → LegalTrace o T → (d : SentRegister) → Contains (history o T) d → IsEntry o d
 entry_is o [] legal d has = absurd (in_none d has)
@@ -66,13 +68,14 @@ entry_is o (s ∷ T) legal d has = at (new_or_old o T s.line d has) (entry_is o 
         subst (IsEntry o) (sym new.is) (record { kind = row.0; low = row.1; to = row.2; fits = row.3 })
     at (inr old) later = later old
 
--- the reply to a Map-Register that a server accepted
+-- the reply to a Map-Register that a server accepted, by the sites that it had then
 pub record IsReply (o : Opening) (kept : ℕ → List Acceptance) (i : Item) : Type 0 where
   pub server : ℕ
   pub kind : is_server o.config server ≡ true
   pub acceptance : Acceptance
   pub taken : Contains (kept server) acceptance
-  pub is : i ≡ reply_item o.config server acceptance
+  pub has : List SiteValue
+  pub is : i ≡ reply_item o.config has server acceptance
 
 pub record IsKnown (o : Opening) (kept : ℕ → List Acceptance) (i : Item) (n : MapNotifyValue) : Type 0 where
   pub below : n.nonce < 2 ^ 64
@@ -93,7 +96,7 @@ stays_accepted _ new k old x has = has
 later_known : (o : Opening) (T : List Step) (s : Step) (i : Item) (n : MapNotifyValue) → IsKnown o (acceptances o T) i n → IsKnown o (acceptances o (s ∷ T)) i n
 later_known o T s i n f = record {
   below = f.below;
-  reply = λ plain low. let r = f.reply plain low in record { server = r.server; kind = r.kind; acceptance = r.acceptance; taken = stays_accepted s.line _ r.server (acceptances o T r.server) r.acceptance r.taken; is = r.is };
+  reply = λ plain low. let r = f.reply plain low in record { server = r.server; kind = r.kind; acceptance = r.acceptance; taken = stays_accepted s.line _ r.server (acceptances o T r.server) r.acceptance r.taken; has = r.has; is = r.is };
 }
 
 said_clash : {m : MapRegisterValue} {n : MapNotifyValue} → ◌≡◌ {A = MessageValue} (Registers m) (Notifies n) → ⊥
@@ -158,14 +161,14 @@ module _ (o : Opening) (T : List Step) (reads : ReadsBack) (all : AllFrom o (his
   posts node after e (lines.Accepted server router key nonce None) harmless row low i has n is = absurd (in_none i has)
   posts node after e (lines.Accepted server router key nonce (Some datagram)) harmless row low i has n is =
       let c = comes o T reads all below node e (lines.Accepted server router key nonce (Some datagram)) after tt harmless row in
-      let found = from_map (reply_item o.config server) (acceptances_in (arrival_in (bag o T) e) (clock T)) i has in
+      let found = from_map (reply_item o.config (sites o T server) server) (acceptances_in (arrival_in (bag o T) e) (clock T)) i has in
       let said : reply_to found.0.message ≡ n = said_same _ n (sym (ap (λ (x : Item). x.message) found.2) ∙ is) in
       let here : Contains (Kept e (lines.Accepted server router key nonce (Some datagram)) server) found.0 = subst (λ b. Contains (if b then acceptances_in (arrival_in (bag o T) e) (clock T) ++ acceptances o T server else acceptances o T server) found.0) (sym (same_number server)) (Contains-append_left (acceptances_in (arrival_in (bag o T) e) (clock T)) (acceptances o T server) found.0 found.1) in
       let number : found.0.message.nonce ≡ n.nonce = ap (λ (x : MapNotifyValue). x.nonce) said in
       let bound : found.0.message.nonce < first_notice = low server found.0 here in
       record {
         below = omega (arith, number, bound);
-        reply = λ plain under. record { server = server; kind = c.row.acts.kind; acceptance = found.0; taken = here; is = found.2 };
+        reply = λ plain under. record { server = server; kind = c.row.acts.kind; acceptance = found.0; taken = here; has = sites o T server; is = found.2 };
       }
   posts node after e (lines.Noticed router server nonce datagram) harmless row low i has n is =
       let c = comes o T reads all below node e (lines.Noticed router server nonce datagram) after tt harmless row in
@@ -192,6 +195,7 @@ module _ (o : Opening) (T : List Step) (reads : ReadsBack) (all : AllFrom o (his
   posts node after (events.Rotate _ _ _) (lines.Notice server router key nonce datagram) harmless row low i has n is = absurd row
   posts node after (events.Lose _ _ _) (lines.Notice server router key nonce datagram) harmless row low i has n is = absurd row
   posts node after (events.Resend _ _) (lines.Notice server router key nonce datagram) harmless row low i has n is = absurd row
+  posts node after (events.Reload _ _) (lines.Notice server router key nonce datagram) harmless row low i has n is = absurd row
   posts node after e (lines.Resent server router datagram) harmless row low i has n is = at (notice_to o T server (router_at o.config router).me) (in_option (option_and_then (λ n. slice_get (bag o T) n.datagram) (notice_to o T server (router_at o.config router).me)) i has)
     where
       at : (x : Option Notice) → option_and_then (λ n. slice_get (bag o T) n.datagram) x ≡ Some i → IsKnown o (acceptances o T) i n

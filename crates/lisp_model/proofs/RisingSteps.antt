@@ -174,4 +174,6 @@ module _ (t : Context) (its : is_server t.opening.config t.node ≡ true) (q : P
   row_safe (events.Notice server router fate) (lines.Refused named (refusals.Notice why)) row = tells_safe router why row.3
   row_safe (events.Resend server router) (lines.Resent s r datagram) row = quiet row.2.same
   row_safe (events.Resend server router) (lines.Refused named (refusals.Notice why)) row = repeats_safe router why row.3
+  row_safe (events.Reload server new) (lines.Reloaded named count) row = quiet row.same
+  row_safe (events.Reload server new) (lines.Renewed named count) row = restart_line named (row.names ∙ sym row.acts.acts) (safe_restarts q acc (since_start t.opening t.past t.node) old (values t q) safe (values_after t q) (λ v has. subst (λ (kept : Kept). Contains (kept_at kept q) v) row.same has))
   row_safe _ _ row = absurd row

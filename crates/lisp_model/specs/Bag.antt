@@ -4,6 +4,7 @@ use Rattle.std.specs.Option.{option_map, option_and_then, option_to_list}
 use Rattle.lisp_records.specs.declared.address.Addr.{Addr}
 use Rattle.lisp_records.specs.Parts.{part_at}
 use Rattle.lisp_policy.specs.Configuration.{ConfigValue}
+use Rattle.lisp_policy.specs.Site.{SiteValue}
 use Rattle.lisp_messages.specs.declared.fault.ReadFault.{ReadFault}
 use Rattle.lisp_messages.specs.Message.{MessageValue, MapRegisterValue, MapNotifyValue, Registers, Notifies}
 use Rattle.lisp_messages.specs.Authentic.{signed}
@@ -15,7 +16,7 @@ use Rattle.lisp_admission.specs.Checks.{reply_to}
 use Rattle.lisp_model.specs.declared.event.Event.TheVariants as events
 use Rattle.lisp_model.specs.declared.line.Line.{Line}
 use Rattle.lisp_model.specs.declared.line.Line.TheVariants as lines
-use Rattle.lisp_model.specs.Trace.{EventValue, Step, Opening, address_at, router_at, secret_at, etr_config, clock, database}
+use Rattle.lisp_model.specs.Trace.{EventValue, Step, Opening, address_at, router_at, secret_at, etr_config, sites, clock, database}
 use Rattle.lisp_model.specs.Held.{Acceptance, heard_last, records_of}
 use Rattle.lisp_model.specs.Timers.{notice_to}
 
@@ -73,12 +74,13 @@ register_item o T router server part nonce = record {
   message = Registers (map_register_of (etr_config o T router) (part_at (database o T router) part) nonce);
 }
 
--- the item of the Map-Notify that answers a Map-Register: with its nonce, key and records, to its source
-abbrev pub reply_item : ConfigValue → ℕ → Acceptance → Item
-reply_item c server a = record {
+-- the item of the Map-Notify that answers a Map-Register: with its nonce, key and records, to its source, under the
+-- secret that the server's sites have
+abbrev pub reply_item : ConfigValue → List SiteValue → ℕ → Acceptance → Item
+reply_item c sites server a = record {
   from = address_at c server;
   to = a.from;
-  secret = secret_at c.sites a.message.site a.message.key_id;
+  secret = secret_at sites a.message.site a.message.key_id;
   message = Notifies (reply_to a.message);
 }
 
@@ -87,7 +89,7 @@ abbrev pub notice_item : Opening → List Step → List Acceptance → ℕ → �
 notice_item o T since_start server router key nonce last = record {
   from = address_at o.config server;
   to = last.from;
-  secret = secret_at o.config.sites (router_at o.config router).me.site key;
+  secret = secret_at (sites o T server) (router_at o.config router).me.site key;
   message = Notifies (record { ack = false; nonce = nonce; key_id = key; records = records_of since_start (router_at o.config router).me (clock T) });
 }
 
@@ -110,7 +112,7 @@ pub record Past : Type 0 where
 abbrev pub items_added : Opening → List Step → Past → Option Arrival → Line → List Item
 items_added o T p a (lines.Sent router server part _ nonce _) = register_item o T router server part nonce ∷ []
 items_added o T p a (lines.Accepted server _ _ _ (Some _)) =
-    map (reply_item o.config server) (acceptances_in a (clock T))
+    map (reply_item o.config (sites o T server) server) (acceptances_in a (clock T))
 items_added o T p (Some a) (lines.Noticed router _ _ _) =
     option_to_list (option_map (ack_item o T router a) (as_notify a.read))
 items_added o T p a (lines.Notice server router key nonce _) =
@@ -121,10 +123,11 @@ items_added o T p a (lines.Resent server router _) =
     (notice_to o T server (router_at o.config router).me))
 items_added o T p a _ = []
 
--- an accepted message is added for its server; a restart forgets
+-- an accepted message is added for its server; a start forgets
 abbrev pub since_start_after : Line → List Acceptance → ℕ → List Acceptance → List Acceptance
 since_start_after (lines.Accepted server _ _ _ _) new k old = if server == k then new ++ old else old
 since_start_after (lines.Restarted node) new k old = if node == k then [] else old
+since_start_after (lines.Renewed server _) new k old = if server == k then [] else old
 since_start_after _ new k old = old
 
 abbrev pub past_after : Opening → List Step → Past → Option Arrival → Line → Past

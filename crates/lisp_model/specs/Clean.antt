@@ -7,13 +7,13 @@ use Rattle.lisp_messages.specs.declared.fault.ReadFault.{ReadFault}
 use Rattle.lisp_messages.specs.Authentic.{is_authentic}
 use Rattle.lisp_messages.specs.Reading.{message_at}
 use Rattle.lisp_model.specs.declared.event.Event.TheVariants as events
-use Rattle.lisp_model.specs.Trace.{EventValue, Step, Opening, address_at, etr_config, is_server}
+use Rattle.lisp_model.specs.Trace.{EventValue, Step, Opening, address_at, etr_config, sites, is_server}
 use Rattle.lisp_model.specs.Bag.{Item, bytes_of, bag}
 
--- the secrets of a node: of a server those of all its sites, of a router its own
+-- the secrets of a node at a moment: of a server those of all its sites, of a router its own
 abbrev pub secrets_of : Opening → List Step → ℕ → List (List ℕ)
 secrets_of o T node =
-    if is_server o.config node then flat_map (λ s. map (λ k. k.secret) s.keys) o.config.sites
+    if is_server o.config node then flat_map (λ s. map (λ k. k.secret) s.keys) (sites o T node)
     else (etr_config o T node).secret ∷ []
 
 -- the bytes are those of a datagram from and to the same addresses

@@ -1,13 +1,14 @@
 -- A step as its node sees it, and what it may leave of the store of the node.
 use Rattle.std.specs.Prelude.{◌≡◌, ◌≢◌, ◌⊎◌, ℕ, ◌-◌, ◌^◌, ◌<◌, Bool, IsTrue, true, false, List, [], ◌∷◌, Option, Some, None}
 use Rattle.std.specs.List.{Contains}
+use Rattle.lisp_policy.specs.Site.{SiteValue}
 use Rattle.lisp_nonces.specs.declared.pair.Pair.{Pair}
 use Rattle.lisp_nonces.specs.declared.fault.StoreFault.{StoreFault}
 use Rattle.lisp_nonces.specs.declared.fault.StoreFault.TheVariants as faults
 use Rattle.lisp_nonces.specs.declared.fate.Fate.{Fate}
 use Rattle.lisp_nonces.specs.declared.fate.Fate.TheVariants.{Doubt, LoadFails as FailedLoads}
 use Rattle.lisp_nonces.specs.Kept.{kept_at, with_value, picked, NoneBelow, SameElsewhere, InDoubt, Narrows}
-use Rattle.lisp_model.specs.Trace.{ShownStore, Step, Opening, is_server, is_router, is_up}
+use Rattle.lisp_model.specs.Trace.{ShownStore, Step, Opening, is_server, is_router, is_up, sites}
 
 -- what went before; which node acts; what its store is armed with, and what it shows before and after
 pub record Context : Type 0 where
@@ -27,6 +28,10 @@ pub record IsAtRouter (t : Context) (router : ℕ) (up : Bool) : Type 0 where
   pub kind : is_router t.opening.config router ≡ true
   pub acts : t.node ≡ router
   pub state : is_up t.past router ≡ up
+
+-- the sites of the node that acts, if it is a server
+abbrev pub its_sites : Context → List SiteValue
+its_sites t = sites t.opening t.past t.node
 
 -- what the store keeps for a pair before, and after
 abbrev pub values : Context → Pair → List (Option ℕ)

@@ -11,6 +11,7 @@ use Rattle.lisp_model.specs.Bag.{Item, Arrival, arrival_of, junk_arrival, bag}
 use Rattle.lisp_model.specs.Context.{Context, IsAtServer, IsAtRouter, Same, IsAtNoNode}
 use Rattle.lisp_model.specs.Sending.{IsChanged, IsSent, RefusesToSend}
 use Rattle.lisp_model.specs.Restarting.{IsRestarted, IsNotStarted}
+use Rattle.lisp_model.specs.Reloading.{IsReloaded}
 use Rattle.lisp_model.specs.Rotating.{IsRotated, RefusesToRotate, IsEmptied, IsNotStartedUnder}
 use Rattle.lisp_model.specs.Receiving.{IsAccepted, IsDone, RefusesMessage}
 use Rattle.lisp_model.specs.Hearing.{Hears}
@@ -94,6 +95,8 @@ MayCome t (events.Resend server router) (lines.Resent s r datagram) =
     (s ≡ server) × (r ≡ router) × IsResent t server router datagram
 MayCome t (events.Resend server router) (lines.Refused named (refusals.Notice why)) =
     (named ≡ server) × IsAtServer t server × (is_router t.opening.config router ≡ true) × RefusesToResend t router why
+MayCome t (events.Reload server new) (lines.Reloaded named count) = IsReloaded t server new true named count
+MayCome t (events.Reload server new) (lines.Renewed named count) = IsReloaded t server new false named count
 MayCome t _ _ = ⊥
 
 abbrev pub context_of : Opening → List Step → Step → Context

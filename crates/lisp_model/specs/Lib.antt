@@ -13,6 +13,7 @@ pub mod Counted
 pub mod Context
 pub mod Sending
 pub mod Restarting
+pub mod Reloading
 pub mod Rotating
 pub mod Receiving
 pub mod Hearing

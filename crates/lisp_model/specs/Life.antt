@@ -5,12 +5,13 @@ use Rattle.lisp_model.specs.declared.line.Line.{Line}
 use Rattle.lisp_model.specs.declared.line.Line.TheVariants as lines
 use Rattle.lisp_model.specs.Trace.{Step, clock}
 
--- a restart begins a life at its moment
+-- a restart begins a life at its moment, and so do sites under which a Map-Server starts anew
 abbrev pub began_after : Line → ℕ → ℕ → ℕ → ℕ
 began_after (lines.Restarted node) now k old = if node == k then now else old
+began_after (lines.Renewed server _) now k old = if server == k then now else old
 began_after _ now k old = old
 
--- the moment, in ms, of a node's last restart; 0 where there was none
+-- the moment, in ms, when a node's present life began; 0 for its first
 abbrev pub began : List Step → ℕ → ℕ
 began [] k = 0
 began (s ∷ T) k = began_after s.line (clock T) k (began T k)

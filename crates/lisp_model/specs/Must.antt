@@ -27,7 +27,7 @@ use Rattle.lisp_model.specs.Trace.{EventValue, Step, Opening, is_server, is_list
 use Rattle.lisp_model.specs.Timers.{Notice}
 use Rattle.lisp_model.specs.Bag.{Arrival, arrival_in, bag}
 use Rattle.lisp_model.specs.Counted.{latest_nonce, notify_at}
-use Rattle.lisp_model.specs.Context.{Context, HasCause, values}
+use Rattle.lisp_model.specs.Context.{Context, its_sites, HasCause, values}
 use Rattle.lisp_model.specs.Sending.{pair_at, HasPart}
 use Rattle.lisp_model.specs.Receiving.{Admits, HasSpace, last_in, awaiting, has_tag_for}
 use Rattle.lisp_model.specs.Legal.{context_of}
@@ -88,7 +88,7 @@ MustSend Excused t event line = (router server part : ℕ) (fate : Fate) → eve
 abbrev pub MustAccept : Excuse → Context → EventValue → Line → Type 0
 MustAccept Excused t event line = (a : Arrival) (m : MapRegisterValue)
     → arrival_in (bag t.opening t.past) event ≡ Some a → is_server t.opening.config t.node ≡ true → Admits t a m
-    → Follows (most_jump_at t.opening.config.sites m.site) (last_in t (pair_of m)) (values t (pair_of m)) m.nonce
+    → Follows (most_jump_at (its_sites t) m.site) (last_in t (pair_of m)) (values t (pair_of m)) m.nonce
     → HasSpace t a m → (is_accepted line ≡ true) ⊎ Excused t line
 
 -- a Map-Notify-Ack ends the notice that waits for it

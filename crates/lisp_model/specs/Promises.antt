@@ -8,6 +8,7 @@ use Rattle.lisp_records.specs.Parts.{part_count}
 use Rattle.lisp_records.specs.Row.{RowValue}
 use Rattle.lisp_records.specs.declared.router.RouterId.{RouterId}
 use Rattle.lisp_policy.specs.Configuration.{ConfigValue}
+use Rattle.lisp_policy.specs.Site.{SiteValue}
 use Rattle.lisp_nonces.specs.declared.pair.Pair.{Pair}
 use Rattle.lisp_lookup.specs.Growth.{AtMost, HasRow, HasRouter}
 use Rattle.lisp_admission.specs.Checks.{most_routers_at, most_rows_at}
@@ -17,7 +18,7 @@ use Rattle.lisp_admission.specs.declared.refused.Refused.TheVariants.{Replay}
 use Rattle.lisp_model.specs.declared.event.Event.TheVariants as events
 use Rattle.lisp_model.specs.declared.line.Line.TheVariants as lines
 use Rattle.lisp_model.specs.declared.refusal.Refusal.TheVariants.{Receive}
-use Rattle.lisp_model.specs.Trace.{EventValue, Step, Opening, shown_store, clock, is_up, is_server, is_router, key, database, address_at, router_at}
+use Rattle.lisp_model.specs.Trace.{EventValue, Step, Opening, shown_store, clock, is_up, is_server, is_router, key, sites, database, address_at, router_at}
 use Rattle.lisp_model.specs.History.{SentRegister, message_of, record_in, history}
 use Rattle.lisp_model.specs.Held.{Acceptance, held_row, held_rows}
 use Rattle.lisp_model.specs.Timers.{round, Notice, notices, last_notice}
@@ -56,6 +57,7 @@ pub record SameServer (o : Opening) (T U : List Step) (server : ℕ) : Type 0 wh
   pub notices : notices o U server ≡ notices o T server
   pub last_notice : last_notice U server ≡ last_notice T server
   pub began : began U server ≡ began T server
+  pub sites : sites o U server ≡ sites o T server
 
 -- and a router's
 pub record SameRouter (o : Opening) (T U : List Step) (router : ℕ) : Type 0 where
@@ -169,10 +171,10 @@ NoticesDiffer o T = (server : ℕ) (m n : Notice) → Contains (notices o T serv
     → m.nonce ≡ n.nonce → m ≡ n
 
 -- who accepted these holds no more live rows of a site, and of no more of its routers, than the site may have
-pub record IsWithin (c : ConfigValue) (since : List Acceptance) (now site : ℕ) : Type 0 where
-  pub routers : (most : ℕ) → most_routers_at c.sites site ≡ Some most → AtMost (HasRouter (held_rows since now) site) most
-  pub rows : (most : ℕ) → most_rows_at c.sites site ≡ Some most → AtMost (HasRow (held_rows since now) site) most
+pub record IsWithin (sites : List SiteValue) (since : List Acceptance) (now site : ℕ) : Type 0 where
+  pub routers : (most : ℕ) → most_routers_at sites site ≡ Some most → AtMost (HasRouter (held_rows since now) site) most
+  pub rows : (most : ℕ) → most_rows_at sites site ≡ Some most → AtMost (HasRow (held_rows since now) site) most
 
 -- so does each server of each site
 abbrev pub SitesStayWithin : Opening → List Step → Type 0
-SitesStayWithin o T = (server site : ℕ) → IsWithin o.config (since_start o T server) (clock T) site
+SitesStayWithin o T = (server site : ℕ) → IsWithin (sites o T server) (since_start o T server) (clock T) site

@@ -21,7 +21,7 @@ use Rattle.lisp_model.specs.Trace.{clock}
 use Rattle.lisp_model.specs.Held.{last_of, held_rows}
 use Rattle.lisp_model.specs.Timers.{Notice, notices}
 use Rattle.lisp_model.specs.Bag.{Item, Arrival, bag, since_start}
-use Rattle.lisp_model.specs.Context.{Context, IsAtServer, values, values_after, Same, SameOthers, MaySave, Loads, LoadFails, SaveFails, IsBase}
+use Rattle.lisp_model.specs.Context.{Context, its_sites, IsAtServer, values, values_after, Same, SameOthers, MaySave, Loads, LoadFails, SaveFails, IsBase}
 
 -- the last nonce of a pair since the server's start
 abbrev pub last_in : Context → Pair → Option ℕ
@@ -31,14 +31,14 @@ last_in t pair = last_of pair (since_start t.opening t.past t.node)
 pub record Admits (t : Context) (a : Arrival) (m : MapRegisterValue) : Type 0 where
   pub read : a.read ≡ Ok (Registers m)
   pub secret : List ℕ
-  pub checks : secret_under t.opening.config.sites a.from a.bytes m ≡ Ok secret
+  pub checks : secret_under (its_sites t) a.from a.bytes m ≡ Ok secret
 
 -- its nonce is above a base, which was loaded where it isn't in memory, and near it
 pub record IsFresh (t : Context) (m : MapRegisterValue) : Type 0 where
   pub base : Option ℕ
   pub counts : IsBase (last_in t (pair_of m)) (values t (pair_of m)) base
   pub above : IsBelow base m.nonce
-  pub near : IsNear (most_jump_at t.opening.config.sites m.site) base m.nonce
+  pub near : IsNear (most_jump_at (its_sites t) m.site) base m.nonce
   pub loads : Loads t (last_in t (pair_of m))
 
 -- the live rows that the server holds, and would hold with a Map-Register
@@ -50,11 +50,11 @@ rows_with t a m = held_rows (record { message = m; from = a.from; moment = clock
 
 -- the limits of its site on what is held let it in
 abbrev pub HasSpace : Context → Arrival → MapRegisterValue → Type 0
-HasSpace t a m = Fits (most_routers_at t.opening.config.sites m.site) (most_rows_at t.opening.config.sites m.site) m.site (rows_before t) (rows_with t a m)
+HasSpace t a m = Fits (most_routers_at (its_sites t) m.site) (most_rows_at (its_sites t) m.site) m.site (rows_before t) (rows_with t a m)
 
 -- or not, and which
 abbrev pub LacksSpace : Context → Arrival → MapRegisterValue → Full → Type 0
-LacksSpace t a m full = IsFull (most_routers_at t.opening.config.sites m.site) (most_rows_at t.opening.config.sites m.site) m.site (rows_before t) (rows_with t a m) full
+LacksSpace t a m full = IsFull (most_routers_at (its_sites t) m.site) (most_rows_at (its_sites t) m.site) m.site (rows_before t) (rows_with t a m) full
 
 -- it is accepted: from now on its nonce alone is kept; a reply goes out where bit M asks for one
 pub record IsAccepted (t : Context) (a : Arrival) (server : ℕ) (router : RouterId) (key nonce : ℕ) (datagram : Option ℕ)
@@ -86,7 +86,7 @@ awaiting t from m = find (awaits t from m) (notices t.opening t.past t.node)
 
 -- the tag of what arrives is that of the notice's key
 abbrev pub has_tag_for : Context → Arrival → Notice → Bool
-has_tag_for t a n = signed_by (secret_at t.opening.config.sites n.router.site n.key) a.bytes
+has_tag_for t a n = signed_by (secret_at (its_sites t) n.router.site n.key) a.bytes
 
 -- a Map-Notify-Ack ends a notice
 pub record IsDone (t : Context) (a : Arrival) (server : ℕ) (router : RouterId) (nonce : ℕ) : Type 0 where
@@ -114,7 +114,7 @@ FailsNotify t a m false why = why ≡ NotMine
 -- the first check that a message fails before its nonce is looked at
 abbrev pub FailsCheck : Context → Arrival → Result MessageValue ReadFault → Refused → Type 0
 FailsCheck t a (Err fault) why = why ≡ Read fault
-FailsCheck t a (Ok (Registers m)) why = secret_under t.opening.config.sites a.from a.bytes m ≡ Err why
+FailsCheck t a (Ok (Registers m)) why = secret_under (its_sites t) a.from a.bytes m ≡ Err why
 FailsCheck t a (Ok (Notifies m)) why = FailsNotify t a m m.ack why
 
 -- the base can't be loaded
@@ -140,7 +140,7 @@ pub record Jumps (t : Context) (a : Arrival) (site saved : ℕ) : Type 0 where
   pub its : site ≡ message.site
   pub counts : IsBase (last_in t (pair_of message)) (values t (pair_of message)) (Some saved)
   pub loads : Loads t (last_in t (pair_of message))
-  pub far : IsFar (most_jump_at t.opening.config.sites message.site) saved message.nonce
+  pub far : IsFar (most_jump_at (its_sites t) message.site) saved message.nonce
   pub same : Same t
 
 -- its site has no space for it

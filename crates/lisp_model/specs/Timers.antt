@@ -64,13 +64,14 @@ notices_to_others router notices = filter (λ n. not (router_eq n.router router)
 abbrev pub resent_at : RouterId → ℕ → Notice → Notice
 resent_at router now n = if router_eq n.router router then record n { moments = now ∷ n.moments } else n
 
--- a notice stands from its line until it is acknowledged, another one to its router, or a restart
+-- a notice stands from its line until it is acknowledged, another one to its router, or a start anew
 abbrev pub notices_after : ConfigValue → Line → ℕ → ℕ → List Notice → List Notice
 notices_after c (lines.Notice server router key nonce datagram) now k old = if server == k then record { router = (router_at c router).me; key = key; nonce = nonce; datagram = datagram; moments = now ∷ [] } ∷ notices_to_others (router_at c router).me old else old
 notices_after c (lines.Resent server router _) now k old =
     if server == k then map (resent_at (router_at c router).me now) old else old
 notices_after c (lines.Done server router _) now k old = if server == k then notices_to_others router old else old
 notices_after c (lines.Restarted node) now k old = if node == k then [] else old
+notices_after c (lines.Renewed server _) now k old = if server == k then [] else old
 notices_after c _ now k old = old
 
 abbrev pub notices : Opening → List Step → ℕ → List Notice
@@ -86,10 +87,11 @@ abbrev pub is_due : Option Notice → ℕ → Bool
 is_due None now = false
 is_due (Some n) now = has_come now (notice_due_after n.moments)
 
--- the nonce of a server's last notice since its restart
+-- the nonce of a server's last notice since its start
 abbrev pub last_notice_after : Line → ℕ → Option ℕ → Option ℕ
 last_notice_after (lines.Notice server _ _ nonce _) k old = if server == k then Some nonce else old
 last_notice_after (lines.Restarted node) k old = if node == k then None else old
+last_notice_after (lines.Renewed server _) k old = if server == k then None else old
 last_notice_after _ k old = old
 
 abbrev pub last_notice : List Step → ℕ → Option ℕ

@@ -35,6 +35,7 @@ event_value (events.Rotate router key fate) = events.Rotate router key fate
 event_value (events.Lose router key db) = events.Lose router key db
 event_value (events.Notice server router fate) = events.Notice server router fate
 event_value (events.Resend server router) = events.Resend server router
+event_value (events.Reload server sites) = events.Reload server sites
 
 -- what a store shows: its lists; how often its device failed; and whether it does what it is armed with
 pub record ShownStore : Type 0 where
@@ -101,6 +102,15 @@ key o (s ∷ T) r = key_after s.event s.line r (key o T r)
 -- a router's key, its secret, and the rest of its settings after a trace
 abbrev pub etr_config : Opening → List Step → ℕ → EtrConfigValue
 etr_config o T r = etr_config_under o.config (router_at o.config r) (key o T r)
+
+-- the sites of a Map-Server: the last ones that it took, at first those of the configuration
+abbrev pub sites_after : EventValue → ℕ → List SiteValue → List SiteValue
+sites_after (events.Reload server new) k old = if server == k then new else old
+sites_after _ k old = old
+
+abbrev pub sites : Opening → List Step → ℕ → List SiteValue
+sites o [] k = o.config.sites
+sites o (s ∷ T) k = sites_after s.event k (sites o T k)
 
 -- the server is one of those that the router registers with
 abbrev pub is_listed : ConfigValue → ℕ → ℕ → Bool

@@ -1,12 +1,13 @@
 //! What happens in a network.
 
 use lisp_nonces::Fate;
+use lisp_policy::Sites;
 use lisp_records::{Addr, Bytes, Database};
 use std::alloc::{Allocator, Global};
 
 /// One event: one call of one node. Nodes are named by their numbers: servers, then routers, in the
-/// order of the configuration.
-#[derive(Debug, Drop)]
+/// order of the configuration. It has no `Debug`, as sites have none: no text shows their secrets.
+#[derive(Drop)]
 pub enum Event<A: Allocator = Global> {
     /// A router is given another database.
     Change {
@@ -86,5 +87,12 @@ pub enum Event<A: Allocator = Global> {
         server: usize,
         /// The router.
         router: usize,
+    },
+    /// A Map-Server takes other sites, without a restart.
+    Reload {
+        /// The Map-Server.
+        server: usize,
+        /// Its sites from now on.
+        sites: Sites<A>,
     },
 }

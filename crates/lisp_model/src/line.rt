@@ -127,6 +127,20 @@ pub enum Line {
         /// The datagram.
         datagram: usize,
     },
+    /// A Map-Server has other sites, which have all that those before them had, and holds what it held.
+    Reloaded {
+        /// The Map-Server.
+        server: usize,
+        /// How many sites it has.
+        sites: usize,
+    },
+    /// A Map-Server has other sites, which lack something that those before them had, and started anew under them.
+    Renewed {
+        /// The Map-Server.
+        server: usize,
+        /// How many sites it has.
+        sites: usize,
+    },
     /// The router is down.
     Down {
         /// The router.

@@ -1,9 +1,10 @@
-//! What a node that was asked for a message, or to go over to another key or database, makes of it: the event's line, and
-//! the message, if any.
+//! What a node that was asked for a message, or given another key, another database or other sites, makes of it: the event's
+//! line, and the message, if any.
 
 ghost use Rattle.std.specs.Prelude.{◌≡◌, IfOk, IfSome, IsSome};
 ghost use Rattle.lisp_messages.specs.Head.{head_at};
 ghost use Rattle.lisp_model.specs.declared.line.Line.TheVariants as lines;
+ghost use Rattle.lisp_refinement.specs.Events.{reload_line};
 ghost use Rattle.lisp_nodes.specs.Asked.{SaysSent, SaysNotice, said_resent, said_changed, asked_rotate_line};
 
 use lisp_etr::{RotateFault, SendFault};
@@ -100,6 +101,17 @@ pub fn changed(router: usize, records: usize, is_up: bool) -> Line
         Line::Changed { router, records }
     } else {
         Line::Down { router }
+    }
+}
+
+/// The line of a Map-Server with a number that took other sites, so many, and went on with what it holds or started anew.
+pub fn reloaded(server: usize, goes_on: bool, sites: usize) -> Line
+    ensures { result ≡ reload_line server goes_on sites }
+{
+    if goes_on {
+        Line::Reloaded { server, sites }
+    } else {
+        Line::Renewed { server, sites }
     }
 }
 

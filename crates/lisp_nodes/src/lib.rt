@@ -16,7 +16,7 @@ mod server_node;
 mod used_keys;
 
 pub use arrival::{Arrival, hear, post_reply, post_to, router_hears, server_hears};
-pub use asked::{changed, noticed, resent, rotated, sent};
+pub use asked::{changed, noticed, reloaded, resent, rotated, sent};
 pub use datagram::Datagram;
 pub use router_node::{RouterNode, Start};
 pub use server_node::ServerNode;

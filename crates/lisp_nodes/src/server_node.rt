@@ -5,10 +5,11 @@ ghost use Rattle.std.specs.List.{All};
 ghost use Rattle.lisp_records.specs.Moment.{max_moment};
 ghost use Rattle.lisp_records.specs.Row.{is_alive};
 ghost use Rattle.lisp_lookup.specs.Table.{DropsDead, OneEach};
+ghost use Rattle.lisp_policy.specs.Extends.{extends};
 ghost use Rattle.lisp_admission.specs.declared.refused.Refused.{Refused};
 ghost use Rattle.lisp_admission.specs.declared.notice_fault.NoticeFault.{NoticeFault};
 ghost use Rattle.lisp_refinement.specs.Calls.{NodeReceives, NodeNotifies, StoreRestarts};
-ghost use Rattle.lisp_refinement.specs.Events.{ExpiresNode, NodeResends, ChangesNoticesAlone};
+ghost use Rattle.lisp_refinement.specs.Events.{ExpiresNode, NodeReloads, NodeResends, ChangesNoticesAlone};
 ghost use Rattle.lisp_refinement.specs.Nodes.{fresh_server};
 ghost use Rattle.lisp_refinement.specs.Replied.{NodeReplies};
 ghost use Rattle.lisp_nodes.specs.Memory.{no_store_memory_to_load, no_store_memory_to_save, no_store_memory_to_load_notice, no_store_memory_to_save_notice};
@@ -61,8 +62,8 @@ impl<S: WorldStore, A: Allocator> ServerNode<S, A> {
         &self.store
     }
 
-    /// The moment, in ms, at which its present life began: that of its last restart, 0 where there was none. Takes no
-    /// memory.
+    /// The moment, in ms, at which its present life began: that of its last restart, or of the last sites under which it started
+    /// anew (`reload`); 0 where there was neither. Takes no memory.
     pub fn started(&self) -> u64
         ensures { result ≡ self.now.started }
     {
@@ -101,6 +102,20 @@ impl<S: WorldStore, A: Memory + Copy> ServerNode<S, A> {
         self.store.restart(pick);
         replace_with(&mut self.core, alloc, started_again);
         self.started = now;
+    }
+
+    /// It takes other sites at a moment, in ms. Where they have all that its own have it goes on with what it holds; else it
+    /// starts anew under them, and its life begins at that moment. Answers whether it goes on. Its store isn't used. Takes no
+    /// memory.
+    pub fn reload(&mut self, sites: Sites<A>, now: u64) -> bool
+        ensures reloads { NodeReloads self.old self.new sites now }
+        ensures kept { result ≡ extends self.old.core.sites sites }
+    {
+        let goes_on = self.core.reload(sites);
+        if !goes_on {
+            self.started = now;
+        }
+        goes_on
     }
 
     /// It drops the rows that are dead at a moment, in ms; the rest is left unchanged, its store too. Takes no memory.

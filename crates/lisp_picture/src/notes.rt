@@ -85,7 +85,7 @@ fn add_meaning<A: Memory + Copy>(
 {
     match &outcome.line {
         Some(Line::Refused { what, .. }) => add_refusal(alloc, lines, what),
-        Some(Line::Restarted { .. } | Line::Emptied { .. }) => {
+        Some(Line::Restarted { .. } | Line::Emptied { .. } | Line::Renewed { .. }) => {
             add_kept(alloc, lines, config, outcome)
         }
         None => add_fault(alloc, lines, row, &outcome.text),

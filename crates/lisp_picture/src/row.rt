@@ -62,10 +62,11 @@ fn sign_of_line(line: &Line) -> Option<(usize, Sign)> {
         | Line::Noticed { router: node, .. }
         | Line::Rotated { router: node, .. }
         | Line::Notice { server: node, .. }
-        | Line::Resent { server: node, .. } => Some((*node, Sign::Done)),
-        Line::Restarted { node } | Line::Emptied { router: node, .. } => {
-            Some((*node, Sign::Started))
-        }
+        | Line::Resent { server: node, .. }
+        | Line::Reloaded { server: node, .. } => Some((*node, Sign::Done)),
+        Line::Restarted { node }
+        | Line::Emptied { router: node, .. }
+        | Line::Renewed { server: node, .. } => Some((*node, Sign::Started)),
         Line::Down { router } => Some((*router, Sign::Down)),
         Line::Refused { node, .. } => Some((*node, Sign::Refused)),
         Line::Nowhere { .. } | Line::Ticked { .. } => None,

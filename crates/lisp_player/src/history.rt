@@ -153,6 +153,7 @@ fn started_again<A: Allocator>(outcome: &Outcome<A>) -> Option<usize> {
     match outcome.line {
         Some(Line::Restarted { node }) => Some(node),
         Some(Line::Emptied { router, .. }) => Some(router),
+        Some(Line::Renewed { server, .. }) => Some(server),
         _ => None,
     }
 }

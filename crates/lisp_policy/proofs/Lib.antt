@@ -2,3 +2,5 @@ pub mod Found
 pub mod Halving
 pub mod IndexLaws
 pub mod Allowed
+pub mod ExtendsLaws
+pub mod ExtendsExamples

@@ -5,8 +5,11 @@
 //!
 //! - Sites and keys keep the order of the configuration, which contracts show, beside an `Index` of their numbers by which each
 //!   message finds its own. `proofs/Halving.antt` has the lemmas of searches by halving, also for `lisp_server`.
+//! - A key keeps its secret beside the digests' states, since two such states can't be compared: so a Map-Server that takes other
+//!   sites finds out whether they have the secrets of its own.
 #![tactic(auto)]
 
+mod extends;
 mod full;
 mod index;
 mod limits;

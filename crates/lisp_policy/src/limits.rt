@@ -94,7 +94,7 @@ impl<A: Allocator> Limits<A> {
 }
 
 // Whether one of the xTR-IDs is this one.
-fn lists_router(routers: &[[u8; 16]], xtr: &[u8; 16]) -> bool
+pub(crate) fn lists_router(routers: &[[u8; 16]], xtr: &[u8; 16]) -> bool
     ensures { result ≡ lists_router routers.now xtr.now }
 {
     routers.iter().any(|x| x == xtr)

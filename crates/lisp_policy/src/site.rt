@@ -3,7 +3,7 @@
 ghost use Rattle.std.specs.Prelude.{◌≡◌, ◌↔◌, IsTrue, IfOk, OnErr};
 ghost use Rattle.std.specs.Option.{option_map};
 ghost use Rattle.lisp_policy.specs.Index.{Indexes};
-ghost use Rattle.lisp_policy.specs.Site.{site_with, Allowed, is_allowed, has_address, lets_in, secret_of};
+ghost use Rattle.lisp_policy.specs.Site.{site_with, Allowed, is_allowed, has_address, key_of, lets_in, secret_of};
 
 use crate::index::Index;
 use crate::limits::Limits;
@@ -13,42 +13,73 @@ use lisp_records::{Addr, Prefix};
 use std::alloc::{AllocError, Allocator, Global};
 use std::marker::Model;
 
-/// A pre-shared secret of a site, under its Key ID (RFC 9301 section 5.6).
+/// A pre-shared secret of a site, under its Key ID (RFC 9301 section 5.6). It has no `Debug`, so that no text shows it.
 #[derive(Drop)]
-pub struct SiteKey {
-    /// Its Key ID.
-    pub id: u8,
-    /// The secret, made ready for tags.
-    pub key: Key,
+pub struct SiteKey<A: Allocator = Global> {
+    id: u8,
+    // The secret, made ready for tags.
+    key: Key,
+    // Its bytes, by which it is compared.
+    secret: Vec<u8, A>,
 }
 
-impl Model for SiteKey {
+impl<A: Allocator> Model for SiteKey<A> {
+    ghost use Rattle.std.specs.Prelude.{◌≡◌};
     ghost use Rattle.lisp_policy.specs.Site.{SiteKeyValue};
 
     ghost Value = { SiteKeyValue };
 
     ghost view = { λ k. record { id = k.id; secret = k.key } };
+
+    ghost invariant = { λ k. k.secret.items ≡ k.key };
 }
 
-impl SiteKey {
-    /// The key of a Key ID and a secret, which may have any length; takes no memory.
-    pub fn new(id: u8, secret: &[u8]) -> SiteKey
-        ensures { result ≡ record { id = id; secret = secret.now } }
+impl<A: Memory> SiteKey<A> {
+    /// The key of a Key ID and a secret, which may have any length.
+    pub fn new(alloc: A, id: u8, secret: &[u8]) -> Result<SiteKey<A>, AllocError>
+        ensures key { IfOk result (λ k. k ≡ record { id = id; secret = secret.now }) }
+        ensures memory { OnErr result A.may_refuse }
     {
-        SiteKey {
+        Ok(SiteKey {
             id,
             key: Key::new(secret),
-        }
+            secret: Vec::try_from_slice(alloc, secret)?,
+        })
+    }
+}
+
+impl<A: Allocator> SiteKey<A> {
+    /// Its Key ID.
+    pub fn id(&self) -> u8
+        ensures { result ≡ self.now.id }
+    {
+        self.id
     }
 
-    // An equal key.
-    fn copy(&self) -> SiteKey
-        ensures { result ≡ self.now }
+    /// The secret, made ready for tags.
+    pub fn key(&self) -> &Key
+        ensures { result.now ≡ self.now.secret }
     {
-        SiteKey {
+        &self.key
+    }
+
+    // The bytes of the secret.
+    pub(crate) fn secret(&self) -> &[u8]
+        ensures { result.now ≡ self.now.secret }
+    {
+        &self.secret
+    }
+
+    // An equal key, in memory of `alloc`.
+    fn copy<B: Memory>(&self, alloc: B) -> Result<SiteKey<B>, AllocError>
+        ensures equal { IfOk result (λ k. k ≡ self.now) }
+        ensures memory { OnErr result B.may_refuse }
+    {
+        Ok(SiteKey {
             id: self.id,
             key: self.key.copy(),
-        }
+            secret: Vec::try_from_slice(alloc, &self.secret)?,
+        })
     }
 }
 
@@ -74,7 +105,7 @@ impl SitePrefix {
 #[derive(Drop)]
 pub struct Site<A: Allocator = Global> {
     id: u64,
-    keys: Vec<SiteKey, A>,
+    keys: Vec<SiteKey<A>, A>,
     // Their places, by their Key IDs.
     by_id: Index<A>,
     prefixes: Vec<SitePrefix, A>,
@@ -97,7 +128,7 @@ impl<A: Memory + Copy> Site<A> {
     pub fn new(
         alloc: A,
         id: u64,
-        keys: Vec<SiteKey, A>,
+        keys: Vec<SiteKey<A>, A>,
         prefixes: Vec<SitePrefix, A>,
     ) -> Result<Site<A>, AllocError>
         ensures site { IfOk result (λ s. s ≡ site_with id keys.items prefixes.items) }
@@ -130,7 +161,7 @@ impl<A: Allocator> Site<A> {
     }
 
     /// The site's keys, in the order of the configuration.
-    pub fn keys(&self) -> &[SiteKey]
+    pub fn keys(&self) -> &[SiteKey<A>]
         ensures { result.now ≡ self.now.keys }
     {
         &self.keys
@@ -154,8 +185,18 @@ impl<A: Allocator> Site<A> {
     pub fn key(&self, key_id: u8) -> Option<&Key>
         ensures { option_map (λ k. k.now) result ≡ secret_of self.now key_id }
     {
+        match self.key_under(key_id) {
+            Some(found) => Some(found.key()),
+            None => None,
+        }
+    }
+
+    // The key under a Key ID, the first one where several have it.
+    pub(crate) fn key_under(&self, key_id: u8) -> Option<&SiteKey<A>>
+        ensures { option_map (λ k. k.now) result ≡ key_of self.now.keys key_id }
+    {
         match self.by_id.place(u64::from(key_id)) {
-            Some(place) => Some(&self.keys[place].key),
+            Some(place) => Some(&self.keys[place]),
             None => None,
         }
     }
@@ -195,25 +236,28 @@ impl<A: Allocator> Site<A> {
 }
 
 // The places of keys, by their Key IDs.
-fn index_of<A: Memory>(alloc: A, keys: &[SiteKey]) -> Result<Index<A>, AllocError>
+fn index_of<A: Memory>(alloc: A, keys: &[SiteKey<A>]) -> Result<Index<A>, AllocError>
     ensures index { IfOk result (λ index. Indexes index (λ k. k.id) keys.now) }
     ensures memory { OnErr result A.may_refuse }
 {
     let mut index = Index::new(alloc);
     for (place, key) in keys.iter().enumerate() {
-        index.add(u64::from(key.id), place)?;
+        index.add(u64::from(key.id()), place)?;
     }
     Ok(index)
 }
 
 // Equal keys, in memory of `alloc`.
-fn copy_keys<B: Memory>(alloc: B, keys: &[SiteKey]) -> Result<Vec<SiteKey, B>, AllocError>
+fn copy_keys<A: Allocator, B: Memory + Copy>(
+    alloc: B,
+    keys: &[SiteKey<A>],
+) -> Result<Vec<SiteKey<B>, B>, AllocError>
     ensures equal { IfOk result (λ copies. copies.items ≡ keys.now) }
     ensures memory { OnErr result B.may_refuse }
 {
     let mut copies = Vec::new(alloc);
     for key in keys {
-        copies.try_push(key.copy())?;
+        copies.try_push(key.copy(alloc)?)?;
     }
     Ok(copies)
 }

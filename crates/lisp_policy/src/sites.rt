@@ -108,7 +108,7 @@ impl<A: Memory + Copy> Sites<A> {
         ensures single { IfOk result (λ s. s ≡ single id key_id secret.now prefix more_specifics) }
         ensures memory { OnErr result A.may_refuse }
     {
-        let key = SiteKey::new(key_id, secret);
+        let key = SiteKey::new(alloc, key_id, secret)?;
         let entry = SitePrefix {
             eid: prefix,
             more_specifics,
@@ -123,7 +123,7 @@ impl<A: Memory + Copy> Sites<A> {
 fn one_site<A: Memory + Copy>(
     alloc: A,
     id: u64,
-    key: SiteKey,
+    key: SiteKey<A>,
     entry: SitePrefix,
 ) -> Result<Site<A>, AllocError>
     ensures site { IfOk result (λ s. s ≡ site_with id (key ∷ []) (entry ∷ [])) }

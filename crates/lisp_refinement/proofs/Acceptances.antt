@@ -1,14 +1,12 @@
 -- What a Map-Server has after it accepted a Map-Register, beside what a trace says that it holds.
-use Rattle.std.proofs.Common.{◌≡◌, ℕ, Bool, true, false, cond, List, [], ◌∷◌, map, Option, Some, None, refl, sym, ap, ◌∙◌, true≢false}
-use Rattle.std.specs.Prelude.{◌≢◌, ◌&&◌, reverse}
+use Rattle.std.proofs.Common.{◌≡◌, ℕ, Bool, true, false, cond, List, ◌∷◌, Option, Some, None, refl, sym, ap, ◌∙◌, true≢false}
+use Rattle.std.specs.Prelude.{◌≢◌}
 use Rattle.std.specs.List.{find}
 use Rattle.std.specs.Option.{option_map, option_and_then, option_or}
 use Rattle.std.specs.Ordering.{eq_by_cmp}
-use Rattle.std.proofs.lemmas.List.Folds.{find-append}
 use Rattle.lisp_records.specs.declared.address.Addr.{Addr}
 use Rattle.lisp_records.specs.declared.router.RouterId.{RouterId}
-use Rattle.lisp_records.specs.Address.{PrefixValue, prefix_eq}
-use Rattle.lisp_records.specs.Record.{MapRecordValue}
+use Rattle.lisp_records.specs.Address.{PrefixValue}
 use Rattle.lisp_records.specs.Router.{router_eq}
 use Rattle.lisp_records.specs.Row.{RowValue}
 use Rattle.lisp_records.proofs.RouterLaws.{router_eq-Decides}
@@ -19,11 +17,10 @@ use Rattle.lisp_nonces.specs.Pair.{pair_cmp}
 use Rattle.lisp_lookup.specs.Table.{row_at, is_row_of, if_alive, last_of as last_given, Sets}
 use Rattle.lisp_admission.specs.Pairs.{router_of, pair_of, notice_pair}
 use Rattle.lisp_server.specs.declared.contacts.Contact.{Contact}
-use Rattle.lisp_admission.specs.AcceptedRows.{row_value, row_values}
+use Rattle.lisp_admission.specs.AcceptedRows.{row_values}
 use Rattle.lisp_server.specs.Contacts.{contact_at, SetsContact}
 use Rattle.lisp_server.specs.LastNonces.{Nonces, nonce_at, SetsNonce}
 use Rattle.lisp_server.specs.Receiving.{contact_of}
-use Rattle.lisp_admission.proofs.Turned.{turned}
 use Rattle.lisp_model.specs.Held.{Acceptance, is_of_pair, last_of, heard_last, accepted_rows, held_row}
 use Rattle.lisp_model.proofs.HeldMore.{held_more, held_other}
 use Rattle.lisp_model.proofs.KeptLemmas.{pair_itself, pair_same}

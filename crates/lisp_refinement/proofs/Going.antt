@@ -72,7 +72,7 @@ module _ (o : Opening) (T U : List Step) (k : ℕ) (n : ServerNodeState) (stand 
   -- or changed, and nothing else
   pub server_goes : (m : ServerNodeState) → m ≡ record n { core = record n.core { rows = m.core.rows } } → StandsForRows m (since_start o U k) (clock U) → StandsForServer o U k m
   server_goes m rest held_row = record {
-    sites = ap (λ (x : ServerNodeState). x.core.sites) rest ∙ stand.sites;
+    sites = ap (λ (x : ServerNodeState). x.core.sites) rest ∙ stand.sites ∙ sym same.sites;
     rows = held_row.rows;
     nonces = λ pair other. ap (λ (x : ServerNodeState). nonce_at x.core.nonces pair) rest ∙ stand.nonces pair other ∙ ap (λ (all : List Acceptance). last_of pair all) (sym same.since);
     notice_nonce = ap (λ (x : ServerNodeState). nonce_at x.core.nonces notice_pair) rest ∙ stand.notice_nonce ∙ sym same.last_notice;

@@ -26,6 +26,7 @@ pub mod Refusing
 pub mod Receiving
 pub mod ServerArrivals
 pub mod NoticeParts
+pub mod Reloading
 pub mod Resending
 pub mod LiveRows
 pub mod Noticing

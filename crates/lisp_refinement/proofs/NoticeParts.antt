@@ -16,7 +16,7 @@ use Rattle.lisp_server.specs.Contacts.{contact_at}
 use Rattle.lisp_server.specs.Receiving.{contact_of}
 use Rattle.lisp_server.specs.Server.{ServerState}
 use Rattle.lisp_server.specs.Notices.{StandingNoticeValue, notice_at}
-use Rattle.lisp_model.specs.Trace.{Step, Opening, router_at, is_router, clock}
+use Rattle.lisp_model.specs.Trace.{Step, Opening, router_at, is_router, sites, clock}
 use Rattle.lisp_model.specs.Held.{held_row, last_of, heard_last}
 use Rattle.lisp_model.specs.Timers.{Notice, notice_to, last_notice, resent_at, notices_to_others}
 use Rattle.lisp_model.specs.Bag.{since_start}
@@ -111,7 +111,7 @@ others_again me router now notices differ = found_again me router now notices �
     by (Some x) its = ap Some (sent_again_other me now x (λ same. differ (sym (its x refl) ∙ same)))
 
 -- a Map-Server whose sites, rows and contacts stay, in a step that accepts nothing
-module _ (o : Opening) (T : List Step) (s : Step) (server : ℕ) (n m : ServerNodeState) (stand : StandsForServer o T server n) (time : clock (s ∷ T) ≡ clock T) (quiet : since_start o (s ∷ T) server ≡ since_start o T server)
+module _ (o : Opening) (T : List Step) (s : Step) (server : ℕ) (n m : ServerNodeState) (stand : StandsForServer o T server n) (time : clock (s ∷ T) ≡ clock T) (quiet : since_start o (s ∷ T) server ≡ since_start o T server) (has : sites o (s ∷ T) server ≡ sites o T server)
     (core : m.core ≡ record n.core { nonces = m.core.nonces; notices = m.core.notices }) where
   -- what is held stays
   rows_stay : (router : RouterId) (eid : PrefixValue) → option_and_then (if_alive (clock (s ∷ T))) (row_at m.core.rows router eid) ≡ held_row (since_start o (s ∷ T) server) router eid (clock (s ∷ T))
@@ -125,7 +125,7 @@ module _ (o : Opening) (T : List Step) (s : Step) (server : ℕ) (n m : ServerNo
   pub part_after : m.started ≡ began (s ∷ T) server → ((pair : Pair) → pair ≢ notice_pair → nonce_at m.core.nonces pair ≡ nonce_at n.core.nonces pair) → nonce_at m.core.nonces notice_pair ≡ last_notice (s ∷ T) server
       → ((router : RouterId) → SameNotice o (s ∷ T) server (notice_to o (s ∷ T) server router) (notice_at m.core.notices router)) → StandsForServer o (s ∷ T) server m
   part_after started nonces notice_nonce notices = record {
-    sites = ap (λ (c : ServerState). c.sites) core ∙ stand.sites;
+    sites = ap (λ (c : ServerState). c.sites) core ∙ stand.sites ∙ sym has;
     rows = rows_stay;
     nonces = λ pair differ. nonces pair differ ∙ stand.nonces pair differ ∙ ap (last_of pair) (sym quiet);
     notice_nonce = notice_nonce;

@@ -39,7 +39,7 @@ use Rattle.lisp_model.specs.declared.event.Event.TheVariants as events
 use Rattle.lisp_model.specs.declared.line.Line.{Line}
 use Rattle.lisp_model.specs.declared.line.Line.TheVariants as lines
 use Rattle.lisp_model.specs.declared.refusal.Refusal.TheVariants as refusals
-use Rattle.lisp_model.specs.Trace.{Step, Opening, router_at, secret_at, shown_store, clock}
+use Rattle.lisp_model.specs.Trace.{Step, Opening, router_at, secret_at, sites, shown_store, clock}
 use Rattle.lisp_model.specs.Held.{Acceptance, heard_last, records_of}
 use Rattle.lisp_model.specs.Timers.{Notice, notices, notice_to, last_notice, notices_to_others}
 use Rattle.lisp_model.specs.Bag.{Item, bytes_of, bag, since_start, notice_item}
@@ -217,7 +217,7 @@ module _ (old new : WorldState) (server router : ℕ) (fate : Fate) (line : Line
     its_records = live_rows.told_is core.rows (since_start o T server) now turn.notifies.one_each part.rows me announced.records announced.by_prefix
 
     -- the secret is that of the router's site and key
-    its_secret : announced.registered.heard.secret ≡ secret_at o.config.sites me.site contact.key
+    its_secret : announced.registered.heard.secret ≡ secret_at (sites o T server) me.site contact.key
     its_secret = ap (λ (s : Option (List ℕ)). unwrap_or s []) (sym announced.registered.heard.signs) ∙ ap (λ sites. unwrap_or (known_secret sites me.site contact.key) []) part.sites
 
     -- the datagram is the item's
@@ -288,7 +288,7 @@ module _ (old new : WorldState) (server router : ℕ) (fate : Fate) (line : Line
 
     -- the Map-Server stands for the trace with the step
     sent_part : StandsForServer o (step sent ∷ T) server turn.acts.after
-    sent_part = part_after o T (step sent) server turn.acts.before turn.acts.after part (time sent) refl announced.rest (turn.notifies.started ∙ part.started)
+    sent_part = part_after o T (step sent) server turn.acts.before turn.acts.after part (time sent) refl refl announced.rest (turn.notifies.started ∙ part.started)
         (λ pair differ. announced.nonces.others pair differ) (announced.nonces.here ∙ sym last_is) (λ other. each_notice other (same_or_other other me))
 
     -- and so does the network, with the line that names the contact's key and the nonce
@@ -383,7 +383,7 @@ module _ (old new : WorldState) (server router : ℕ) (fate : Fate) (line : Line
 
     -- it stands for the trace with the step
     refused_part : StandsForServer o (step refused ∷ T) server turn.acts.after
-    refused_part = part_after o T (step refused) server turn.acts.before turn.acts.after part (time refused) refl its_core (turn.notifies.started ∙ part.started)
+    refused_part = part_after o T (step refused) server turn.acts.before turn.acts.after part (time refused) refl refl its_core (turn.notifies.started ∙ part.started)
         (λ pair differ. ap (λ (c : ServerState). nonce_at c.nonces pair) same) (ap (λ (c : ServerState). nonce_at c.nonces notice_pair) same ∙ part.notice_nonce)
         (λ other. subst (λ (c : ServerState). SameNotice o (step refused ∷ T) server (notice_to o T server other) (notice_at c.notices other)) (sym same) (notice_goes o T (step refused ∷ T) server ([], refused_bag) (notice_to o T server other) (notice_at core.notices other) (part.notices other)))
 

@@ -132,6 +132,11 @@ module _ (o : Opening) where
       at : (b : Bool) → OneEach (if b then [] else old)
       at true = λ m n has_m has_n same. absurd (in_none m has_m)
       at false = one
+  one_case (lines.Renewed server _) now k old one = at (server == k)
+    where
+      at : (b : Bool) → OneEach (if b then [] else old)
+      at true = λ m n has_m has_n same. absurd (in_none m has_m)
+      at false = one
   one_case _ now k old one = one
 
   -- so does a trace

@@ -32,10 +32,10 @@ use Rattle.lisp_model.specs.declared.event.Event.TheVariants as events
 use Rattle.lisp_model.specs.declared.line.Line.{Line}
 use Rattle.lisp_model.specs.declared.line.Line.TheVariants as lines
 use Rattle.lisp_model.specs.declared.refusal.Refusal.TheVariants as refusals
-use Rattle.lisp_model.specs.Trace.{EventValue, Step, Opening, fate_of, shown_store, clock, time_of, address_at, secret_at, is_server}
+use Rattle.lisp_model.specs.Trace.{EventValue, Step, Opening, fate_of, shown_store, clock, time_of, address_at, secret_at, sites, sites_after, is_server}
 use Rattle.lisp_model.specs.Held.{Acceptance, last_of, heard_last, held_row}
 use Rattle.lisp_model.specs.Timers.{notices, notice_to, last_notice, notices_to_others}
-use Rattle.lisp_model.specs.Bag.{Arrival, bytes_of, arrival_in, acceptances_in, reply_item, bag, since_start}
+use Rattle.lisp_model.specs.Bag.{Item, Arrival, bytes_of, arrival_in, acceptances_in, reply_item, bag, since_start}
 use Rattle.lisp_model.specs.Life.{began}
 use Rattle.lisp_model.specs.Legal.{Arrives, LegalTrace, context_of}
 use Rattle.lisp_model.specs.Promises.{is_timeless}
@@ -53,6 +53,11 @@ use Rattle.lisp_refinement.proofs.Checked.{is_passed}
 use Rattle.lisp_refinement.proofs.Refusing.{arriving, turn_at, admits, is_fresh, space_in, same_store, refuses}
 use Rattle.lisp_refinement.proofs.Going.{notice_goes}
 use Rattle.lisp_refinement.proofs.StandingNotices.{awaited, signed_same, ended_same}
+
+-- what arrives brings no sites
+pub same_sites : (items : List Item) (event : EventValue) (a : Arrival) → arrival_in items event ≡ Some a → (k : ℕ) (old : List SiteValue) → sites_after event k old ≡ old
+same_sites items (events.Reload server new) a e k old = absurd (let clash : ◌≡◌ {A = Option Arrival} None (Some a) = e in cc)
+same_sites items _ a e k old = refl
 
 -- what a step of a Map-Server at which something arrives leaves
 pub record Received (o : Opening) (T : List Step) (s : Step) (a : Arrival) (node : ℕ) (after : ServerNodeState) (more : List DatagramValue) : Type 0 where
@@ -87,7 +92,7 @@ asked true bytes x e = cc
 asked false bytes x e = absurd cc
 
 module _ (o : Opening) (T : List Step) (node : ℕ) (kind : is_server o.config node ≡ true) (before after : ServerNodeState) (part : StandsForServer o T node before) (lives : after.started ≡ before.started)
-    (armed called : StoreState) (shows : Shows armed (shown_store o T node)) (event : EventValue) (fated : IsTrue (shown_store o T node).is_obedient → armed.fate ≡ fate_of event) (timeless : is_timeless event ≡ true) (from : Addr) (bytes : List ℕ) where
+    (armed called : StoreState) (shows : Shows armed (shown_store o T node)) (event : EventValue) (fated : IsTrue (shown_store o T node).is_obedient → armed.fate ≡ fate_of event) (timeless : is_timeless event ≡ true) (has : sites_after event node (sites o T node) ≡ sites o T node) (from : Addr) (bytes : List ℕ) where
   -- the step, by its line
   abbrev step : Line → Step
   step line = record { event = event; line = line; actor = node; shown = shown_by called }
@@ -102,7 +107,7 @@ module _ (o : Opening) (T : List Step) (node : ℕ) (kind : is_server o.config n
   module _ (line : Line) (same_since : since_start o (step line ∷ T) node ≡ since_start o T node) (same_last : last_notice (step line ∷ T) node ≡ last_notice T node) (same_life : began (step line ∷ T) node ≡ began T node) (rest : after.core ≡ record before.core { notices = after.core.notices }) where
     stays : ((router : RouterId) → SameNotice o (step line ∷ T) node (notice_to o (step line ∷ T) node router) (notice_at after.core.notices router)) → StandsForServer o (step line ∷ T) node after
     stays standing = record {
-      sites = ap (λ (c : ServerState). c.sites) rest ∙ part.sites;
+      sites = ap (λ (c : ServerState). c.sites) rest ∙ part.sites ∙ sym has;
       rows = λ router eid. subst (λ (now : ℕ). option_and_then (if_alive now) (row_at after.core.rows router eid) ≡ held_row (since_start o (step line ∷ T) node) router eid now) (sym still)
           (ap (λ (c : ServerState). option_and_then (if_alive (clock T)) (row_at c.rows router eid)) rest ∙ part.rows router eid ∙ ap (λ (xs : List Acceptance). held_row xs router eid (clock T)) (sym same_since));
       nonces = λ pair other. ap (λ (c : ServerState). nonce_at c.nonces pair) rest ∙ part.nonces pair other ∙ ap (last_of pair) (sym same_since);
@@ -138,7 +143,7 @@ module _ (o : Opening) (T : List Step) (node : ℕ) (kind : is_server o.config n
           ack = e.acknowledges.ack;
           notice = found.notice;
           stands = found.stands;
-          authentic = signed_same o T node before.core.notices part.notices o.config.sites bytes found.notice e.notice found.is ∙ ap (λ (sites : List SiteValue). answers_under sites bytes e.notice) (sym part.sites) ∙ e.acknowledges.authentic;
+          authentic = signed_same o T node before.core.notices part.notices (sites o T node) bytes found.notice e.notice found.is ∙ ap (λ (sites : List SiteValue). answers_under sites bytes e.notice) (sym part.sites) ∙ e.acknowledges.authentic;
           who = e.its ∙ found.is.router;
           number = e.under ∙ found.is.nonce;
           same = same_store o T node before part armed called shows (fate_of event) fated e.store;
@@ -199,20 +204,20 @@ module _ (o : Opening) (T : List Step) (node : ℕ) (kind : is_server o.config n
     }
 
     -- the secret of the reply
-    secret_is : a.passed.secret ≡ secret_at o.config.sites message.site message.key_id
+    secret_is : a.passed.secret ≡ secret_at (sites o T node) message.site message.key_id
     secret_is =
         let passed = is_passed before.core.sites from bytes m a.passed a.checks in
         sym ((λ i. secret_at (sym part.sites i) (passed.message i).site (passed.message i).key_id) ∙ ap (λ (x : Option (List ℕ)). unwrap_or x []) (its_secret before.core.sites from bytes m a.passed.secret passed.checks))
 
-    spelled : (x : List ℕ) → Some x ≡ reply_of a.passed.secret message → x ≡ bytes_of (reply_item o.config node one)
+    spelled : (x : List ℕ) → Some x ≡ reply_of a.passed.secret message → x ≡ bytes_of (reply_item o.config (sites o T node) node one)
     unfolding bytes_of
     spelled x e = asked message.want_notify (signed a.passed.secret (written_notify (reply_to message))) x e ∙ ap (λ (secret : List ℕ). signed secret (written_notify (reply_to message))) secret_is
 
     -- the reply goes to the bag, where there is one
     adds_reply : (q : Option (List ℕ)) → q ≡ reply_of a.passed.secret message → Adds o T (step (said q)) (option_to_list (option_map (λ x. record { from = address_at o.config node; to = from; bytes = x }) q))
     adds_reply None e = adds_none o T (step (said None)) refl
-    adds_reply (Some x) e = adds_one o T (step (said (Some x))) (record { from = address_at o.config node; to = from; bytes = x }) (reply_item o.config node one)
-        (ap (λ (xs : List Acceptance). bag o T ++ map (reply_item o.config node) xs) taken_is)
+    adds_reply (Some x) e = adds_one o T (step (said (Some x))) (record { from = address_at o.config node; to = from; bytes = x }) (reply_item o.config (sites o T node) node one)
+        (ap (λ (xs : List Acceptance). bag o T ++ map (reply_item o.config (sites o T node) node) xs) taken_is)
         (record { from = refl; to = refl; bytes = spelled x e; message = a.fits })
 
     -- it comes before all that was accepted since the start
@@ -224,7 +229,7 @@ module _ (o : Opening) (T : List Step) (node : ℕ) (kind : is_server o.config n
     -- the Map-Server goes on to stand
     accepted_part : Adds o T (step (said reply)) (replies {A = A} (address_at o.config node) from (Ok (Accepted router key nonce reply))) → StandsForServer o (step (said reply) ∷ T) node after
     accepted_part adds = record {
-      sites = a.sites ∙ part.sites;
+      sites = a.sites ∙ part.sites ∙ sym has;
       rows = λ q eid. subst (λ (now : ℕ). option_and_then (if_alive now) (row_at after.core.rows q eid) ≡ held_row (since_start o (step (said reply) ∷ T) node) q eid now) (sym still)
           (rows_after message from (clock T) (since_start o T node) q eid before.core.rows after.core.rows a.rows (part.rows q eid) ∙ ap (λ (xs : List Acceptance). held_row xs q eid (clock T)) (sym since_is));
       nonces = λ pair other. nonces_after message from (clock T) (since_start o T node) before.core.nonces after.core.nonces a.nonces pair (part.nonces pair other) ∙ ap (last_of pair) (sym since_is);

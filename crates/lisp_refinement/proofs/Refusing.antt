@@ -24,7 +24,7 @@ use Rattle.lisp_admission.specs.Pairs.{pair_of}
 use Rattle.lisp_server.specs.Checks.{Passed, register_checked, RefusesAck as RefusesAckOf, answers_under}
 use Rattle.lisp_server.specs.LastNonces.{nonce_at}
 use Rattle.lisp_server.specs.Receiving.{ServerRefuses, RefusesRegister, HasSpace as HasSpaceOf, LacksSpace as LacksSpaceOf}
-use Rattle.lisp_model.specs.Trace.{Step, Opening, shown_store, clock}
+use Rattle.lisp_model.specs.Trace.{Step, Opening, sites, shown_store, clock}
 use Rattle.lisp_model.specs.Timers.{Notice}
 use Rattle.lisp_model.specs.Bag.{Arrival, since_start}
 use Rattle.lisp_model.specs.Legal.{LegalTrace}
@@ -86,12 +86,12 @@ module _ (o : Opening) (T : List Step) (node : ℕ) (before : ServerNodeState) (
     -- whether its site has space for a Map-Register is as the Map-Server reckons it
     module _ (read : Result MessageValue ReadFault) (m : MapRegisterValue) where
       pub space_in : HasSpaceOf before.core m from (clock T) → HasSpace turn (arriving from bytes read) m
-      space_in space = fits_alike (most_routers_at o.config.sites m.site) (most_rows_at o.config.sites m.site) m.site (live_rows before.core.rows (clock T)) (live_rows_with before.core.rows (row_values m from (clock T)) (clock T))
+      space_in space = fits_alike (most_routers_at (sites o T node) m.site) (most_rows_at (sites o T node) m.site) m.site (live_rows before.core.rows (clock T)) (live_rows_with before.core.rows (row_values m from (clock T)) (clock T))
           (rows_before turn) (rows_with turn (arriving from bytes read) m) part.rows (λ router eid. held_with m from (clock T) (since_start o T node) router eid before.core.rows (part.rows router eid))
           (subst (λ (sites : List SiteValue). Fits (most_routers_at sites m.site) (most_rows_at sites m.site) m.site (live_rows before.core.rows (clock T)) (live_rows_with before.core.rows (row_values m from (clock T)) (clock T))) part.sites space)
 
       lacks_in : (full : Full) → LacksSpaceOf before.core m from (clock T) full → LacksSpace turn (arriving from bytes read) m full
-      lacks_in full lacks = full_alike (most_routers_at o.config.sites m.site) (most_rows_at o.config.sites m.site) m.site (live_rows before.core.rows (clock T)) (live_rows_with before.core.rows (row_values m from (clock T)) (clock T))
+      lacks_in full lacks = full_alike (most_routers_at (sites o T node) m.site) (most_rows_at (sites o T node) m.site) m.site (live_rows before.core.rows (clock T)) (live_rows_with before.core.rows (row_values m from (clock T)) (clock T))
           (rows_before turn) (rows_with turn (arriving from bytes read) m) full part.rows (λ router eid. held_with m from (clock T) (since_start o T node) router eid before.core.rows (part.rows router eid))
           (subst (λ (sites : List SiteValue). IsFull (most_routers_at sites m.site) (most_rows_at sites m.site) m.site (live_rows before.core.rows (clock T)) (live_rows_with before.core.rows (row_values m from (clock T)) (clock T)) full) part.sites lacks)
 
@@ -106,11 +106,11 @@ module _ (o : Opening) (T : List Step) (node : ℕ) (before : ServerNodeState) (
           record {
             read = ap (λ (x : MapRegisterValue). Ok (Registers x)) (sym p.message);
             secret = passed.secret;
-            checks = subst (λ (x : MapRegisterValue). secret_under o.config.sites from bytes x ≡ Ok passed.secret) (sym p.message) (subst (λ (sites : List SiteValue). secret_under sites from bytes m ≡ Ok passed.secret) part.sites p.checks);
+            checks = subst (λ (x : MapRegisterValue). secret_under (sites o T node) from bytes x ≡ Ok passed.secret) (sym p.message) (subst (λ (sites : List SiteValue). secret_under sites from bytes m ≡ Ok passed.secret) part.sites p.checks);
           }
 
       -- it fails one
-      fails : (why : Refused) → (check ≡ Err why) × (called ≡ armed) → (secret_under o.config.sites from bytes m ≡ Err why) × Same turn
+      fails : (why : Refused) → (check ≡ Err why) × (called ≡ armed) → (secret_under (sites o T node) from bytes m ≡ Err why) × Same turn
       fails why e = (subst (λ (sites : List SiteValue). secret_under sites from bytes m ≡ Err why) part.sites (is_failed before.core.sites from bytes m why e.0), same_store e.1)
 
       -- a Map-Register is refused for the first reason that applies
@@ -186,7 +186,7 @@ module _ (o : Opening) (T : List Step) (node : ℕ) (before : ServerNodeState) (
           let found = awaited o T node before.core.notices part.notices fate turn.before turn.after from m legal r.1 r.2 in
           let tag = ap (λ (sites : List SiteValue). answers_under sites bytes r.1) (sym part.sites) ∙ r.3 in
           subst (λ (b : Bool). FailsNotify turn arrival m b refuseds.BadAuth) (sym r.0) (subst (λ (n : Option Notice). RefusesAck turn arrival n refuseds.BadAuth) (sym found.stands)
-          (signed_same o T node before.core.notices part.notices o.config.sites bytes found.notice r.1 found.is ∙ tag, refl))
+          (signed_same o T node before.core.notices part.notices (sites o T node) bytes found.notice r.1 found.is ∙ tag, refl))
       refuses_notify _ r = absurd r
 
     -- any message is

@@ -17,7 +17,7 @@ use Rattle.lisp_replies.specs.declared.reply.Reply.{Reply}
 use Rattle.lisp_replies.specs.declared.reply.Reply.TheVariants.{Records, Negative, Forward, Silent}
 use Rattle.lisp_replies.proofs.AlikeLaws.{replies_are_alike}
 use Rattle.lisp_replies.proofs.KeptLaws.{replies_may_be_kept}
-use Rattle.lisp_model.specs.Trace.{Step, Opening, clock}
+use Rattle.lisp_model.specs.Trace.{Step, Opening, sites, clock}
 use Rattle.lisp_model.specs.History.{SentRegister}
 use Rattle.lisp_model.specs.Held.{rows}
 use Rattle.lisp_model.specs.Bag.{since_start}
@@ -78,13 +78,13 @@ module _ (w : WorldState) (o : Opening) (T : List Step) (stand : Stands w o T) (
         let now : NodeReplies n asked quiet (clock T) reply = subst (λ (now : ℕ). NodeReplies n asked quiet now reply) stand.bag.moment replies in
         let begun : IsReply n.core.rows n.core.sites asked (is_starting (began T server) quiet (clock T)) (clock T) reply =
         subst (λ (b : ℕ). IsReply n.core.rows n.core.sites asked (is_starting b quiet (clock T)) (clock T) reply) part.started now.is in
-        let of_sites : IsReply n.core.rows o.config.sites asked (is_starting (began T server) quiet (clock T)) (clock T) reply =
+        let of_sites : IsReply n.core.rows (sites o T server) asked (is_starting (began T server) quiet (clock T)) (clock T) reply =
         subst (λ (sites : List SiteValue). IsReply n.core.rows sites asked (is_starting (began T server) quiet (clock T)) (clock T) reply) part.sites begun in
-        replies_are_alike A n.core.rows held o.config.sites asked (is_starting (began T server) quiet (clock T)) (clock T) reply
+        replies_are_alike A n.core.rows held (sites o T server) asked (is_starting (began T server) quiet (clock T)) (clock T) reply
         (same_live n.core.rows held (clock T) now.one_each (lists_held o T server n part)) of_sites
 
     -- where nobody outside knows a secret, it reads what was sent
-    reads : Clean o T → (reply : Reply A) → IsReplyOf o T server asked quiet reply → MayBeKept held o.config.sites asked.addr (clock T) reply → ReadsWhatWasSent o T server asked reply
+    reads : Clean o T → (reply : Reply A) → IsReplyOf o T server asked quiet reply → MayBeKept held (sites o T server) asked.addr (clock T) reply → ReadsWhatWasSent o T server asked reply
     reads clean (Records records) is kept = λ first rest same addr has r longest. (
         let its_first = same_first records first kept.first rest kept.rest same kept.is in
         record_was_sent clean addr r (kept.answered addr (subst (λ (f : MapRecordValue). holds f.eid addr ≡ true) its_first has) r longest))
@@ -98,7 +98,7 @@ module _ (w : WorldState) (o : Opening) (T : List Step) (stand : Stands w o T) (
 pub replies_are_promised : (A : Type 0) (w : WorldState) → RepliesArePromised A w
 replies_are_promised A w server asked quiet reply replies o T stand =
     let is = is_reply w o T stand server replies.node replies.running asked quiet reply replies.replies in
-    let kept = replies_may_be_kept A (rows (since_start o T server) (clock T)) o.config.sites asked (is_starting (began T server) quiet (clock T)) (clock T) reply is in
+    let kept = replies_may_be_kept A (rows (since_start o T server) (clock T)) (sites o T server) asked (is_starting (began T server) quiet (clock T)) (clock T) reply is in
     record {
       is = is;
       kept = kept;

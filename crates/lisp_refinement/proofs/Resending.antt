@@ -176,7 +176,7 @@ module _ (old new : WorldState) (server router : ℕ) (line : Line) (turn : Netw
 
     -- the Map-Server stands for the trace with the step
     sent_part : StandsForServer o (step sent ∷ T) server turn.acts.after
-    sent_part = part_after o T (step sent) server turn.acts.before turn.acts.after part (time sent) refl its_core (its_start ∙ part.started)
+    sent_part = part_after o T (step sent) server turn.acts.before turn.acts.after part (time sent) refl refl its_core (its_start ∙ part.started)
         (λ pair differ. ap (λ nonces. nonce_at nonces pair) its_nonces) (ap (λ nonces. nonce_at nonces notice_pair) its_nonces ∙ part.notice_nonce) (λ other. each_notice other (same_or_other other me))
 
     -- and so does the network
@@ -209,7 +209,7 @@ module _ (old new : WorldState) (server router : ℕ) (line : Line) (turn : Netw
 
     -- the Map-Server stands for the trace with the step
     refused_part : StandsForServer o (step refused ∷ T) server turn.acts.after
-    refused_part = part_after o T (step refused) server turn.acts.before turn.acts.after part (time refused) refl its_core (its_start ∙ part.started)
+    refused_part = part_after o T (step refused) server turn.acts.before turn.acts.after part (time refused) refl refl its_core (its_start ∙ part.started)
         (λ pair differ. ap (λ nonces. nonce_at nonces pair) its_nonces) (ap (λ nonces. nonce_at nonces notice_pair) its_nonces ∙ part.notice_nonce)
         (λ other. subst (λ (n : ServerNodeState). SameNotice o (step refused ∷ T) server (notice_to o T server other) (notice_at n.core.notices other)) (sym same) (notice_goes o T (step refused ∷ T) server ([], refused_bag) (notice_to o T server other) (notice_at turn.acts.before.core.notices other) (part.notices other)))
 

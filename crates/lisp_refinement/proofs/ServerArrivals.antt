@@ -18,7 +18,7 @@ use Rattle.lisp_server.specs.Receiving.{ServerTakes, ServerRefuses}
 use Rattle.lisp_model.specs.declared.event.Event.TheVariants as events
 use Rattle.lisp_model.specs.declared.line.Line.{Line}
 use Rattle.lisp_model.specs.declared.line.Line.TheVariants as lines
-use Rattle.lisp_model.specs.Trace.{ShownStore, EventValue, Step, Opening, fate_of, shown_store, node_at, address_at, is_server, is_router}
+use Rattle.lisp_model.specs.Trace.{ShownStore, EventValue, Step, Opening, sites, fate_of, shown_store, node_at, address_at, is_server, is_router}
 use Rattle.lisp_model.specs.Bag.{Item, Arrival, bytes_of, arrival_of, junk_arrival, arrival_in, bag}
 use Rattle.lisp_model.specs.Legal.{Arrives, MayCome, IsDelivered, IsJunk, context_of}
 use Rattle.lisp_model.specs.Context.{Context}
@@ -29,7 +29,7 @@ use Rattle.lisp_refinement.specs.Stands.{shown_by, Carries, Stands, StandsAfter}
 use Rattle.lisp_refinement.proofs.Acting.{Adds, adds_none, Shown-in, uses_shown, server_is, address_is, server_acts, nobody_acts}
 use Rattle.lisp_refinement.proofs.Gets.{get_within}
 use Rattle.lisp_refinement.proofs.Heads.{reads_signed}
-use Rattle.lisp_refinement.proofs.Receiving.{Received, received}
+use Rattle.lisp_refinement.proofs.Receiving.{Received, received, same_sites}
 
 -- a datagram that lies in the bag, and the item that it carries
 pub record Lies (o : Opening) (T : List Step) (k : ℕ) (d : DatagramValue) : Type 0 where
@@ -89,7 +89,7 @@ module _ (A : Type 0) (old new : WorldState) (node : ℕ) (fate : Fate) (from : 
   leaves : (event : EventValue) → fate_of event ≡ fate → is_timeless event ≡ true → arrival_in (bag o T) event ≡ Some (junk_arrival from bytes)
       → Received o T (step event says) (junk_arrival from bytes) node at.acts.after (replies (address_at o.config node) from at.answer)
   leaves event fated timeless arrives = received o T node (server_is old o T stand node at.acts.before at.acts.was) at.acts.before at.acts.after (stand.servers node at.acts.before at.acts.was) at.receives.started
-      at.receives.armed at.receives.called uses.armed_shows event (λ obeys. uses.fated obeys ∙ sym fated) timeless from bytes stand.steps.legal (message_at bytes) at.answer arrives
+      at.receives.armed at.receives.called uses.armed_shows event (λ obeys. uses.fated obeys ∙ sym fated) timeless (same_sites (bag o T) event (junk_arrival from bytes) arrives node (sites o T node)) from bytes stand.steps.legal (message_at bytes) at.answer arrives
       (subst (λ (now : ℕ). IfOk at.answer (λ took. ServerTakes (message_at bytes) from bytes at.acts.before.core at.acts.after.core at.receives.armed at.receives.called now took)) stand.bag.moment at.receives.taken)
       (subst (λ (now : ℕ). IfErr at.answer (λ why. ServerRefuses (message_at bytes) from bytes at.acts.before.core at.receives.armed at.receives.called now why)) stand.bag.moment at.receives.refused)
       at.receives.err at.receives.head

@@ -15,6 +15,7 @@ use Rattle.lisp_refinement.specs.Taking.{NetworkTakes}
 use Rattle.lisp_refinement.proofs.Changing.{change_stands}
 use Rattle.lisp_refinement.proofs.Losing.{lose_stands}
 use Rattle.lisp_refinement.proofs.Noticing.{notice_stands}
+use Rattle.lisp_refinement.proofs.Reloading.{reload_stands}
 use Rattle.lisp_refinement.proofs.Resending.{resend_stands}
 use Rattle.lisp_refinement.proofs.Rotating.{rotate_stands}
 use Rattle.lisp_refinement.proofs.Sending.{send_stands}
@@ -56,3 +57,4 @@ taking_agrees A old new (events.Rotate router key fate) line turn = rotate_stand
 taking_agrees A old new (events.Lose router key db) line (fits, turn) = lose_stands old new router key db line fits turn
 taking_agrees A old new (events.Notice server router fate) line turn = notice_stands old new server router fate line turn
 taking_agrees A old new (events.Resend server router) line turn = resend_stands old new server router line turn
+taking_agrees A old new (events.Reload server sites) line turn = reload_stands old new server sites line turn

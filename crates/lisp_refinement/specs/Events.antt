@@ -1,5 +1,5 @@
 -- What an event makes of the network, by the call of the node that acts.
-use Rattle.std.specs.Prelude.{◌≡◌, ◌⊎◌, ℕ, ◌+◌, ◌<◌, ◌≤◌, ◌==◌, Bool, true, false, List, [], ◌∷◌, ◌++◌, length, position, slice_get, slice_set, slice_index_or, Option, Some, None, Result, Ok, Err}
+use Rattle.std.specs.Prelude.{◌≡◌, ◌⊎◌, ℕ, ◌+◌, ◌<◌, ◌≤◌, ◌==◌, Bool, true, false, List, [], ◌∷◌, ◌++◌, length, position, slice_get, slice_set, slice_index_or, Option, Some, None, Result, Ok, Err, if◌then◌else◌}
 use Rattle.std.specs.Option.{option_map, option_to_list, unwrap_or}
 use Rattle.lisp_records.specs.Database.{database_of as checked_database}
 use Rattle.lisp_records.specs.declared.address.Addr.{Addr}
@@ -10,6 +10,8 @@ use Rattle.lisp_records.specs.Moment.{max_moment}
 use Rattle.lisp_records.specs.Record.{MapRecordValue}
 use Rattle.lisp_messages.specs.declared.head.Head.{Head}
 use Rattle.lisp_messages.specs.Head.{head_at}
+use Rattle.lisp_policy.specs.Site.{SiteValue}
+use Rattle.lisp_policy.specs.Extends.{extends}
 use Rattle.lisp_nonces.specs.declared.fate.Fate.{Fate}
 use Rattle.lisp_nonces.specs.Store.{StoreState}
 use Rattle.lisp_etr.specs.Etr.{EtrState, etr_changed}
@@ -26,6 +28,7 @@ use Rattle.lisp_lookup.specs.Table.{Expires}
 use Rattle.lisp_server.specs.declared.took.Took.{Took}
 use Rattle.lisp_server.specs.declared.took.Took.TheVariants.{Accepted, NoticeDone}
 use Rattle.lisp_server.specs.Notices.{Resends, RefusesResend}
+use Rattle.lisp_server.specs.Server.{reloaded}
 use Rattle.lisp_model.specs.declared.line.Line.{Line}
 use Rattle.lisp_model.specs.declared.line.Line.TheVariants as lines
 use Rattle.lisp_model.specs.declared.refusal.Refusal.TheVariants as refusals
@@ -235,6 +238,22 @@ pub record NetworkRestartsServer (old new : WorldState) (node pick : ℕ) (line 
   pub crashes : StoreRestarts acts.before.store acts.after.store pick
   pub started : acts.after.started ≡ old.clock
   pub said : line ≡ lines.Restarted node
+
+-- a Map-Server takes other sites at a moment; where they lack something that its own had, another life of it begins
+pub record NodeReloads (old new : ServerNodeState) (sites : List SiteValue) (now : ℕ) : Type 0 where
+  pub core : new.core ≡ reloaded old.core sites
+  pub store : new.store ≡ old.store
+  pub started : new.started ≡ (if extends old.core.sites sites then old.started else now)
+
+-- its line says whether it keeps what it holds, and how many sites there are
+abbrev pub reload_line : ℕ → Bool → ℕ → Line
+reload_line server true count = lines.Reloaded server count
+reload_line server false count = lines.Renewed server count
+
+pub record NetworkReloads (old new : WorldState) (server : ℕ) (sites : List SiteValue) (line : Line) : Type 0 where
+  pub acts : ServerActs old new server []
+  pub reloads : NodeReloads acts.before acts.after sites old.clock
+  pub said : line ≡ reload_line server (extends acts.before.core.sites sites) (length sites)
 
 abbrev pub start_line : ℕ → Result (Unit {0}) StartFault → Line
 start_line node (Ok done) = lines.Restarted node

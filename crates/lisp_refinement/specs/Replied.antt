@@ -13,7 +13,7 @@ use Rattle.lisp_replies.specs.declared.reply.Reply.{Reply}
 use Rattle.lisp_replies.specs.declared.reply.Reply.TheVariants.{Records, Negative, Forward, Silent}
 use Rattle.lisp_replies.specs.Kept.{MayBeKept}
 use Rattle.lisp_replies.specs.Reply.{IsReply, is_starting}
-use Rattle.lisp_model.specs.Trace.{Step, Opening, clock}
+use Rattle.lisp_model.specs.Trace.{Step, Opening, sites, clock}
 use Rattle.lisp_model.specs.History.{SentRegister}
 use Rattle.lisp_model.specs.Held.{rows}
 use Rattle.lisp_model.specs.Bag.{since_start}
@@ -67,7 +67,7 @@ ReadsWhatWasSent o T server asked Silent = Unit {0}
 -- reads what was sent
 pub record IsPromisedReply {A : Type 0} (o : Opening) (T : List Step) (server : ℕ) (asked : PrefixValue) (quiet : ℕ) (reply : Reply A) : Type 0 where
   pub is : IsReplyOf o T server asked quiet reply
-  pub kept : MayBeKept (rows (since_start o T server) (clock T)) o.config.sites asked.addr (clock T) reply
+  pub kept : MayBeKept (rows (since_start o T server) (clock T)) (sites o T server) asked.addr (clock T) reply
   pub sent : Clean o T → ReadsWhatWasSent o T server asked reply
 
 -- so it is by every trace that the network stands for

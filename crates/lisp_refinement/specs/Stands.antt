@@ -21,7 +21,7 @@ use Rattle.lisp_server.specs.Contacts.{contact_at}
 use Rattle.lisp_server.specs.Receiving.{contact_of}
 use Rattle.lisp_admission.specs.Pairs.{notice_pair}
 use Rattle.lisp_server.specs.Notices.{StandingNoticeValue, notice_at}
-use Rattle.lisp_model.specs.Trace.{ShownStore, EventValue, Step, Opening, addresses, router_at, etr_config, address_at, shown_store, clock, is_up, database}
+use Rattle.lisp_model.specs.Trace.{ShownStore, EventValue, Step, Opening, addresses, router_at, etr_config, sites, address_at, shown_store, clock, is_up, database}
 use Rattle.lisp_model.specs.Keys.{keys_since_loss, keys_before_loss}
 use Rattle.lisp_model.specs.declared.line.Line.{Line}
 use Rattle.lisp_model.specs.Held.{last_of, heard_last, held_row}
@@ -139,7 +139,7 @@ SameNotice o T server _ _ = ⊥
 
 -- a server
 pub record StandsForServer (o : Opening) (T : List Step) (server : ℕ) (n : ServerNodeState) : Type 0 where
-  pub sites : n.core.sites ≡ o.config.sites
+  pub sites : n.core.sites ≡ sites o T server
   pub rows : (router : RouterId) (eid : PrefixValue)
       → option_and_then (if_alive (clock T)) (row_at n.core.rows router eid)
       ≡ held_row (since_start o T server) router eid (clock T)

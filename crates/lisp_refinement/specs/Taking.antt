@@ -5,7 +5,7 @@ use Rattle.lisp_model.specs.declared.line.Line.{Line}
 use Rattle.lisp_model.specs.Restarting.{Fits}
 use Rattle.lisp_model.specs.Trace.{EventValue}
 use Rattle.lisp_refinement.specs.World.{WorldState}
-use Rattle.lisp_refinement.specs.Events.{Arrives, NetworkChanges, NetworkDelivers, NetworkLoses, NetworkNotifies, NetworkResends, NetworkRestarts, NetworkRotates, NetworkSends, NetworkTicks}
+use Rattle.lisp_refinement.specs.Events.{Arrives, NetworkChanges, NetworkDelivers, NetworkLoses, NetworkNotifies, NetworkReloads, NetworkResends, NetworkRestarts, NetworkRotates, NetworkSends, NetworkTicks}
 use Rattle.lisp_refinement.specs.Stands.{StandsAfter}
 
 -- what an event makes of a network, and its line
@@ -20,6 +20,7 @@ NetworkTakes A old new (events.Rotate router key fate) line = NetworkRotates old
 NetworkTakes A old new (events.Lose router key db) line = Fits db × NetworkLoses old new router key db line
 NetworkTakes A old new (events.Notice server router fate) line = NetworkNotifies old new server router fate line
 NetworkTakes A old new (events.Resend server router) line = NetworkResends old new server router line
+NetworkTakes A old new (events.Reload server sites) line = NetworkReloads old new server sites line
 
 -- a network that took an event stands for each trace that it stood for, followed by that step
 abbrev pub TakingAgrees : Type 0 → WorldState → WorldState → Type 0

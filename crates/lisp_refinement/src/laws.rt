@@ -10,8 +10,9 @@ use std::alloc::Allocator;
 /// Whatever the event: time passes, and each Map-Server drops its dead rows; a router is given another database, or
 /// sends a Map-Register; a datagram that was sent, or bytes from outside, arrive at a node, or nowhere; a node stops,
 /// its store crashes, and it starts again, a router may be down then; a router goes over to another key of its site;
-/// a router's store is lost, and it starts under a key that it never used, or is down then; or a Map-Server sends a
-/// router an unsolicited Map-Notify (notice), or sends one again that is due (RFC 9301 sections 5.6, 5.7 and 8.2).
+/// a router's store is lost, and it starts under a key that it never used, or is down then; a Map-Server sends a
+/// router an unsolicited Map-Notify (notice), or sends one again that is due; or a Map-Server takes other sites (RFC 9301 sections
+/// 5.6, 5.7 and 8.2).
 pub fn taking_agrees<A: Allocator>()
     ensures { (old new : WorldState) → TakingAgrees A old new }
 {}

@@ -16,12 +16,13 @@ use Rattle.lisp_admission.specs.declared.refused.Refused.{Refused}
 use Rattle.lisp_admission.specs.declared.notice_fault.NoticeFault.{NoticeFault}
 use Rattle.lisp_server.specs.Notices.{EndsNotice, SetsNotice, StandingNoticeValue, notice_at}
 use Rattle.lisp_server.specs.Receiving.{ServerTakes}
-use Rattle.lisp_server.specs.Server.{ServerState, empty_server}
+use Rattle.lisp_server.specs.Server.{ServerState, empty_server, reloaded}
 use Rattle.lisp_server.specs.declared.took.Took.{Took}
 use Rattle.lisp_server.specs.declared.took.Took.TheVariants.{Accepted, NoticeDone}
 use Rattle.lisp_embedded.specs.declared.hosted_server.HostedServer.{HostedServer}
 use Rattle.lisp_embedded.specs.declared.notice.HostedNotice.{HostedNotice}
-use Rattle.lisp_policy.specs.Configuration.{ConfigValue}
+use Rattle.lisp_policy.specs.Extends.{extends}
+use Rattle.lisp_policy.specs.Site.{SiteValue}
 use Rattle.lisp_registration.specs.declared.handle_fault.HandleFault.{HandleFault}
 use Rattle.lisp_registration.specs.declared.handle_fault.HandleFault.TheVariants as faults
 use Rattle.lisp_registration.specs.Fault.{handle_fault_number}
@@ -34,7 +35,7 @@ use Rattle.lisp_registration.specs.declared.router_id.PlainRouter.{PlainRouter}
 use Rattle.lisp_registration.specs.Notices.{AreShort, DropsRows, ExpiresRows, HoldsShort, KeepsShort, LeavesNotice, Made, Making, NoticeLeft, NotifiesKept, ResendsDue, TellsNotice, TellsResent, router_in}
 use Rattle.lisp_registration.specs.Room.{in_time, message_room, ready}
 use Rattle.lisp_registration.specs.Server.{Left, LeavesFrom, ReceivesKept, RestartsServer, TellsReceived, kept_in, source_of}
-use Rattle.lisp_registration.specs.Starting.{Comes, StartsNode, text_config, text_server, told_start}
+use Rattle.lisp_registration.specs.Starting.{Comes, ReloadsServer, StartsNode, text_server, text_sites, told_reload, told_start}
 use Rattle.lisp_registration.proofs.Whole.{notice_has_room}
 
 ok_is : {X E : Type 0} (x y : X) → ◌≡◌ {A = Result X E} (Ok x) (Ok y) → x ≡ y
@@ -106,10 +107,10 @@ holds left held is = subst HoldsShort (sym is)
 
 -- a start
 started_short : (text : List ℕ) (answer : Result HostedServer NodeFault) (old : Option HostedServer) → Comes (λ x. x) answer (text_server text) → HoldsShort old → HoldsShort (told_start answer old).1
-started_short text (Ok hosted) old comes short = by (text_config text) comes
+started_short text (Ok hosted) old comes short = by (text_sites text) comes
   where
-    by : (config : Result ConfigValue NodeFault) → (config >>= λ c. Ok (record { server = empty_server c.sites })) ≡ Ok hosted → AreShort hosted.server.notices
-    by (Ok c) is = (let made : HostedServer = record { server = empty_server c.sites } in subst (λ (h : HostedServer). AreShort h.server.notices) (ok_is made hosted is) none_short)
+    by : (given : Result (List SiteValue) NodeFault) → (given >>= λ sites. Ok (record { server = empty_server sites })) ≡ Ok hosted → AreShort hosted.server.notices
+    by (Ok sites) is = (let made : HostedServer = record { server = empty_server sites } in subst (λ (h : HostedServer). AreShort h.server.notices) (ok_is made hosted is) none_short)
     by (Err e) is = absurd cc
 started_short text (Err fault) old comes short = short
 
@@ -120,6 +121,22 @@ start_keeps text old new number (answer, comes, is) short = holds new _ (ap (λ 
 pub restart_keeps : KeepsShort RestartsServer
 restart_keeps (Some hosted) new number (told, is) short = holds new _ is none_short
 restart_keeps None new number (told, is) short = holds new None is tt
+
+-- other sites
+reloaded_short : (old : ServerState) (sites : List SiteValue) → AreShort old.notices → AreShort (reloaded old sites).notices
+reloaded_short old sites short = by (extends old.sites sites) refl
+  where
+    by : (all : Bool) → extends old.sites sites ≡ all → AreShort (reloaded old sites).notices
+    by true is = rw is short
+    by false is = rw is none_short
+
+told_short : (answer : Result (List SiteValue) NodeFault) (old : Option HostedServer) (goes_on : ℕ) → HoldsShort old → HoldsShort (told_reload answer old goes_on).1.0
+told_short (Ok sites) (Some hosted) goes_on short = reloaded_short hosted.server sites short
+told_short (Ok sites) None goes_on short = tt
+told_short (Err fault) old goes_on short = short
+
+pub reload_keeps : (text : List ℕ) (goes_on goes_on' : ℕ) → KeepsShort (λ old number new. ReloadsServer (text_sites text) old goes_on number new goes_on')
+reload_keeps text goes_on goes_on' old new number (answer, comes, is) short = holds new _ (ap (λ (x : ℕ × (Option HostedServer × ℕ)). x.1.0) is) (told_short answer old goes_on short)
 
 -- a datagram
 received_left : (kept : Option ℕ) (from : Result Addr HandleFault) (bytes : List ℕ) (now : ℕ) (held : Option HostedServer) (buffer : List ℕ) (received : PlainReceived) (left : Left) → LeavesFrom kept from bytes now held buffer received left → HoldsShort held → HoldsShort left.1.0

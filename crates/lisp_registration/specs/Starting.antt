@@ -3,9 +3,11 @@ use Rattle.std.specs.Prelude.{◌≡◌, ℕ, true, List, Option, Some, None, Re
 use Rattle.std.specs.List.{find}
 use Rattle.std.specs.Str.{bytes_eq, is_utf8}
 use Rattle.toml.specs.Parse.{parse_document}
-use Rattle.lisp_records.specs.Record.{MapRecordValue}
+use Rattle.lisp_records.specs.Record.{MapRecordValue, bit}
 use Rattle.lisp_records.specs.Result.{◌>>=◌}
 use Rattle.lisp_policy.specs.Configuration.{ConfigValue, RouterEntryValue}
+use Rattle.lisp_policy.specs.Extends.{extends}
+use Rattle.lisp_policy.specs.Site.{SiteValue}
 use Rattle.lisp_sites.specs.declared.fault.ConfigFault.{ConfigFault}
 use Rattle.lisp_sites.specs.declared.fault.ConfigFault.TheVariants as config_faults
 use Rattle.lisp_sites.specs.Field.{fault_number}
@@ -14,7 +16,7 @@ use Rattle.lisp_nonces.specs.declared.pair.Pair.{Pair}
 use Rattle.lisp_etr.specs.Config.{EtrConfigValue, sent_pair}
 use Rattle.lisp_etr.specs.Etr.{etr_changed}
 use Rattle.lisp_model.specs.Trace.{etr_config_of}
-use Rattle.lisp_server.specs.Server.{empty_server}
+use Rattle.lisp_server.specs.Server.{empty_server, reloaded}
 use Rattle.lisp_embedded.specs.declared.hosted_server.HostedServer.{HostedServer}
 use Rattle.lisp_embedded.specs.declared.hosted_router.HostedRouter.{HostedRouter}
 use Rattle.lisp_embedded.specs.Routers.{started_from}
@@ -66,9 +68,13 @@ RunsOutReading text answer = IsErrOf answer (Configuration config_faults.OutOfMe
 
 -- ---- nodes
 
--- a Map-Server of the sites of a configuration, which holds nothing
+-- the sites of a configuration
+abbrev pub text_sites : List ℕ → Result (List SiteValue) NodeFault
+text_sites text = text_config text >>= λ config. Ok config.sites
+
+-- a Map-Server of these sites, holding nothing
 abbrev pub text_server : List ℕ → Result HostedServer NodeFault
-text_server text = text_config text >>= λ config. Ok (record { server = empty_server config.sites })
+text_server text = text_sites text >>= λ sites. Ok (record { server = empty_server sites })
 
 -- the router of a name, which goes on from the nonce that was passed
 abbrev pub text_router : List ℕ → List ℕ → Option ℕ → ℕ → Result HostedRouter NodeFault
@@ -99,6 +105,16 @@ told_start (Err fault) old = (node_fault_number fault, old)
 -- it starts what the text gives
 abbrev pub StartsNode : {X : Type 0} → Result X NodeFault → Option X → ℕ → Option X → Type 0
 StartsNode {X = X} given old number new = (answer : Result X NodeFault) × Comes (λ x. x) answer given × ((number, new) ≡ told_start answer old)
+
+-- a Map-Server that takes other sites, if there is one
+abbrev pub told_reload : Result (List SiteValue) NodeFault → Option HostedServer → ℕ → ℕ × (Option HostedServer × ℕ)
+told_reload (Ok sites) (Some hosted) goes_on = (0, (Some (record { server = reloaded hosted.server sites }), bit (extends hosted.server.sites sites)))
+told_reload (Ok sites) None goes_on = (handle_fault_number Null, (None, goes_on))
+told_reload (Err fault) old goes_on = (node_fault_number fault, (old, goes_on))
+
+-- it takes the text's sites
+abbrev pub ReloadsServer : Result (List SiteValue) NodeFault → Option HostedServer → ℕ → ℕ → Option HostedServer → ℕ → Type 0
+ReloadsServer given old goes_on number new goes_on' = (answer : Result (List SiteValue) NodeFault) × Comes (λ x. x) answer given × ((number, (new, goes_on')) ≡ told_reload answer old goes_on)
 
 -- a router that registers another database from a time on, where the handle holds one
 abbrev pub told_change : Result (List MapRecordValue) NodeFault → Option HostedRouter → ℕ → ℕ × Option HostedRouter

@@ -14,7 +14,7 @@ ghost use Rattle.lisp_registration.specs.declared.sent.PlainSent.{PlainSent};
 ghost use Rattle.lisp_registration.specs.Notices.{ExpiresRows, KeepsShort, TellsNotice, TellsResent};
 ghost use Rattle.lisp_registration.specs.Router.{AnswersWhole, TellsSeen, TellsSent};
 ghost use Rattle.lisp_registration.specs.Server.{IsInFront, RestartsServer, TellsReceived};
-ghost use Rattle.lisp_registration.specs.Starting.{StartsNode, text_server};
+ghost use Rattle.lisp_registration.specs.Starting.{ReloadsServer, StartsNode, text_server, text_sites};
 
 /// Where a router makes a Map-Register, so many bytes in front of the buffer are told as it has, and they are the Map-Register.
 pub fn registers_are_told_whole()
@@ -38,6 +38,9 @@ pub fn answers_of_routers_are_told_whole()
 pub fn notices_stay_short()
     ensures start { (text : List ℕ) → KeepsShort (StartsNode (text_server text)) }
     ensures restart { KeepsShort RestartsServer }
+    ensures reload { (text : List ℕ) (goes_on goes_on_new : ℕ) →
+        KeepsShort (λ old number new. ReloadsServer (text_sites text) old goes_on
+        number new goes_on_new) }
     ensures receive { (kept : PlainNonce) (from : PlainAddress) (bytes : List ℕ) (now : ℕ)
         (buffer buffer_new : List ℕ) (received received_new : PlainReceived) →
         KeepsShort (λ old number new. TellsReceived kept from bytes now old buffer received

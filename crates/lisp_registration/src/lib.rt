@@ -108,8 +108,8 @@ pub use seen::PlainSeen;
 pub use sent::PlainSent;
 pub use server::{
     lisp_registration_server_pair, lisp_registration_server_receive,
-    lisp_registration_server_restart, lisp_registration_server_start,
-    lisp_registration_server_stop,
+    lisp_registration_server_reload, lisp_registration_server_restart,
+    lisp_registration_server_start, lisp_registration_server_stop,
 };
 pub use tag::{lisp_registration_authentic, lisp_registration_sign};
 pub use writing::lisp_registration_write_message;

@@ -3,14 +3,14 @@
 ghost use Rattle.std.specs.Prelude.{◌≡◌, None};
 ghost use Rattle.lisp_memory.specs.Refusal.{MachineMayRefuse};
 ghost use Rattle.lisp_registration.specs.Server.{RestartsServer, TellsPair, TellsReceived};
-ghost use Rattle.lisp_registration.specs.Starting.{MayRunOut, StartsNode, text_server};
+ghost use Rattle.lisp_registration.specs.Starting.{MayRunOut, ReloadsServer, StartsNode, text_server, text_sites};
 
 use crate::address::PlainAddress;
 use crate::handle_fault::HandleFault;
 use crate::pair::{PlainNonce, PlainPair};
 use crate::received::PlainReceived;
 use crate::room::source;
-use crate::starting::{restart, started_server};
+use crate::starting::{restart, sites_of, started_server};
 use crate::telling::tell_received;
 use lisp_embedded::{ServerHandle, pair_needed, receive_kept};
 use std::alloc::Global;
@@ -54,6 +54,36 @@ pub extern "C" fn lisp_registration_server_restart(alloc: Global, server: &mut S
     match server.take(alloc) {
         Some(mut hosted) => {
             restart(alloc, &mut hosted);
+            *server = ServerHandle::of(hosted);
+            0
+        }
+        None => HandleFault::Null.number(),
+    }
+}
+
+/// Has the Map-Server take the sites of a configuration, TOML in UTF-8, in place of its own. Where these have all that its own
+/// have, each site with its keys, their secrets and its prefixes, under limits that are as wide, it goes on with what it holds,
+/// and `goes_on` is 1; else it starts anew with these sites alone, and `goes_on` is 0. 0 is done; else (`NotUtf8` 95, a fault of
+/// the configuration 20 to 24, `OutOfMemory` 105, then `Null` 100 where the handle holds none) all is as it was.
+#[unsafe(no_mangle)]
+pub extern "C" fn lisp_registration_server_reload(
+    alloc: Global,
+    configuration: &[u8],
+    server: &mut ServerHandle,
+    goes_on: &mut u8,
+) -> u16
+    ensures reloaded { ReloadsServer (text_sites configuration.now) server.old.value goes_on.old
+        result server.new.value goes_on.new }
+    ensures memory { result ≡ 105 → MachineMayRefuse }
+    ensures reading { result ≡ 24 → MayRunOut configuration.now }
+{
+    let sites = match sites_of(alloc, configuration) {
+        Ok(sites) => sites,
+        Err(fault) => return fault.number(),
+    };
+    match server.take(alloc) {
+        Some(mut hosted) => {
+            *goes_on = u8::from(hosted.server.reload(sites));
             *server = ServerHandle::of(hosted);
             0
         }

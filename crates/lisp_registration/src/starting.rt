@@ -6,7 +6,7 @@ ghost use Rattle.std.specs.Str.{bytes_eq};
 ghost use Rattle.lisp_memory.specs.Refusal.{MachineMayRefuse};
 ghost use Rattle.lisp_policy.specs.Configuration.{RouterEntryValue};
 ghost use Rattle.lisp_server.specs.Server.{empty_server};
-ghost use Rattle.lisp_registration.specs.Starting.{Comes, RunsOutReading, text_config, text_router, text_server, text_settings};
+ghost use Rattle.lisp_registration.specs.Starting.{Comes, RunsOutReading, text_config, text_router, text_server, text_settings, text_sites};
 ghost use Rattle.lisp_registration.specs.declared.node_fault.NodeFault.TheVariants.{OutOfMemory};
 
 use crate::node_fault::NodeFault;
@@ -14,6 +14,7 @@ use core::mem::replace_with;
 use lisp_embedded::{HostedRouter, HostedServer, start_kept};
 use lisp_etr::EtrConfig;
 use lisp_memory::FallibleBox;
+use lisp_policy::Sites;
 use lisp_records::Database;
 use lisp_server::Server;
 use lisp_sites::{Config, RouterEntry};
@@ -29,10 +30,19 @@ pub(crate) fn started_server(
     ensures memory { IsErrOf result OutOfMemory → MachineMayRefuse }
     ensures reading { RunsOutReading configuration.now result }
 {
-    let config = read(alloc, configuration)?;
-    let sites = config.sites().copy(alloc)?;
+    let sites = sites_of(alloc, configuration)?;
     let server = Server::start(alloc, sites);
     Ok(Box::try_new(alloc, HostedServer { server })?)
+}
+
+/// The sites of a configuration.
+pub(crate) fn sites_of(alloc: Global, configuration: &[u8]) -> Result<Sites<Global>, NodeFault>
+    ensures sites { Comes (λ sites. sites) result (text_sites configuration.now) }
+    ensures memory { IsErrOf result OutOfMemory → MachineMayRefuse }
+    ensures reading { RunsOutReading configuration.now result }
+{
+    let config = read(alloc, configuration)?;
+    Ok(config.sites().copy(alloc)?)
 }
 
 /// The router of a name in a configuration, which starts at a time, in ms, from the nonce that the program loaded.

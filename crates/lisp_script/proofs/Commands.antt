@@ -9,6 +9,7 @@ use Rattle.lisp_script.specs.declared.fault.ScriptWhat.{ScriptWhat}
 use Rattle.lisp_script.specs.declared.fault.ScriptWhat.TheVariants.{Memory}
 use Rattle.lisp_script.specs.Words.{texts}
 use Rattle.lisp_script.specs.Spelling.{command_of, with_words}
+use Rattle.lisp_script.specs.Answers.{MayRunOutIn}
 
 pub ruleset steps = (append-nil, map-append)
 
@@ -28,8 +29,9 @@ no_more c before [] none = ap Ok (append-nil (map command_value before))
 no_more c before (word ∷ words) none = absurd (omega arith)
 
 -- a command that isn't read
-pub no_command : (May : Type 0) (c : ConfigValue) (before : List CommandValue) (words : List (Bor (List ℕ))) (d : Bor (List ℕ)) (what : ScriptWhat) → 1 ≤ length words
-    → (May × (what ≡ Memory)) ⊎ (command_of c (get_or words 0 d).now (texts (take (length words - 1) (drop 1 words))) ≡ Err what) → (May × (what ≡ Memory)) ⊎ (with_words c before (texts words) ≡ Err what)
-no_command May c before [] d what some is = absurd (omega arith)
-no_command May c before (word ∷ words) d what some (inl out) = inl out
-no_command May c before (word ∷ words) d what some (inr is) = inr (rw (← behind word words, is) refl)
+pub no_command : (may : Type 0) (c : ConfigValue) (before : List CommandValue) (words : List (Bor (List ℕ))) (d : Bor (List ℕ)) (what : ScriptWhat) → 1 ≤ length words
+    → (MayRunOutIn may ((get_or words 0 d).now ∷ texts (take (length words - 1) (drop 1 words))) × (what ≡ Memory)) ⊎ (command_of c (get_or words 0 d).now (texts (take (length words - 1) (drop 1 words))) ≡ Err what)
+    → (MayRunOutIn may (texts words) × (what ≡ Memory)) ⊎ (with_words c before (texts words) ≡ Err what)
+no_command may c before [] d what some is = absurd (omega arith)
+no_command may c before (word ∷ words) d what some (inl out) = inl out
+no_command may c before (word ∷ words) d what some (inr is) = inr (rw (← behind word words, is) refl)

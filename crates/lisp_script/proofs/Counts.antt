@@ -10,7 +10,7 @@ use Rattle.lisp_script.specs.declared.fault.ScriptWhat.{ScriptWhat}
 use Rattle.lisp_script.specs.Fault.{Gives}
 use Rattle.lisp_script.specs.Command.{CommandValue}
 use Rattle.lisp_script.specs.Words.{texts}
-use Rattle.lisp_script.specs.Spelling.{change_of, restart_with, lose_with, spelt}
+use Rattle.lisp_script.specs.Spelling.{change_of, restart_with, lose_with, reload_of, spelt}
 use Rattle.lisp_script.proofs.Faults.{reads_gives}
 
 pub one : (words : List (Bor (List ℕ))) (d : Bor (List ℕ)) → 1 ≤ length words → length words < 2 → texts words ≡ (get_or words 0 d).now ∷ []
@@ -51,24 +51,25 @@ five (a ∷ b ∷ e ∷ f ∷ h ∷ []) d some few = refl
 five (a ∷ b ∷ e ∷ f ∷ h ∷ k ∷ words) d some few = absurd (omega arith)
 
 -- more words than any verb takes that no records follow
-too_many : (c : ConfigValue) (verb : Verb) (a b e f h k : List ℕ) (words : List (List ℕ)) → verb ≢ verbs.Change → verb ≢ verbs.Restart → verb ≢ verbs.Lose
+too_many : (c : ConfigValue) (verb : Verb) (a b e f h k : List ℕ) (words : List (List ℕ)) → verb ≢ verbs.Change → verb ≢ verbs.Restart → verb ≢ verbs.Lose → verb ≢ verbs.Reload
     → spelt c verb (a ∷ b ∷ e ∷ f ∷ h ∷ k ∷ words) ≡ Err Count
 unfolding spelt
-too_many c verbs.Change a b e f h k words change restart lose = absurd (change refl)
-too_many c verbs.Send a b e f h k words change restart lose = refl
-too_many c verbs.Deliver a b e f h k words change restart lose = refl
-too_many c verbs.Junk a b e f h k words change restart lose = refl
-too_many c verbs.Tick a b e f h k words change restart lose = refl
-too_many c verbs.Restart a b e f h k words change restart lose = absurd (restart refl)
-too_many c verbs.Rotate a b e f h k words change restart lose = refl
-too_many c verbs.Lose a b e f h k words change restart lose = absurd (lose refl)
-too_many c verbs.Notice a b e f h k words change restart lose = refl
-too_many c verbs.Resend a b e f h k words change restart lose = refl
-too_many c verbs.Hold a b e f h k words change restart lose = refl
-too_many c verbs.Acks a b e f h k words change restart lose = refl
-too_many c verbs.Ask a b e f h k words change restart lose = refl
-too_many c verbs.Request a b e f h k words change restart lose = refl
-too_many c verbs.Due a b e f h k words change restart lose = refl
+too_many c verbs.Change a b e f h k words change restart lose reload = absurd (change refl)
+too_many c verbs.Send a b e f h k words change restart lose reload = refl
+too_many c verbs.Deliver a b e f h k words change restart lose reload = refl
+too_many c verbs.Junk a b e f h k words change restart lose reload = refl
+too_many c verbs.Tick a b e f h k words change restart lose reload = refl
+too_many c verbs.Restart a b e f h k words change restart lose reload = absurd (restart refl)
+too_many c verbs.Rotate a b e f h k words change restart lose reload = refl
+too_many c verbs.Lose a b e f h k words change restart lose reload = absurd (lose refl)
+too_many c verbs.Notice a b e f h k words change restart lose reload = refl
+too_many c verbs.Resend a b e f h k words change restart lose reload = refl
+too_many c verbs.Reload a b e f h k words change restart lose reload = absurd (reload refl)
+too_many c verbs.Hold a b e f h k words change restart lose reload = refl
+too_many c verbs.Acks a b e f h k words change restart lose reload = refl
+too_many c verbs.Ask a b e f h k words change restart lose reload = refl
+too_many c verbs.Request a b e f h k words change restart lose reload = refl
+too_many c verbs.Due a b e f h k words change restart lose reload = refl
 
 -- no word behind a verb
 too_few : (c : ConfigValue) (verb : Verb) → spelt c verb [] ≡ Err Count
@@ -83,6 +84,7 @@ too_few c verbs.Rotate = refl
 too_few c verbs.Lose = refl
 too_few c verbs.Notice = refl
 too_few c verbs.Resend = refl
+too_few c verbs.Reload = refl
 too_few c verbs.Hold = refl
 too_few c verbs.Acks = refl
 too_few c verbs.Ask = refl
@@ -90,14 +92,14 @@ too_few c verbs.Request = refl
 too_few c verbs.Due = refl
 
 -- a number of words that no verb takes that no records follow
-pub miscounted : (c : ConfigValue) (verb : Verb) (words : List (Bor (List ℕ))) → (1 ≤ length words → 6 ≤ length words) → verb ≢ verbs.Change → verb ≢ verbs.Restart → verb ≢ verbs.Lose → spelt c verb (texts words) ≡ Err Count
-miscounted c verb [] many change restart lose = too_few c verb
-miscounted c verb (a ∷ []) many change restart lose = absurd (omega (arith, many))
-miscounted c verb (a ∷ b ∷ []) many change restart lose = absurd (omega (arith, many))
-miscounted c verb (a ∷ b ∷ e ∷ []) many change restart lose = absurd (omega (arith, many))
-miscounted c verb (a ∷ b ∷ e ∷ f ∷ []) many change restart lose = absurd (omega (arith, many))
-miscounted c verb (a ∷ b ∷ e ∷ f ∷ h ∷ []) many change restart lose = absurd (omega (arith, many))
-miscounted c verb (a ∷ b ∷ e ∷ f ∷ h ∷ k ∷ words) many change restart lose = too_many c verb a.now b.now e.now f.now h.now k.now (texts words) change restart lose
+pub miscounted : (c : ConfigValue) (verb : Verb) (words : List (Bor (List ℕ))) → (1 ≤ length words → 6 ≤ length words) → verb ≢ verbs.Change → verb ≢ verbs.Restart → verb ≢ verbs.Lose → verb ≢ verbs.Reload → spelt c verb (texts words) ≡ Err Count
+miscounted c verb [] many change restart lose reload = too_few c verb
+miscounted c verb (a ∷ []) many change restart lose reload = absurd (omega (arith, many))
+miscounted c verb (a ∷ b ∷ []) many change restart lose reload = absurd (omega (arith, many))
+miscounted c verb (a ∷ b ∷ e ∷ []) many change restart lose reload = absurd (omega (arith, many))
+miscounted c verb (a ∷ b ∷ e ∷ f ∷ []) many change restart lose reload = absurd (omega (arith, many))
+miscounted c verb (a ∷ b ∷ e ∷ f ∷ h ∷ []) many change restart lose reload = absurd (omega (arith, many))
+miscounted c verb (a ∷ b ∷ e ∷ f ∷ h ∷ k ∷ words) many change restart lose reload = too_many c verb a.now b.now e.now f.now h.now k.now (texts words) change restart lose reload
 
 -- a definition at the texts of one word, and of two
 pub by_one : {X Y : Type 0} (May : Type 0) (view : X → Y) (result : Result X ScriptWhat) (f : List (List ℕ) → Result Y ScriptWhat) (words : List (Bor (List ℕ))) (d : Bor (List ℕ)) → 1 ≤ length words → length words < 2
@@ -172,3 +174,19 @@ lose_more May view result c [] d some is = absurd (omega arith)
 lose_more May view result c (a ∷ []) d some is = absurd (omega arith)
 lose_more May view result c (a ∷ b ∷ []) d some is = absurd (omega arith)
 lose_more May view result c (a ∷ b ∷ e ∷ words) d some is = rw (behind_two a b (e ∷ words)) at is
+
+-- and for sites
+pub reload_none : (c : ConfigValue) (words : List (Bor (List ℕ))) → length words < 3 → spelt c verbs.Reload (texts words) ≡ Err Count
+unfolding spelt
+reload_none c [] few = refl
+reload_none c (a ∷ []) few = refl
+reload_none c (a ∷ b ∷ []) few = refl
+reload_none c (a ∷ b ∷ e ∷ words) few = absurd (omega arith)
+
+pub reload_more : {X : Type 0} (May : Type 0) (view : X → CommandValue) (result : Result X ScriptWhat) (c : ConfigValue) (words : List (Bor (List ℕ))) (d : Bor (List ℕ)) → 3 ≤ length words
+    → Gives May view result (reload_of c (get_or words 0 d).now (get_or words 1 d).now (texts (take (length words - 2) (drop 2 words)))) → Gives May view result (spelt c verbs.Reload (texts words))
+unfolding spelt
+reload_more May view result c [] d some is = absurd (omega arith)
+reload_more May view result c (a ∷ []) d some is = absurd (omega arith)
+reload_more May view result c (a ∷ b ∷ []) d some is = absurd (omega arith)
+reload_more May view result c (a ∷ b ∷ e ∷ words) d some is = rw (behind_two a b (e ∷ words)) at is

@@ -3,6 +3,7 @@ mod Plain
 mod Filled
 mod Verbs
 mod Records
+mod Spaced
 mod Lines
 mod Counts
 mod Commands

@@ -12,7 +12,9 @@ use Rattle.lisp_script.specs.declared.fault.ScriptWhat.{ScriptWhat}
 use Rattle.lisp_script.specs.declared.fault.ScriptWhat.TheVariants.{Memory}
 use Rattle.lisp_script.specs.Fault.{Gives}
 use Rattle.lisp_script.specs.Command.{CommandValue}
+use Rattle.lisp_script.specs.Words.{words_of}
 use Rattle.lisp_script.specs.Spelling.{and_more, at_line, in_line, in_lines, with_line, HasWords, IsReached}
+use Rattle.lisp_script.specs.Answers.{MayRunOutIn, MayRunOutOf}
 use Rattle.lisp_script.proofs.Plain.{in_line_plain}
 use Rattle.lisp_script.proofs.Records.{with_front}
 
@@ -152,6 +154,11 @@ runs_out May c line before after n fault (Ok _) gives is e = absurd cc
 runs_out May c line before after n fault (Err what) gives is e =
     let same : fault ≡ record { line = n; what = what } = cc in
     out what _ gives (sym (ap (λ (f : ScriptFault). f.what) same) ∙ e) (λ wrong. in_line_plain c line (first_fault before (in_line c line) Memory wrong))
+
+-- an excuse of a line is one of the script
+pub of_script : (may : Type 0) (text : List ℕ) (xs : List (ℕ × Bor (List ℕ))) (x : ℕ × Bor (List ℕ)) → IsNext (lines text) xs x → MayRunOutIn may (words_of x.1.now) → MayRunOutOf may text
+of_script may text xs x next (inl out) = inl out
+of_script may text xs x next (inr sites) = inr (record { before = texts xs; line = x.1.now; behind = drop (length xs + 1) (lines text); parts = next.parts; sites = sites })
 
 -- then the line has words, and those before it are read
 pub reaches : (c : ConfigValue) (text : List ℕ) (xs : List (ℕ × Bor (List ℕ))) (x : ℕ × Bor (List ℕ)) (before : List CommandValue) (fault : ScriptFault) (read : Result (Unit {0}) ScriptWhat)

@@ -2,17 +2,19 @@
 use Rattle.std.proofs.Common.{◌≢◌, ℕ, Bool, true, false, cond, nat_lt, List, [], ◌∷◌, length, codes, Option, Some, None, Result, Ok, Err}
 use Rattle.std.specs.Option.{ok_or}
 use Rattle.hex.specs.Hex.{decode_of}
+use Rattle.toml.specs.Parse.{parse_document}
 use Rattle.lisp_records.specs.Result.{◌>>=◌}
 use Rattle.lisp_records.specs.declared.address.Addr.{Addr}
 use Rattle.lisp_nonces.specs.declared.fate.Fate.{Fate}
 use Rattle.lisp_nonces.specs.declared.fate.Fate.TheVariants as fates
 use Rattle.lisp_policy.specs.Configuration.{ConfigValue}
+use Rattle.lisp_sites.specs.Table.{sites_in}
 use Rattle.lisp_script.specs.declared.fault.ScriptWhat.{ScriptWhat}
 use Rattle.lisp_script.specs.declared.fault.ScriptWhat.TheVariants as whats
 use Rattle.lisp_script.specs.declared.verb.Verb.{Verb}
 use Rattle.lisp_script.specs.declared.verb.Verb.TheVariants as verbs
-use Rattle.lisp_script.specs.Spelling.{verb_of, change_of, part_in, send_of, source_in, request_of, deliver_of, notice_of, given_to, restart_of, restart_with, rotate_of, lose_of, lose_with, spelt, command_of, is_comment, in_words, in_line}
-use Rattle.lisp_script.specs.Words.{words_of, is_word, node_of, server_of, router_of, number_in, as_key, key_in, address_in, prefix_in, or_fault, bytes_in, doubt_in, load_fails_in, fate_in, records_in, some_records, database_in}
+use Rattle.lisp_script.specs.Spelling.{verb_of, change_of, part_in, send_of, source_in, request_of, deliver_of, notice_of, given_to, restart_of, restart_with, rotate_of, lose_of, lose_with, reload_of, spelt, command_of, is_comment, in_words, in_line}
+use Rattle.lisp_script.specs.Words.{words_of, is_word, node_of, server_of, router_of, number_in, as_key, key_in, address_in, prefix_in, or_fault, bytes_in, doubt_in, load_fails_in, fate_in, records_in, some_records, database_in, mark_in, spaced, sites_in_words}
 
 -- a value, or a fault that isn't of memory
 abbrev Plain : {X : Type 0} → Result X ScriptWhat → Type 0
@@ -111,6 +113,14 @@ database [] = some []
 database (w ∷ []) = either (is_word w (codes "empty")) (Ok []) _ tt (some (w ∷ []))
 database (w ∷ v ∷ ws) = some (w ∷ v ∷ ws)
 
+-- ---- sites
+
+mark : (w : List ℕ) → Plain (mark_in w)
+mark w = either (is_word w (codes "---")) (Ok tt) (Err whats.Word) tt word
+
+sites : (ws : List (List ℕ)) → Plain (sites_in_words ws)
+sites ws = fault_plain whats.Record (sites_in (parse_document (spaced ws))) entry
+
 -- ---- commands
 
 change : (c : ConfigValue) (r : List ℕ) (ws : List (List ℕ)) → Plain (change_of c r ws)
@@ -162,6 +172,10 @@ lose_given : (c : ConfigValue) (r k : List ℕ) (ws : List (List ℕ)) → Plain
 unfolding lose_with
 lose_given c r k ws = then _ _ (router c r) (λ router. then _ _ (key k) (λ key. then _ _ (database ws) (λ db. tt)))
 
+reload : (c : ConfigValue) (s m : List ℕ) (ws : List (List ℕ)) → Plain (reload_of c s m ws)
+unfolding reload_of
+reload c s m ws = then _ _ (server c s) (λ server. then _ _ (mark m) (λ behind. then _ _ (sites ws) (λ sites. tt)))
+
 spelt_plain : (c : ConfigValue) (verb : Verb) (ws : List (List ℕ)) → Plain (spelt c verb ws)
 unfolding spelt
 spelt_plain c verbs.Change [] = count
@@ -208,6 +222,10 @@ spelt_plain c verbs.Resend [] = count
 spelt_plain c verbs.Resend (a ∷ []) = count
 spelt_plain c verbs.Resend (s ∷ r ∷ []) = then _ _ (server c s) (λ server. then _ _ (router c r) (λ router. tt))
 spelt_plain c verbs.Resend (a ∷ b ∷ d ∷ ws) = count
+spelt_plain c verbs.Reload [] = count
+spelt_plain c verbs.Reload (a ∷ []) = count
+spelt_plain c verbs.Reload (a ∷ b ∷ []) = count
+spelt_plain c verbs.Reload (s ∷ m ∷ w ∷ ws) = reload c s m (w ∷ ws)
 spelt_plain c verbs.Hold [] = count
 spelt_plain c verbs.Hold (s ∷ []) = then _ _ (server c s) (λ server. tt)
 spelt_plain c verbs.Hold (a ∷ b ∷ ws) = count

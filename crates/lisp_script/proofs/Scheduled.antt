@@ -1,5 +1,5 @@
 -- An input is a schedule, or what is wrong with it.
-use Rattle.std.proofs.Common.{◌≡◌, ℕ, Bool, true, false, List, [], length, Some, None, Result, Ok, Err, refl, sym, ap, ◌∙◌}
+use Rattle.std.proofs.Common.{◌≡◌, ◌⊎◌, ℕ, Bool, true, false, List, [], length, Some, None, Result, Ok, Err, refl, sym, ap, ◌∙◌}
 use Rattle.std.specs.Prelude.{◌≢◌}
 use Rattle.lisp_records.specs.Result.{◌>>=◌}
 use Rattle.std.specs.Str.{IsUtf8, is_utf8}
@@ -10,7 +10,7 @@ use Rattle.lisp_sites.specs.Table.{config_of, Fails}
 use Rattle.lisp_sites.specs.declared.fault.ConfigFault.{ConfigFault}
 use Rattle.lisp_sites.specs.declared.fault.ConfigFault.TheVariants as config_faults
 use Rattle.lisp_script.specs.Command.{CommandValue}
-use Rattle.lisp_script.specs.Spelling.{script_of, IsReached}
+use Rattle.lisp_script.specs.Spelling.{script_of, HasReload, IsReached}
 use Rattle.lisp_script.specs.declared.fault.ScriptFault.{ScriptFault}
 use Rattle.lisp_script.specs.declared.fault.ScriptWhat.{ScriptWhat}
 use Rattle.lisp_script.specs.declared.fault.ScriptWhat.TheVariants as whats
@@ -97,9 +97,9 @@ module _ (input : List ℕ) where
         a_schedule orders is = in_parts ∙ rw (config, is) refl
 
         module _ (May : Type 0) (line : ℕ) where
-          pub no_script : (what : ScriptWhat) → (what ≢ whats.Memory → script_of c script ≡ Err (record { line = line; what = what })) → (what ≡ whats.Memory → May) → (what ≡ whats.Memory → IsReached c script line)
+          pub no_script : (what : ScriptWhat) → (what ≢ whats.Memory → script_of c script ≡ Err (record { line = line; what = what })) → (what ≡ whats.Memory → May ⊎ HasReload script) → (what ≡ whats.Memory → IsReached c script line)
               → IsNoScript May input line what
-          no_script whats.Memory fault may reached = (may refl, record { parts = (configuration, script); parted = has_parts; config = c; configured = config; reached = reached refl })
+          no_script whats.Memory fault may reached = record { parts = (configuration, script); parted = has_parts; may = may refl; config = c; configured = config; reached = reached refl }
           no_script whats.Word fault may reached = faulty _ (fault (λ e. absurd cc))
           no_script whats.Count fault may reached = faulty _ (fault (λ e. absurd cc))
           no_script whats.Name fault may reached = faulty _ (fault (λ e. absurd cc))

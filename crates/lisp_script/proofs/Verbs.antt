@@ -17,8 +17,8 @@ differs name word other = refuted (is_word name word) (bytes_eq-Decides name wor
 
 -- no verb is another word
 pub unknown : (word : List ℕ) → word ≢ codes "change" → word ≢ codes "send" → word ≢ codes "deliver" → word ≢ codes "junk" → word ≢ codes "tick" → word ≢ codes "restart"
-    → word ≢ codes "rotate" → word ≢ codes "lose" → word ≢ codes "notice" → word ≢ codes "resend" → word ≢ codes "hold" → word ≢ codes "acks" → word ≢ codes "ask" → word ≢ codes "request" → word ≢ codes "due" → verb_of word ≡ Err Word
-unknown word change send deliver junk tick restart rotate lose notice resend hold acks ask request due =
+    → word ≢ codes "rotate" → word ≢ codes "lose" → word ≢ codes "notice" → word ≢ codes "resend" → word ≢ codes "reload" → word ≢ codes "hold" → word ≢ codes "acks" → word ≢ codes "ask" → word ≢ codes "request" → word ≢ codes "due" → verb_of word ≡ Err Word
+unknown word change send deliver junk tick restart rotate lose notice resend reload hold acks ask request due =
     rw (
       differs _ word change,
       differs _ word send,
@@ -30,6 +30,7 @@ unknown word change send deliver junk tick restart rotate lose notice resend hol
       differs _ word lose,
       differs _ word notice,
       differs _ word resend,
+      differs _ word reload,
       differs _ word hold,
       differs _ word acks,
       differs _ word ask,

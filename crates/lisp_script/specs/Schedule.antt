@@ -1,5 +1,5 @@
 -- A schedule: a configuration, a line `---`, and the commands of a script.
-use Rattle.std.specs.Prelude.{◌≡◌, ℕ, true, List, map, Vec, Some, Result, Ok, Err, if◌then◌else◌}
+use Rattle.std.specs.Prelude.{◌≡◌, ◌⊎◌, ℕ, true, List, map, Vec, Some, Result, Ok, Err, if◌then◌else◌}
 use Rattle.std.specs.Option.{ok_or}
 use Rattle.std.specs.Str.{is_utf8}
 use Rattle.toml.specs.Parse.{parse_document}
@@ -12,7 +12,7 @@ use Rattle.lisp_script.specs.declared.fault.ScriptWhat.{ScriptWhat}
 use Rattle.lisp_script.specs.declared.fault.ScriptWhat.TheVariants.{Memory}
 use Rattle.lisp_script.specs.declared.command.Command.{Command}
 use Rattle.lisp_script.specs.Command.{CommandValue, command_value}
-use Rattle.lisp_script.specs.Spelling.{script_of, IsReached}
+use Rattle.lisp_script.specs.Spelling.{script_of, HasReload, IsReached}
 use Rattle.lisp_script.specs.declared.play_fault.PlayFault.{PlayFault}
 use Rattle.lisp_script.specs.declared.play_fault.PlayFault.TheVariants as faults
 use Rattle.lisp_script.specs.Parts.{parted}
@@ -52,17 +52,19 @@ abbrev pub IsNoConfig : List ℕ → ConfigFault → Type 0
 IsNoConfig input config_faults.OutOfMemory = (parts : List ℕ × List ℕ) × HasParts input parts
 IsNoConfig input why = schedule_of input ≡ Err (faults.Config why)
 
--- memory ran out in a line of its script: the configuration and the lines before are read without fault
-pub record RunsOutAt (input : List ℕ) (line : ℕ) : Type 0 where
+-- memory ran out in a line of its script: the configuration and the lines before are read without fault. It is refused only where it
+-- may be, or where the script tells a Map-Server sites
+pub record RunsOutAt (may_refuse : Type 0) (input : List ℕ) (line : ℕ) : Type 0 where
   pub parts : List ℕ × List ℕ
   pub parted : HasParts input parts
+  pub may : may_refuse ⊎ HasReload parts.1
   pub config : ConfigValue
   pub configured : config_of (parse_document parts.0) ≡ Ok config
   pub reached : IsReached config parts.1 line
 
 -- a fault of its script
 abbrev pub IsNoScript : Type 0 → List ℕ → ℕ → ScriptWhat → Type 0
-IsNoScript may_refuse input line Memory = may_refuse × RunsOutAt input line
+IsNoScript may_refuse input line Memory = RunsOutAt may_refuse input line
 IsNoScript may_refuse input line what = schedule_of input ≡ Err (faults.Script (record { line = line; what = what }))
 
 -- what a fault says of the input: the first thing that is wrong with it, or how far it was read where memory ran out

@@ -17,14 +17,14 @@ use Rattle.lisp_script.specs.declared.fault.ScriptWhat.{ScriptWhat}
 use Rattle.lisp_script.specs.declared.fault.ScriptWhat.TheVariants as whats
 use Rattle.lisp_script.specs.declared.fault.ScriptFault.{ScriptFault}
 use Rattle.lisp_script.specs.Command.{CommandValue}
-use Rattle.lisp_script.specs.Words.{words_of, is_word, node_of, server_of, router_of, number_in, key_in, address_in, prefix_in, bytes_in, doubt_in, load_fails_in, fate_in, database_in}
+use Rattle.lisp_script.specs.Words.{words_of, is_word, node_of, server_of, router_of, number_in, key_in, address_in, prefix_in, bytes_in, doubt_in, load_fails_in, fate_in, database_in, mark_in, sites_in_words}
 
 -- the first words
 abbrev pub first_words : List (List ℕ × Verb)
 first_words =
     (codes "change", verbs.Change) ∷ (codes "send", verbs.Send) ∷ (codes "deliver", verbs.Deliver) ∷ (codes "junk", verbs.Junk)
     ∷ (codes "tick", verbs.Tick) ∷ (codes "restart", verbs.Restart) ∷ (codes "rotate", verbs.Rotate) ∷ (codes "lose", verbs.Lose)
-    ∷ (codes "notice", verbs.Notice) ∷ (codes "resend", verbs.Resend) ∷ (codes "hold", verbs.Hold) ∷ (codes "acks", verbs.Acks) ∷ (codes "ask", verbs.Ask)
+    ∷ (codes "notice", verbs.Notice) ∷ (codes "resend", verbs.Resend) ∷ (codes "reload", verbs.Reload) ∷ (codes "hold", verbs.Hold) ∷ (codes "acks", verbs.Acks) ∷ (codes "ask", verbs.Ask)
     ∷ (codes "request", verbs.Request) ∷ (codes "due", verbs.Due) ∷ []
 
 abbrev pub verb_of : List ℕ → Result Verb ScriptWhat
@@ -108,6 +108,14 @@ lose_with c r k records = do
   db ← database_in records
   Ok (Act (events.Lose router key (Some db)))
 
+-- reload S, with sites behind a mark
+unfoldable pub reload_of : ConfigValue → List ℕ → List ℕ → List (List ℕ) → Result CommandValue ScriptWhat
+reload_of c s mark words = do
+  server ← server_of c s
+  behind ← mark_in mark
+  sites ← sites_in_words words
+  Ok (Act (events.Reload server sites))
+
 -- an address is named
 abbrev pub some_source : Result Addr ScriptWhat → Result (Option Addr) ScriptWhat
 some_source read = do
@@ -155,6 +163,7 @@ spelt c verbs.Resend (s ∷ r ∷ []) = do
   server ← server_of c s
   router ← router_of c r
   Ok (Act (events.Resend server router))
+spelt c verbs.Reload (s ∷ mark ∷ first ∷ more) = reload_of c s mark (first ∷ more)
 spelt c verbs.Hold (s ∷ []) = do
   server ← server_of c s
   Ok (Hold server)
@@ -225,6 +234,19 @@ in_lines c number (line ∷ more) = do
 -- the commands of a script
 abbrev pub script_of : ConfigValue → List ℕ → Result (List CommandValue) ScriptFault
 script_of c text = in_lines c 1 (lines text)
+
+-- words that tell a Map-Server sites
+abbrev pub TellsSites : List (List ℕ) → Type 0
+TellsSites [] = ⊥
+TellsSites (word ∷ words) = verb_of word ≡ Ok verbs.Reload
+
+-- a script has such a line
+pub record HasReload (text : List ℕ) : Type 0 where
+  pub before : List (List ℕ)
+  pub line : List ℕ
+  pub behind : List (List ℕ)
+  pub parts : lines text ≡ before ++ line ∷ behind
+  pub sites : TellsSites (words_of line)
 
 -- a line that is neither a comment nor blank
 abbrev pub HasWords : List ℕ → Type 0

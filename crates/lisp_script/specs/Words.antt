@@ -1,10 +1,11 @@
 -- What single words of a script stand for. Each is a value, or what is wrong with the word.
-use Rattle.std.specs.Prelude.{ℕ, ◌+◌, ◌==◌, Bool, nat_eq, nat_lt, List, [], ◌∷◌, length, map, codes, position, Result, Ok, Err, if◌then◌else◌}
+use Rattle.std.specs.Prelude.{ℕ, ◌+◌, ◌==◌, Bool, nat_eq, nat_lt, List, [], ◌∷◌, ◌++◌, length, map, codes, position, Result, Ok, Err, if◌then◌else◌}
 use Rattle.std.specs.Cmp.Lexicographic.{pointwise}
-use Rattle.std.specs.List.{filter, slice_split}
+use Rattle.std.specs.List.{filter, flat_map, slice_split}
 use Rattle.std.specs.Option.{option_map, ok_or}
 use denote.Ref.{Bor}
 use Rattle.hex.specs.Hex.{decode_of}
+use Rattle.toml.specs.Parse.{parse_document}
 use Rattle.lisp_records.specs.declared.address.Addr.{Addr}
 use Rattle.lisp_records.specs.Address.{PrefixValue}
 use Rattle.lisp_records.specs.Record.{MapRecordValue}
@@ -14,7 +15,9 @@ use Rattle.lisp_nonces.specs.declared.fate.Fate.{Fate}
 use Rattle.lisp_nonces.specs.declared.fate.Fate.TheVariants.{Doubt, LoadFails}
 use Rattle.lisp_texts.specs.Number.{number_of}
 use Rattle.lisp_texts.specs.Reading.{address_of, prefix_of, record_text_of}
+use Rattle.lisp_policy.specs.Site.{SiteValue}
 use Rattle.lisp_policy.specs.Configuration.{ConfigValue, names}
+use Rattle.lisp_sites.specs.Table.{sites_in}
 use Rattle.lisp_script.specs.declared.fault.ScriptWhat.{ScriptWhat}
 use Rattle.lisp_script.specs.declared.fault.ScriptWhat.TheVariants.{Word, Name, Number, Record, Hex}
 
@@ -95,3 +98,14 @@ some_records words = do
 abbrev pub database_in : List (List ℕ) → Result (List MapRecordValue) ScriptWhat
 database_in (word ∷ []) = if is_word word (codes "empty") then Ok [] else some_records (word ∷ [])
 database_in words = some_records words
+
+-- the word before sites
+abbrev pub mark_in : List ℕ → Result (Unit {0}) ScriptWhat
+mark_in word = if is_word word (codes "---") then Ok tt else Err Word
+
+-- sites: words that are a line of TOML, read with a space (32) behind each
+abbrev pub spaced : List (List ℕ) → List ℕ
+spaced words = flat_map (λ w. w ++ 32 ∷ []) words
+
+abbrev pub sites_in_words : List (List ℕ) → Result (List SiteValue) ScriptWhat
+sites_in_words words = or_fault Record (sites_in (parse_document (spaced words)))

@@ -5,8 +5,8 @@ use lisp_records::{Addr, Prefix};
 use std::alloc::{Allocator, Global};
 
 /// A command: an event, or what is asked of a node. Nodes are named by their numbers: Map-Servers, then routers, in the
-/// order of the configuration.
-#[derive(Debug, Drop)]
+/// order of the configuration. It has no `Debug`, as an event has none.
+#[derive(Drop)]
 pub enum Command<A: Allocator = Global> {
     /// An event.
     Act(Event<A>),

@@ -11,7 +11,7 @@ use thiserror::Error;
 /// then its words from left to right.
 #[derive(Clone, Copy, Debug, PartialEq, Eq, Error)]
 pub enum ScriptWhat {
-    /// No command begins with the line's first word; or a fate that the command doesn't take.
+    /// No command begins with the line's first word; or a fate that the command doesn't take, or no `---` before sites.
     #[error("unknown word: a command or a fate (doubt, loadfails) is meant")]
     Word,
     /// The command takes more words, or fewer.
@@ -23,8 +23,8 @@ pub enum ScriptWhat {
     /// A word that is no decimal number of 1 to 20 digits, of at most 2^64 - 1; or of at most 255, for a Key ID.
     #[error("a decimal number is meant, of at most 255 for a Key ID")]
     Number,
-    /// Words that are no records of a database, no EID-Prefix, or no address.
-    #[error("records of different prefixes, the word empty, a prefix, or an address are meant")]
+    /// Words that are no records of a database, no EID-Prefix, no address, or no sites.
+    #[error("records of different prefixes, the word empty, a prefix, an address, or sites are meant")]
     Record,
     /// A word that is neither hexadecimal nor `-`.
     #[error("hexadecimal digits, or - for no bytes, are meant")]

@@ -31,6 +31,6 @@ pub fn read_schedule<A: Memory + Copy>(
         return Err(PlayFault::NoScript);
     };
     let config = Config::from_toml(heap, alloc, configuration)?;
-    let commands = parse_script(alloc, &config, script)?;
+    let commands = parse_script(heap, alloc, &config, script)?;
     Ok((config, commands))
 }

@@ -3,7 +3,7 @@
 ghost use Rattle.std.specs.Prelude.{◌≡◌, ◌≢◌, [], Err, IfOk, IfErr};
 ghost use Rattle.lisp_script.specs.Words.{texts};
 ghost use Rattle.lisp_script.specs.Spelling.{is_comment, at_line, HasWords};
-ghost use Rattle.lisp_script.specs.Answers.{AddsLine, AddsWords, IsScript, IsFirstFault, RunsOutWithinReach};
+ghost use Rattle.lisp_script.specs.Answers.{AddsLine, AddsWords, IsScript, IsFirstFault, RunsOutWhereItMay, RunsOutWithinReach};
 
 use crate::command::Command;
 use crate::fault::{ScriptFault, ScriptWhat};
@@ -11,26 +11,31 @@ use crate::spelling::command;
 use crate::words::words;
 use lisp_memory::{FallibleVec, Memory};
 use lisp_sites::Config;
-use std::alloc::Allocator;
+use std::alloc::{Allocator, Global};
 
 /// The commands of a script, by the names of a configuration: a line each, whose words are separated by spaces. Lines end
 /// with a line feed; a carriage return before it is dropped. Blank lines, and lines that begin with `#`, are skipped.
 ///
 /// The first faulty line is the fault, with its number, from 1 on; `Memory` where memory runs out in a line, which then
-/// has words, and before which no line is faulty.
+/// has words, and before which no line is faulty. Where no line is a `reload`, memory runs out only where that of `alloc` may be
+/// refused. `heap` serves the reading of TOML, that of sites, alone.
 pub fn parse_script<A: Memory + Copy, E: Allocator>(
+    heap: Global,
     alloc: A,
     config: &Config<E>,
     text: &str,
 ) -> Result<Vec<Command<A>, A>, ScriptFault>
     ensures commands { IfOk result (λ commands. IsScript config.now text.now commands.items) }
     ensures fault { IfErr result (λ fault. IsFirstFault config.now text.now fault) }
-    ensures memory { IfErr result (λ fault. fault.what ≡ ScriptWhat.Memory → A.may_refuse) }
+    ensures memory { IfErr result (λ fault. RunsOutWhereItMay A.may_refuse text.now fault) }
     ensures reached { IfErr result (λ fault. RunsOutWithinReach config.now text.now fault) }
 {
     let mut commands = Vec::new(alloc);
     for (place, line) in text.lines().enumerate() {
-        at_line(place + 1, read_line(alloc, config, line, &mut commands))?;
+        at_line(
+            place + 1,
+            read_line(heap, alloc, config, line, &mut commands),
+        )?;
     }
     Ok(commands)
 }
@@ -38,6 +43,7 @@ pub fn parse_script<A: Memory + Copy, E: Allocator>(
 // Appends the command of a line, where it has one.
 #[tactic(auto, using(crate::proofs::Commands::steps))]
 fn read_line<A: Memory + Copy, E: Allocator>(
+    heap: Global,
     alloc: A,
     config: &Config<E>,
     line: &str,
@@ -50,11 +56,12 @@ fn read_line<A: Memory + Copy, E: Allocator>(
         return Ok(());
     }
     let words = words(alloc, line)?;
-    read_words(alloc, config, &words, commands)
+    read_words(heap, alloc, config, &words, commands)
 }
 
 // Appends the command of a line's words, where it has one.
 fn read_words<A: Memory + Copy, E: Allocator>(
+    heap: Global,
     alloc: A,
     config: &Config<E>,
     words: &[&str],
@@ -66,7 +73,7 @@ fn read_words<A: Memory + Copy, E: Allocator>(
     let [word, words @ ..] = words else {
         return Ok(());
     };
-    commands.try_push(command(alloc, config, word, words)?)?;
+    commands.try_push(command(heap, alloc, config, word, words)?)?;
     Ok(())
 }
 

@@ -4,41 +4,58 @@ ghost use Rattle.std.specs.Prelude.{◌≡◌, [], ◌∷◌};
 ghost use Rattle.lisp_records.specs.Result.{Reads};
 ghost use Rattle.lisp_script.specs.Command.{command_value};
 ghost use Rattle.lisp_script.specs.Words.{texts};
-ghost use Rattle.lisp_script.specs.Spelling.{change_of, part_in, send_of, source_in, request_of, deliver_of, restart_of, rotate_of, lose_of, notice_of, given_to, spelt, command_of};
-ghost use Rattle.lisp_script.specs.Answers.{GivesCommand, GivesRestart, GivesLose, Spells, SpellsPlainly};
+ghost use Rattle.lisp_script.specs.Spelling.{change_of, part_in, send_of, source_in, request_of, deliver_of, restart_of, rotate_of, lose_of, notice_of, given_to, spelt};
+ghost use Rattle.lisp_script.specs.Answers.{GivesCommand, GivesRestart, GivesLose, GivesReload, GivesOfVerb, GivesOfWord, Spells, SpellsPlainly};
 ghost use Rattle.lisp_script.specs.declared.verb.Verb.TheVariants as verbs;
 
 use crate::command::Command;
 use crate::fault::ScriptWhat;
 use crate::verb::Verb;
 use crate::words::{
-    address, bytes, database, doubt, fate, key, load_fails, node, number, prefix, router, server,
+    address, bytes, database, doubt, fate, key, load_fails, mark, node, number, prefix, router,
+    server, sites,
 };
 use lisp_memory::Memory;
 use lisp_model::Event;
 use lisp_nonces::Fate;
 use lisp_records::Addr;
 use lisp_sites::Config;
-use std::alloc::Allocator;
+use std::alloc::{Allocator, Global};
 
-/// The command of a line's first word, and the words behind it.
+/// The command of a line's first word, and the words behind it. `heap` serves the reading of TOML alone.
 pub(crate) fn command<A: Memory + Copy, E: Allocator>(
+    heap: Global,
     alloc: A,
     config: &Config<E>,
     word: &str,
     words: &[&str],
 ) -> Result<Command<A>, ScriptWhat>
-    ensures { GivesCommand A.may_refuse result (command_of config.now word.now (texts words.now)) }
+    ensures { GivesOfWord A.may_refuse config.now word.now words.now result }
 {
-    match Verb::from_word(word)? {
+    let verb = Verb::from_word(word)?;
+    of_verb(heap, alloc, config, verb, words)
+}
+
+// The command of a verb, and the words behind it.
+fn of_verb<A: Memory + Copy, E: Allocator>(
+    heap: Global,
+    alloc: A,
+    config: &Config<E>,
+    verb: Verb,
+    words: &[&str],
+) -> Result<Command<A>, ScriptWhat>
+    ensures { GivesOfVerb A.may_refuse config.now verb words.now result }
+{
+    match verb {
         Verb::Change => change(alloc, config, words),
         Verb::Restart => restart(alloc, config, words),
         Verb::Lose => lose(alloc, config, words),
+        Verb::Reload => reload(heap, alloc, config, words),
         verb => counted(alloc, config, verb, words),
     }
 }
 
-// The command of a verb that no records follow, and the words behind it.
+// The command of a verb that no list follows, and the words behind it.
 fn counted<A: Memory + Copy, E: Allocator>(
     alloc: A,
     config: &Config<E>,
@@ -78,7 +95,7 @@ fn with_one<A: Allocator, E: Allocator>(
     }
 }
 
-// The command of a verb that no records follow, and two words.
+// The command of a verb that no list follows, and two words.
 #[tactic(auto, unfolding(crate::specs::Spelling::spelt))]
 fn with_two<A: Allocator, E: Allocator>(
     config: &Config<E>,
@@ -108,7 +125,7 @@ fn with_two<A: Allocator, E: Allocator>(
     }
 }
 
-// The command of a verb that no records follow, and three words.
+// The command of a verb that no list follows, and three words.
 #[tactic(auto, unfolding(crate::specs::Spelling::spelt))]
 fn with_three<A: Memory + Copy, E: Allocator>(
     alloc: A,
@@ -134,7 +151,7 @@ fn with_three<A: Memory + Copy, E: Allocator>(
     }
 }
 
-// The command of a verb that no records follow, and four words.
+// The command of a verb that no list follows, and four words.
 #[tactic(auto, unfolding(crate::specs::Spelling::spelt))]
 fn with_four<A: Allocator, E: Allocator>(
     config: &Config<E>,
@@ -154,7 +171,7 @@ fn with_four<A: Allocator, E: Allocator>(
     }
 }
 
-// The command of a verb that no records follow, and five words.
+// The command of a verb that no list follows, and five words.
 #[tactic(auto, unfolding(crate::specs::Spelling::spelt))]
 fn with_five<A: Allocator, E: Allocator>(
     config: &Config<E>,
@@ -215,6 +232,21 @@ fn lose<A: Memory + Copy, E: Allocator>(
         [] | [_] => Err(ScriptWhat::Count),
         [router, key] => emptied(config, router, key),
         [router, key, records @ ..] => emptied_with(alloc, config, router, key, records),
+    }
+}
+
+// reload S, with sites
+fn reload<A: Memory + Copy, E: Allocator>(
+    heap: Global,
+    alloc: A,
+    config: &Config<E>,
+    words: &[&str],
+) -> Result<Command<A>, ScriptWhat>
+    ensures { GivesCommand (Unit {0}) result (spelt config.now verbs.Reload (texts words.now)) }
+{
+    match words {
+        [] | [_] | [_, _] => Err(ScriptWhat::Count),
+        [server, mark, sites @ ..] => reloaded(heap, alloc, config, server, mark, sites),
     }
 }
 
@@ -427,4 +459,22 @@ fn noticed<A: Allocator, E: Allocator>(
         router,
         fate,
     }))
+}
+
+// A Map-Server takes other sites.
+#[tactic(auto, unfolding(crate::specs::Spelling::reload_of))]
+fn reloaded<A: Memory + Copy, E: Allocator>(
+    heap: Global,
+    alloc: A,
+    config: &Config<E>,
+    name: &str,
+    word: &str,
+    text: &[&str],
+) -> Result<Command<A>, ScriptWhat>
+    ensures { GivesReload config.now name.now word.now text.now result }
+{
+    let server = server(config, name)?;
+    mark(word)?;
+    let sites = sites(heap, alloc, text)?;
+    Ok(Command::Act(Event::Reload { server, sites }))
 }

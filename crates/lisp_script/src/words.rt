@@ -1,17 +1,19 @@
 //! The words of a line, and what single words stand for.
 
 ghost use Rattle.std.specs.Prelude.{◌≡◌, ◌≢◌, [], IfOk, OnErr};
+ghost use Rattle.std.specs.String.{string_bytes};
+ghost use Rattle.lisp_script.specs.Answers.{GivesSites};
 ghost use Rattle.lisp_script.specs.Fault.{Gives};
-ghost use Rattle.lisp_script.specs.Words.{texts, words_of, node_of, server_of, router_of, number_in, key_in, address_in, prefix_in, bytes_in, doubt_in, load_fails_in, fate_in, records_in, some_records, database_in};
+ghost use Rattle.lisp_script.specs.Words.{texts, words_of, node_of, server_of, router_of, number_in, key_in, address_in, prefix_in, bytes_in, doubt_in, load_fails_in, fate_in, records_in, some_records, database_in, mark_in, spaced};
 ghost use Rattle.lisp_script.specs.declared.fault.ScriptWhat.TheVariants.{Memory};
 
 use crate::fault::ScriptWhat;
-use lisp_memory::{FallibleCopies, FallibleVec, Memory};
+use lisp_memory::{FallibleCopies, FallibleString, FallibleVec, Memory};
 use lisp_nonces::Fate;
 use lisp_records::{Addr, Bytes, Database, MapRecord, Prefix};
-use lisp_sites::Config;
+use lisp_sites::{Config, ConfigFault, Sites, sites_from_toml};
 use lisp_texts::{addr_from_text, number_from_text, prefix_from_text, record_from_text};
-use std::alloc::{AllocError, Allocator};
+use std::alloc::{AllocError, Allocator, Global};
 
 /// The words of a line, which spaces separate.
 pub(crate) fn words<A: Memory>(alloc: A, line: &str) -> Result<Vec<&str, A>, AllocError>
@@ -166,4 +168,43 @@ fn records<A: Memory + Copy>(alloc: A, words: &[&str]) -> Result<Vec<MapRecord<A
         records.try_push(record)?;
     }
     Ok(records)
+}
+
+/// The word before sites.
+pub(crate) fn mark(word: &str) -> Result<(), ScriptWhat>
+    ensures { result ≡ mark_in word.now }
+{
+    if word == "---" {
+        Ok(())
+    } else {
+        Err(ScriptWhat::Word)
+    }
+}
+
+/// The sites that words tell, which are a line of TOML: as a configuration has them. `heap` serves the reading of TOML alone.
+pub(crate) fn sites<A: Memory + Copy>(
+    heap: Global,
+    alloc: A,
+    words: &[&str],
+) -> Result<Sites<A>, ScriptWhat>
+    ensures { GivesSites result (texts words.now) }
+{
+    let line = spaced(alloc, words)?;
+    match sites_from_toml(heap, alloc, line.as_str()) {
+        Ok(sites) => Ok(sites),
+        Err(ConfigFault::OutOfMemory) => Err(ScriptWhat::Memory),
+        Err(_) => Err(ScriptWhat::Record),
+    }
+}
+
+// Words, a space behind each.
+fn spaced<A: Memory>(alloc: A, words: &[&str]) -> Result<String<A>, AllocError>
+    ensures text { IfOk result (λ line. string_bytes line ≡ spaced (texts words.now)) }
+    ensures memory { OnErr result A.may_refuse }
+{
+    let mut line = String::new(alloc);
+    for word in words {
+        line.try_write(format_args!("{word} "))?;
+    }
+    Ok(line)
 }

@@ -12,6 +12,7 @@ use Rattle.lisp_records.specs.Router.{router_eq}
 use Rattle.lisp_records.specs.Row.{RowValue}
 use Rattle.lisp_messages.specs.Message.{MapRegisterValue}
 use Rattle.lisp_policy.specs.Site.{SiteValue}
+use Rattle.lisp_policy.specs.Extends.{extends}
 use Rattle.lisp_nonces.specs.Store.{StoreState}
 use Rattle.lisp_lookup.specs.Table.{is_row_of, row_at, last_of, Sets}
 use Rattle.lisp_lookup.proofs.TableLaws.{found_holds, has_key, some_inj}
@@ -26,6 +27,7 @@ use Rattle.lisp_server.specs.Contacts.{SetsContact, IsHeard, Knows}
 use Rattle.lisp_server.specs.Receiving.{Accepts, contact_of}
 use Rattle.lisp_admission.specs.Pairs.{router_of}
 use Rattle.lisp_admission.specs.AcceptedRows.{row_value, row_values}
+use Rattle.lisp_admission.proofs.Extended.{secret_kept}
 use Rattle.lisp_admission.proofs.Secrets.{its_secret}
 use Rattle.lisp_admission.proofs.Turned.{turned}
 use Rattle.lisp_server.specs.Server.{SameTables, state_of}
@@ -88,3 +90,9 @@ known_after sites bytes m old new before after from now (Ok took) a same known =
     accepted : (a.passed.message ≡ m) × (secret_at sites m.site m.key_id ≡ Some a.passed.secret) → Knows sites new.rows.rows new.contacts.contacts
     accepted (is, signed) = known_sets sites m from now old.contacts.contacts new.contacts.contacts a.passed.secret signed (subst (λ (n : MapRegisterValue). SetsContact old.contacts.contacts new.contacts.contacts (contact_of n from)) is a.contacts) old.rows.rows new.rows.rows (subst (λ (n : MapRegisterValue). Sets old.rows.rows new.rows.rows (row_values n from now)) is a.rows) known
 known_after sites bytes m old new before after from now (Err why) a same known = subst (λ (x : List RowValue × List Contact). Knows sites x.0 x.1) (λ i. (sym same.rows i, sym same.contacts i)) known
+
+-- sites that have all that others have know each router that was heard
+pub known_under : (old new : List SiteValue) (rows : List RowValue) (contacts : List Contact) → extends old new ≡ true → Knows old rows contacts → Knows new rows contacts
+known_under old new rows contacts more known router eid h at =
+    let heard = known router eid h at in
+    record { contact = heard.contact; heard = heard.heard; secret = heard.secret; signs = secret_kept old new more router.site heard.contact.key heard.secret heard.signs }

@@ -1,10 +1,11 @@
 -- What a Map-Server is (RFC 9301 section 8.2).
-use Rattle.std.specs.Prelude.{◌≡◌, ◌<◌, ◌≤◌, ℕ, List, [], None}
+use Rattle.std.specs.Prelude.{◌≡◌, ◌<◌, ◌≤◌, ℕ, List, [], None, if◌then◌else◌}
 use Rattle.std.specs.FinMap.{empty}
 use Rattle.lisp_records.specs.declared.address.Addr.{Addr}
 use Rattle.lisp_records.specs.declared.router.RouterId.{RouterId}
 use Rattle.lisp_records.specs.Row.{RowValue}
 use Rattle.lisp_policy.specs.Site.{SiteValue}
+use Rattle.lisp_policy.specs.Extends.{extends}
 use Rattle.lisp_server.specs.declared.contacts.Contact.{Contact}
 use Rattle.lisp_server.specs.declared.tables.Tables.{Tables}
 use Rattle.lisp_nonces.specs.declared.pair.Pair.{Pair}
@@ -25,6 +26,10 @@ pub record ServerState : Type 0 where
 -- a Map-Server of these sites that holds nothing
 abbrev pub empty_server : List SiteValue → ServerState
 empty_server sites = record { sites = sites; rows = []; nonces = empty; contacts = []; notices = [] }
+
+-- a Map-Server that took other sites: it goes on with what it holds where they have all that its own had, else it starts anew
+abbrev pub reloaded : ServerState → List SiteValue → ServerState
+reloaded s sites = if extends s.sites sites then record s { sites = sites } else empty_server sites
 
 abbrev pub state_of : {A : Type 0} → List SiteValue → Tables A → ServerState
 state_of sites t = record { sites = sites; rows = t.rows.rows; nonces = t.nonces.nonces; contacts = t.contacts.contacts; notices = t.notices.notices }

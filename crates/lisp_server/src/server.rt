@@ -18,7 +18,8 @@ ghost use Rattle.lisp_admission.specs.declared.refused.Refused.{Refused};
 ghost use Rattle.lisp_admission.specs.declared.notice_fault.NoticeFault.{NoticeFault};
 ghost use Rattle.lisp_admission.specs.NoticeFault.{notice_load_out_of_memory, notice_save_out_of_memory};
 ghost use Rattle.lisp_replies.specs.Reply.{IsReply};
-ghost use Rattle.lisp_server.specs.Server.{empty_server};
+ghost use Rattle.lisp_policy.specs.Extends.{extends};
+ghost use Rattle.lisp_server.specs.Server.{empty_server, reloaded};
 
 use crate::arrival::Arrival;
 use crate::contacts::Contacts;
@@ -87,6 +88,29 @@ impl<A: Allocator + Copy> Server<A> {
         ensures { result ≡ self.sites }
     {
         self.sites
+    }
+
+    /// Takes other sites in place of its own. Where they have all that those have (each site, key with its secret, and prefix, under limits
+    /// that are as wide) it goes on with its rows, last nonces and notices; else those are gone, as at a start. Answers whether it goes
+    /// on. Takes no memory.
+    pub fn reload(&mut self, sites: Sites<A>) -> bool
+        ensures kept { result ≡ extends self.old.sites sites }
+        ensures state { self.new ≡ reloaded self.old sites }
+    {
+        if sites.extends(&self.sites) {
+            self.sites = sites;
+            true
+        } else {
+            *self = Server::start(self.alloc, sites);
+            false
+        }
+    }
+
+    /// Its sites. Takes no memory.
+    pub fn sites(&self) -> &Sites<A>
+        ensures { result.now ≡ self.now.sites }
+    {
+        &self.sites
     }
 
     /// The least router, by Site-ID, then xTR-ID, to which a notice is due at a time, in ms: a notice is due 3,

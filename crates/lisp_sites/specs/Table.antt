@@ -333,6 +333,13 @@ unplaced (Err e) = Err e.fault
 abbrev pub config_of : Option Members → Result ConfigValue ConfigFault
 config_of read = unplaced (placed_config_of read)
 
+-- the sites alone that a text says, whatever else it says, or their first fault
+abbrev pub placed_sites_in : Option Members → Result (List SiteValue) PlacedFault
+placed_sites_in read = placed_nowhere (document_of read) >>= sites_of
+
+abbrev pub sites_in : Option Members → Result (List SiteValue) ConfigFault
+sites_in read = unplaced (placed_sites_in read)
+
 -- what a function answers, seen by view, is what the table gives; out of memory may come at any time
 abbrev pub Fails : {Y : Type 0} → ConfigFault → Result Y ConfigFault → Type 0
 Fails Toml read = read ≡ Err Toml

@@ -4,7 +4,7 @@ ghost use Rattle.std.specs.Prelude.{◌≡◌, IfErr};
 ghost use Rattle.toml.specs.Parse.{parse_document};
 ghost use Rattle.toml.specs.View.{view};
 ghost use Rattle.lisp_policy.specs.Configuration.{IsConfig};
-ghost use Rattle.lisp_sites.specs.Table.{Gives, GivesAt, unplaced, document_of, configuration_of, placed_config_of, config_of};
+ghost use Rattle.lisp_sites.specs.Table.{Gives, GivesAt, unplaced, document_of, configuration_of, placed_config_of, config_of, placed_sites_in, sites_in};
 ghost use Rattle.lisp_sites.specs.declared.fault.ConfigFault.TheVariants.{OutOfMemory};
 
 use crate::fault::ConfigFault;
@@ -94,6 +94,35 @@ impl<A: Memory + Copy> Config<A> {
         let document = read_document(heap, text)?;
         read_configuration(alloc, &document)
     }
+}
+
+/// Reads the sites of a configuration file, TOML, into memory of `alloc`, as [`Config::from_toml`] does, and nothing else of it;
+/// `heap` serves the reading of TOML alone. Faults: as there, but those of Map-Servers and routers.
+pub fn sites_from_toml<A: Memory + Copy>(
+    heap: Global,
+    alloc: A,
+    text: &str,
+) -> Result<Sites<A>, ConfigFault>
+    ensures { Gives (λ sites. sites) result (sites_in (parse_document text.now)) }
+{
+    match placed_sites(heap, alloc, text) {
+        Ok(sites) => Ok(sites),
+        Err(placed) => Err(placed.fault),
+    }
+}
+
+// The sites of a text; a fault comes with its place.
+#[tactic(auto, using(crate::proofs::Told::without_place))]
+fn placed_sites<A: Memory + Copy>(
+    heap: Global,
+    alloc: A,
+    text: &str,
+) -> Result<Sites<A>, PlacedFault>
+    ensures sites { Gives (λ sites. sites) (unplaced result) (sites_in (parse_document text.now)) }
+    ensures placed { GivesAt (λ sites. sites) result (placed_sites_in (parse_document text.now)) }
+{
+    let document = read_document(heap, text)?;
+    read_sites(alloc, &document)
 }
 
 // The table of a text. Nothing is said of memory here, and here alone: `toml` asks for it.

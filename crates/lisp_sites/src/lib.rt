@@ -3,7 +3,7 @@
 //!
 //! # Decisions
 //!
-//! - `Config::from_toml` takes two allocators, since `toml` reads in `Global` alone, and a configuration may lie in any memory.
+//! - `Config::from_toml` and `sites_from_toml` take two allocators, since `toml` reads in `Global` alone, and a configuration may lie in any memory.
 //! - What may not be repeated is found in maps and sets of std while it is read (`Nodes`, `Keyed`), which go when the list is
 //!   read. The keys of a site, at most 256, are walked.
 //! - What must differ is compared by value: prefixes with the bits after their mask cleared, digits in either letter case.
@@ -32,7 +32,7 @@ mod server;
 mod site_entries;
 mod value;
 
-pub use config::Config;
+pub use config::{Config, sites_from_toml};
 pub use fault::ConfigFault;
 pub use field::Field;
 pub use lisp_policy::{Limits, Places, Site, SiteKey, SitePrefix, Sites};

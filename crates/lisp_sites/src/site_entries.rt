@@ -73,8 +73,8 @@ fn has_site<A: Allocator>(sites: &Sites<A>, id: u64) -> bool
     sites.site(id).is_some()
 }
 
-impl<A: Memory + Copy> Entries for Vec<SiteKey, A> {
-    type Entry = SiteKey;
+impl<A: Memory + Copy> Entries for Vec<SiteKey<A>, A> {
+    type Entry = SiteKey<A>;
 
     type Given = A;
 
@@ -95,18 +95,18 @@ impl<A: Memory + Copy> Entries for Vec<SiteKey, A> {
 fn read_key<A: Memory + Copy>(
     alloc: A,
     entry: &Value,
-    before: &[SiteKey],
-) -> Result<SiteKey, ConfigFault>
+    before: &[SiteKey<A>],
+) -> Result<SiteKey<A>, ConfigFault>
     ensures gives { Gives (λ k. k) result (key_at before.now (view entry.now)) }
     ensures memory { IsErrOf result OutOfMemory → A.may_refuse }
 {
     check_table(entry, Field::SiteKey)?;
     let id = fresh_key_id(entry, before)?;
     let secret = secret(alloc, entry, "secret", Field::SiteKeySecret)?;
-    Ok(SiteKey::new(id, secret.as_slice()))
+    Ok(SiteKey::new(alloc, id, secret.as_slice())?)
 }
 
-fn fresh_key_id(entry: &Value, before: &[SiteKey]) -> Result<u8, ConfigFault>
+fn fresh_key_id<A: Allocator>(entry: &Value, before: &[SiteKey<A>]) -> Result<u8, ConfigFault>
     ensures value { result ≡ fresh_key_id before.now (view entry.now) }
     ensures plain { ¬ (IsErrOf result OutOfMemory) }
 {
@@ -118,10 +118,10 @@ fn fresh_key_id(entry: &Value, before: &[SiteKey]) -> Result<u8, ConfigFault>
 }
 
 // Whether one of the keys has the Key ID.
-fn has_key(keys: &[SiteKey], id: u8) -> bool
+fn has_key<A: Allocator>(keys: &[SiteKey<A>], id: u8) -> bool
     ensures { result ≡ has_key keys.now id }
 {
-    keys.iter().any(|key| key.id == id)
+    keys.iter().any(|key| key.id() == id)
 }
 
 impl HasKey for SitePrefix {

@@ -76,7 +76,7 @@ held_text shapes.Routers name site held = site_sample (codes "lisp_site_routers"
 abbrev pub limited_text : SiteShape → List ℕ → List (RouterId × ℕ) → SiteValue → List ℕ
 limited_text shape name counts site = if is_limited site then held_text shape name site.id (held_of counts site.id) else []
 
--- ---- the text of all sites, in the order of the configuration
+-- ---- the text of all sites, in their order
 
 -- what helps to read the samples, and their type
 abbrev pub rows_head : List ℕ

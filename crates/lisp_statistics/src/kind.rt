@@ -31,6 +31,8 @@ pub enum LineKind {
     Notice,
     /// A router answered a notice.
     Noticed,
+    /// A Map-Server has other sites, whether it holds what it held or started anew.
+    Reloaded,
     /// A Map-Request was answered with a Map-Reply of records.
     Replied,
     /// A Map-Server sent a notice again.
@@ -87,6 +89,7 @@ impl LineKind {
             Line::Down { .. } => Some(LineKind::Down),
             Line::Notice { .. } => Some(LineKind::Notice),
             Line::Noticed { .. } => Some(LineKind::Noticed),
+            Line::Reloaded { .. } | Line::Renewed { .. } => Some(LineKind::Reloaded),
             Line::Resent { .. } => Some(LineKind::Resent),
             Line::Restarted { .. } => Some(LineKind::Restarted),
             Line::Rotated { .. } => Some(LineKind::Rotated),
@@ -111,6 +114,7 @@ impl LineKind {
             LineKind::Negative => "negative",
             LineKind::Notice => "notice",
             LineKind::Noticed => "noticed",
+            LineKind::Reloaded => "reloaded",
             LineKind::Replied => "replied",
             LineKind::Resent => "resent",
             LineKind::Restarted => "restarted",

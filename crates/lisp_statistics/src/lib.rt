@@ -13,7 +13,9 @@
 //! - Map-Requests are counted as they come, and not by their lines: one may ask for several EID-Prefixes, or be dropped without a line.
 //! - What is held of a site is reported where it has a limit on its routers or rows: there may be thousands of sites, and the answer is one
 //!   part. It is taken from the counts by router, where the first router of a site is found by halving.
-//! - A refusal by a limit comes after the tag's check, so only sites of the configuration have counts of them: six numbers at most.
+//! - A refusal by a limit comes after the tag's check, so only sites that the Map-Server had have counts of them: six numbers at most.
+//! - What is held of sites is told of those that the Map-Server has now: it may have taken others since its start.
+//! - Other sites are one kind of line, whether the Map-Server went on with what it holds or started anew: their first word is the same.
 #![tactic(auto)]
 
 // What is kept.

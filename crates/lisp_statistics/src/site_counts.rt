@@ -10,7 +10,7 @@ use crate::counts::Format;
 use crate::gathering::Gathering;
 use lisp_lines::node_name;
 use lisp_memory::{FallibleString, Memory};
-use lisp_policy::Site;
+use lisp_policy::{Site, Sites};
 use lisp_records::RouterId;
 use lisp_sites::Config;
 use std::alloc::{AllocError, Allocator};
@@ -45,23 +45,24 @@ const ROWS_HEAD: &str =
 const ROUTERS_HEAD: &str =
     "# HELP lisp_site_routers Routers with live rows of each site that has a limit on its rows or routers.\n# TYPE lisp_site_routers gauge\n";
 
-/// Appends how many live rows each site has that has a limit on its routers or rows, and how many routers have them, by the rows of the
-/// Map-Server with a number that were counted: in lines `counts NAME site SITE-ID rows COUNT` and `counts NAME site SITE-ID routers COUNT`,
-/// in the order of the configuration; or as metrics. Out of memory, it may leave a part of them.
-pub fn put_site_counts<A: Memory, C: Memory + Copy, E: Allocator>(
+/// Appends how many live rows each of these sites has that has a limit on its routers or rows, and how many routers have them, by the rows
+/// of the Map-Server with a number that were counted: in lines `counts NAME site SITE-ID rows COUNT` and
+/// `counts NAME site SITE-ID routers COUNT`, in the order of the sites; or as metrics. Out of memory, it may leave a part of them.
+pub fn put_site_counts<A: Memory, C: Memory + Copy, E: Allocator, F: Allocator>(
     text: &mut String<A>,
     config: &Config<E>,
     number: usize,
+    sites: &Sites<F>,
     format: Format,
     rows: &Gathering<C>,
 ) -> Result<(), AllocError>
     ensures text { Adds result text.old text.new
-        (site_counts_text format (node_name config.now number) config.now.sites
+        (site_counts_text format (node_name config.now number) sites.now
         rows.now.routers.entries) }
     ensures memory { OnErr result A.may_refuse }
 {
     let name = node_name(config, number);
-    let sites = config.sites().as_slice();
+    let sites = sites.as_slice();
     match format {
         Format::Lines => put_sites(text, SiteShape::Lines, name, sites, &rows.routers),
         Format::Prometheus => put_site_families(text, name, sites, &rows.routers),

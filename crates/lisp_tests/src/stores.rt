@@ -94,7 +94,7 @@ fn a_command_whose_load_or_save_fails_says_so_and_prints_its_line_when_given_aga
     rt: HostRuntime,
 ) {
     let config = config(rt.alloc()).expect(&rt, "the configuration");
-    let commands = parse_script(rt.alloc(), &config, SCRIPT).expect(&rt, "the script");
+    let commands = parse_script(rt.alloc(), rt.alloc(), &config, SCRIPT).expect(&rt, "the script");
     for (node, calls) in CALLS.iter().enumerate() {
         for turn in 1..calls.saturating_add(2) {
             let refused = played(&rt, rt.alloc(), &config, &commands, (node, turn));

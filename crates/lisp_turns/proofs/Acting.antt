@@ -113,8 +113,8 @@ abbrev pub IsTold : ℕ → TurnAct → Type 0
 IsTold number a = (a.told ≡ true) ⊎ (IsDuty number a.event × IsRefused a.act.line)
 
 -- one act
-module _ (A : Type 0) (config : ConfigValue) (number : ℕ) (old new : NodeState) (now : ℕ) (a : TurnAct) (does : DoesOne A config number old new now a.event a.act)
-    (own : IsOwn number a.event) (w : WorldState) (o : Opening) (T : List Step) (stand : Stands w o T) (same : o.config ≡ config) (has : HasNode w number old) (clock : w.clock ≡ now) where
+module _ (A : Type 0) (Allows : EventValue → Type 0) (config : ConfigValue) (number : ℕ) (old new : NodeState) (now : ℕ) (a : TurnAct) (does : DoesOne A config number old new now a.event a.act)
+    (own : IsOwn number a.event) (allowed : Allows a.event) (w : WorldState) (o : Opening) (T : List Step) (stand : Stands w o T) (same : o.config ≡ config) (has : HasNode w number old) (clock : w.clock ≡ now) where
   abbrev left : WorldState
   left = with_act w number new a.act
 
@@ -131,7 +131,7 @@ module _ (A : Type 0) (config : ConfigValue) (number : ℕ) (old new : NodeState
   its_calls = told_calls a.act.message a.taken (printed_of a.event a.act.line)
 
   abbrev ByTold : List Call → Type 0
-  ByTold calls = Reaches number (lines_of calls) (sent_of calls) (arrival a.event) new now w o T
+  ByTold calls = Reaches Allows number (lines_of calls) (sent_of calls) (arrival a.event) new now w o T
 
   -- it is told
   told_reaches : ByTold its_calls
@@ -140,6 +140,7 @@ module _ (A : Type 0) (config : ConfigValue) (number : ℕ) (old new : NodeState
     left = left;
     stands = (taking_agrees A w left a.event line takes o T stand).2;
     own = (own, tt);
+    allowed = (allowed, tt);
     are_printed = inr (a.act.line, [], told_lines a.act.message a.taken a.event a.act.line, does.plain ∙ sym (numbered_last 0 (length w.bag) a.act.line), refl);
     bag = ap (λ (l : List DatagramValue). w.bag ++ l) (sent_is (address_of w number) a.act.message ∙ ap (λ (l : List (Addr × List ℕ)). map (datagram_from (address_of w number)) (reverse l)) (sym (told_sent a.act.message a.taken (printed_of a.event a.act.line))));
     heard = append-nil (arrival a.event);
@@ -156,6 +157,7 @@ module _ (A : Type 0) (config : ConfigValue) (number : ℕ) (old new : NodeState
         left = left;
         stands = (taking_agrees A w left a.event line takes o T stand).2;
         own = (own, tt);
+        allowed = (allowed, tt);
         are_printed = inl (quiet.0, refl);
         bag = quiet.1 ∙ sym (append-nil w.bag);
         heard = append-nil (arrival a.event);
@@ -181,15 +183,16 @@ abbrev pub AreOwn : ℕ → List TurnAct → Type 0
 AreOwn number acts = AllByRecursion (λ a. IsOwn number a.event × IsTold number a) acts
 
 -- acts one after the other
-pub acts_reach : (A : Type 0) (config : ConfigValue) (number : ℕ) (old new : NodeState) (now : ℕ) (acts : List TurnAct) → DoesAll A config number old new now acts → AreOwn number acts
+pub acts_reach : (A : Type 0) (Allows : EventValue → Type 0) (config : ConfigValue) (number : ℕ) (old new : NodeState) (now : ℕ) (acts : List TurnAct) → DoesAll A config number old new now acts → AreOwn number acts
+    → AllByRecursion (λ a. Allows a.event) acts
     → (w : WorldState) (o : Opening) (T : List Step) → Stands w o T → o.config ≡ config → HasNode w number old → w.clock ≡ now
-    → Reaches number (lines_of (acts_calls acts)) (sent_of (acts_calls acts)) (arrived acts) new now w o T
-acts_reach A config number old new now [] is own w o T stand same has clock = stays_there number new now w o T stand (subst (λ (n : NodeState). HasNode w number n) (sym is) has) clock
-acts_reach A config number old new now (a ∷ earlier) (between, did, does) own w o T stand same has clock =
-    let first = acts_reach A config number old between now earlier did own.1 w o T stand same has clock in
-    let second = act_reaches A config number between new now a does own.0.0 first.left o (first.steps ++ T) first.stands same first.node_is first.clock own.0.1 in
-    subst (λ (p : List Line × List (Addr × List ℕ)). Reaches number p.0 p.1 (arrived (a ∷ earlier)) new now w o T)
+    → Reaches Allows number (lines_of (acts_calls acts)) (sent_of (acts_calls acts)) (arrived acts) new now w o T
+acts_reach A Allows config number old new now [] is own all w o T stand same has clock = stays_there Allows number new now w o T stand (subst (λ (n : NodeState). HasNode w number n) (sym is) has) clock
+acts_reach A Allows config number old new now (a ∷ earlier) (between, did, does) own all w o T stand same has clock =
+    let first = acts_reach A Allows config number old between now earlier did own.1 all.1 w o T stand same has clock in
+    let second = act_reaches A Allows config number between new now a does own.0.0 all.0 first.left o (first.steps ++ T) first.stands same first.node_is first.clock own.0.1 in
+    subst (λ (p : List Line × List (Addr × List ℕ)). Reaches Allows number p.0 p.1 (arrived (a ∷ earlier)) new now w o T)
     {x = (lines_of (act_calls a) ++ lines_of (acts_calls earlier), sent_of (act_calls a) ++ sent_of (acts_calls earlier))}
     {y = (lines_of (acts_calls (a ∷ earlier)), sent_of (acts_calls (a ∷ earlier)))}
     (λ i. (sym (lines_append (act_calls a) (acts_calls earlier)) i, sym (sent_append (act_calls a) (acts_calls earlier)) i))
-    (goes_further number (lines_of (acts_calls earlier)) (lines_of (act_calls a)) (sent_of (acts_calls earlier)) (sent_of (act_calls a)) (arrived earlier) (arrival a.event) between new now now w o T stand first second)
+    (goes_further Allows number (lines_of (acts_calls earlier)) (lines_of (act_calls a)) (sent_of (acts_calls earlier)) (sent_of (act_calls a)) (arrived earlier) (arrival a.event) between new now now w o T stand first second)

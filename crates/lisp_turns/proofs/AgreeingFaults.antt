@@ -17,8 +17,8 @@ use Rattle.lisp_world.specs.Faults.{router_fault, key_fault, used_before_loss, f
 use Rattle.lisp_turns.specs.Node.{Server, Router, HasNode}
 use Rattle.lisp_turns.specs.Order.{event_of, name_fault, order_fault, FaultsAgree}
 use Rattle.lisp_turns.specs.declared.order.Order.{Order}
-use Rattle.lisp_turns.specs.declared.order.Order.TheVariants.{Notice, Change, Rotate}
-use Rattle.lisp_turns.proofs.Obeying.{at_server, no_router, at_router, no_fault}
+use Rattle.lisp_turns.specs.declared.order.Order.TheVariants.{Notice, Change, Rotate, Reload}
+use Rattle.lisp_turns.proofs.Obeying.{at_server, no_router, its_own, at_router, no_fault, no_server}
 
 module _ (w : WorldState) (o : Opening) (T : List Step) (stand : Stands w o T) (config : ConfigValue) (same : o.config ≡ config) (number : ℕ) where
   -- told to a Map-Server
@@ -30,6 +30,7 @@ module _ (w : WorldState) (o : Opening) (T : List Step) (stand : Stands w o T) (
     told_server (Notice router) = at_server w o T stand number low router ∙ ap (λ (c : ConfigValue). name_fault c router) same
     told_server (Change db) = no_router w o T stand number low
     told_server (Rotate key) = ap (λ (f : Option WorldFault). option_or f (option_and_then (key_fault w key (used_before_loss key)) (router_at w number))) (no_router w o T stand number low)
+    told_server (Reload sites) = its_own w o T stand number low
 
   -- told to a router
   module _ (n : RouterNodeState) (has : HasNode w number (Router n)) where
@@ -56,6 +57,7 @@ module _ (w : WorldState) (o : Opening) (T : List Step) (stand : Stands w o T) (
     told_router (Rotate key) =
         (λ i. option_or (none i) (option_and_then (key_fault w key (used_before_loss key)) (there i)))
         ∙ ap (λ (s : List SiteValue). if is_none (secret_at s n.me.site key) then Some UnknownKey else if is_used n.used.before_loss key then Some KeyUsed else None) sites
+    told_router (Reload given) = no_server w o T stand number has.0 is within
 
 pub faults_agree : FaultsAgree
 faults_agree config number (Server n) order w o T stand same has = told_server w o T stand config same number n has order

@@ -133,5 +133,7 @@ numbered_last m n (lines.Rotated router key) = refl
 numbered_last m n (lines.Emptied router key) = refl
 numbered_last m n (lines.Notice server router key nonce datagram) = refl
 numbered_last m n (lines.Resent server router datagram) = refl
+numbered_last m n (lines.Reloaded server sites) = refl
+numbered_last m n (lines.Renewed server sites) = refl
 numbered_last m n (lines.Down router) = refl
 numbered_last m n (lines.Refused node what) = refl

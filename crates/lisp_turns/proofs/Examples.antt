@@ -10,6 +10,7 @@ use Rattle.lisp_records.specs.Address.{PrefixValue}
 use Rattle.lisp_records.specs.Record.{MapRecordValue}
 use Rattle.lisp_records.specs.Row.{RowValue, is_alive}
 use Rattle.lisp_policy.specs.Configuration.{ConfigValue}
+use Rattle.lisp_policy.specs.Site.{SiteValue}
 use Rattle.lisp_nonces.specs.declared.fate.Fate.TheVariants.{Done}
 use Rattle.lisp_nonces.specs.Memory.{empty_memory, memory_state}
 use Rattle.lisp_etr.specs.Etr.{EtrState, due_at}
@@ -30,11 +31,11 @@ use Rattle.lisp_turns.specs.Node.{NodeState, ServerCore, Server, Router, IsPlace
 use Rattle.lisp_turns.specs.Obeying.{Obeys}
 use Rattle.lisp_budget.specs.Budget.{unused}
 use Rattle.lisp_turns.specs.Outside.{Reception, Datagram, Nothing, Failed, Call, Receives, Reads, Commits, Prints, Sends, Listens, Answers, Requests}
-use Rattle.lisp_turns.specs.Part.{IsOwn, ArePrinted, arrivals, sent_of}
+use Rattle.lisp_turns.specs.Part.{IsOwn, WasOrdered, ArePrinted, arrivals, sent_of}
 use Rattle.lisp_turns.specs.Pause.{may_try, is_told, failed}
 use Rattle.lisp_turns.specs.Turn.{TurnState, Hears, IsGroup, IsPut, AreDone, DoesDuties, Serves, commit_calls, hearing_calls, IsTurn}
 use Rattle.lisp_turns.specs.declared.order.Order.{Order}
-use Rattle.lisp_turns.specs.declared.order.Order.TheVariants.{Change}
+use Rattle.lisp_turns.specs.declared.order.Order.TheVariants.{Change, Reload}
 use Rattle.lisp_turns.specs.declared.outside.Printed.TheVariants as printed
 use Rattle.lisp_turns.specs.declared.pause.Pause.{Pause}
 use Rattle.lisp_turns.proofs.DeadRows.{tells_none}
@@ -165,6 +166,15 @@ refused_change : (A : Type 0) (config : ConfigValue) (old : RouterNodeState) (ne
     → Obeys A config 0 (Router old) new now (Some (Change db)) (Some (Err fault)) → ⊥
 refused_change A config old new now db fault obeys = absurd (let clash : ◌≡◌ {A = Option WorldFault} None (Some fault) = obeys.1 in cc)
 
+-- nor a Map-Server from taking other sites
+refused_sites : (A : Type 0) (config : ConfigValue) (old : ServerNodeState) (new : NodeState) (now : ℕ) (sites : List SiteValue) (fault : WorldFault)
+    → Obeys A config 0 (Server old) new now (Some (Reload sites)) (Some (Err fault)) → ⊥
+refused_sites A config old new now sites fault obeys = absurd (let clash : ◌≡◌ {A = Option WorldFault} None (Some fault) = obeys.1 in cc)
+
+-- sites that nobody told it to take aren't taken
+untold_sites : (sites : List SiteValue) → WasOrdered [] (events.Reload 0 sites) → ⊥
+untold_sites sites ordered = omega (arith, ordered.1)
+
 -- and another node's order isn't the node's own
 other_order : IsOwn 0 (events.Rotate 1 7 Done) → ⊥
 other_order own = omega (arith, own)
@@ -238,6 +248,9 @@ other_send own = omega (arith, own)
 
 own_delivery : IsOwn 0 (events.Deliver 0 Done) → ⊥
 own_delivery own = own
+
+other_sites : (sites : List SiteValue) → IsOwn 0 (events.Reload 1 sites) → ⊥
+other_sites sites own = omega (arith, own)
 
 own_restart : IsOwn 0 (events.Restart 0 0 None) → ⊥
 own_restart own = own

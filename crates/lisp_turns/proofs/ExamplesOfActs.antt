@@ -1,14 +1,17 @@
 -- Examples: what a node's core doesn't say of an act, so that the node didn't do it, whatever its store.
-use Rattle.std.proofs.Common.{◌≡◌, inl, inr, ℕ, true, suc, List, [], ◌∷◌, Option, Some, None, Result, Ok, Err, sym, ap, subst, ◌∙◌, arith}
+use Rattle.std.proofs.Common.{◌≡◌, inl, inr, ℕ, Bool, true, suc, length, List, [], ◌∷◌, Option, Some, None, Result, Ok, Err, sym, ap, subst, ◌∙◌, arith}
 use Rattle.std.specs.FinMap.{empty}
 use Rattle.lisp_records.specs.declared.address.Addr.{Addr}
 use Rattle.lisp_policy.specs.Configuration.{ConfigValue}
+use Rattle.lisp_policy.specs.Extends.{extends}
+use Rattle.lisp_policy.specs.Site.{SiteValue}
 use Rattle.lisp_nonces.specs.declared.fate.Fate.TheVariants.{Done, Doubt}
 use Rattle.lisp_etr.specs.declared.send_fault.SendFault.{SendFault}
 use Rattle.lisp_model.specs.declared.event.Event.TheVariants as events
 use Rattle.lisp_model.specs.declared.line.Line.{Line}
 use Rattle.lisp_model.specs.declared.line.Line.TheVariants as lines
 use Rattle.lisp_model.specs.Trace.{EventValue, Step, address_at}
+use Rattle.lisp_refinement.specs.Events.{reload_line}
 use Rattle.lisp_refinement.specs.World.{ServerNodeState, RouterNodeState}
 use Rattle.lisp_turns.specs.Act.{ActValue, numbered}
 use Rattle.lisp_turns.specs.Acts.{DoesOne}
@@ -80,6 +83,18 @@ module _ (A : Type 0) (config : ConfigValue) (number now : ℕ) (act : ActValue)
 
   router_resends : (old new : RouterNodeState) (router : ℕ) → IsMade A config number (Router old) (Router new) now (events.Resend number router) act → ⊥
   router_resends old new router made = made.1
+
+  -- nor does a router take sites; and a Map-Server that goes on under other ones doesn't say that it started anew
+  router_takes_sites : (old new : RouterNodeState) (sites : List SiteValue) → IsMade A config number (Router old) (Router new) now (events.Reload number sites) act → ⊥
+  router_takes_sites old new sites made = made.1
+
+  renewed_wrongly : (old new : ServerNodeState) (sites : List SiteValue) (count : ℕ) → IsMade A config number (Server old) (Server new) now (events.Reload number sites) act → extends old.core.sites sites ≡ true
+      → act.line ≡ lines.Renewed number count → ⊥
+  renewed_wrongly old new sites count made goes_on says =
+      clash (sym (ap (λ (a : ActValue). a.line) made.1.1 ∙ ap (λ (b : Bool). reload_line number b (length sites)) goes_on) ∙ says)
+    where
+      clash : lines.Reloaded number (length sites) ≡ lines.Renewed number count → ⊥
+      clash e = absurd cc
 
 -- a printed line has no other number for a datagram, whatever that is in a network
 module _ (server part key nonce datagram other : ℕ) where

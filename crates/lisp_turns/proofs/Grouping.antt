@@ -21,7 +21,7 @@ use Rattle.lisp_turns.specs.Stretch.{Asks, Tells, TakesIn}
 use Rattle.lisp_turns.specs.Turn.{Hears, IsDatagram, IsGroup, Intake, acts_of, IsTakenIn, receives_after, failure_calls, commit_calls}
 use Rattle.lisp_turns.specs.declared.group.Heard.{Heard}
 use Rattle.lisp_turns.specs.declared.order.Order.{Order}
-use Rattle.lisp_turns.specs.declared.order.Order.TheVariants.{Notice, Change, Rotate}
+use Rattle.lisp_turns.specs.declared.order.Order.TheVariants.{Notice, Change, Rotate, Reload}
 use Rattle.lisp_turns.specs.declared.outside.Printed.{Printed}
 use Rattle.lisp_turns.specs.declared.outside.Printed.TheVariants as printed
 use Rattle.lisp_turns.specs.declared.pause.Pause.{Pause}
@@ -249,6 +249,7 @@ event_line : (number : ℕ) (order : Order) (line : Line) → printed_of (event_
 event_line number (Notice router) line = refl
 event_line number (Change db) line = refl
 event_line number (Rotate key) line = refl
+event_line number (Reload sites) line = refl
 
 module _ (A : Type 0) (config : ConfigValue) (number now : ℕ) (between new : NodeState) where
   taken_commits : (order : Option Order) (outcome : Outcome) → Obeys A config number between new now order outcome → (taken : Bool) (heard : List Heard) (acts : List TurnAct) (done : Bool) → any acts ≡ any heard

@@ -77,6 +77,11 @@ module _ (o : Opening) where
         at : (b : Bool) → Configured (if b then [] else old)
         at true x has = absurd (in_none x has)
         at false x has = known x has
+    configured_case s (lines.Renewed server sites) row k old known = at (server == k)
+      where
+        at : (b : Bool) → Configured (if b then [] else old)
+        at true x has = absurd (in_none x has)
+        at false x has = known x has
     configured_case s _ row k old known = known
 
   pub configured : (T : List Step) → LegalTrace o T → (k : ℕ) → Configured (notices o T k)

@@ -10,7 +10,7 @@ use Rattle.lisp_model.specs.declared.world_fault.WorldFault.{WorldFault}
 use Rattle.lisp_model.specs.declared.world_fault.WorldFault.TheVariants.{NoNode, WrongKind}
 use Rattle.lisp_refinement.specs.World.{WorldState}
 use Rattle.lisp_refinement.specs.Stands.{Stands}
-use Rattle.lisp_world.specs.Faults.{router_fault, pair_fault}
+use Rattle.lisp_world.specs.Faults.{server_fault, router_fault, pair_fault}
 use Rattle.lisp_turns.specs.Order.{name_fault}
 use Rattle.lisp_turns.proofs.ServingServer.{HasRouter}
 use Rattle.lisp_turns.proofs.ServingPlaces.{some_at}
@@ -21,6 +21,10 @@ alone missing server = if missing then Some NoNode else if server then Some Wron
 
 abbrev beside : Bool → Bool → Bool → Option WorldFault
 beside is_server missing server = if missing || false then Some NoNode else if server || not is_server then Some WrongKind else None
+
+-- the fault of a name where a Map-Server is meant
+abbrev serving : Bool → Bool → Option WorldFault
+serving missing server = if missing then Some NoNode else if not server then Some WrongKind else None
 
 -- a name beside a Map-Server has its own fault
 beside_server : (missing server : Bool) → beside true missing server ≡ alone missing server
@@ -59,6 +63,13 @@ module _ (w : WorldState) (o : Opening) (T : List Step) (stand : Stands w o T) w
       else if nat_lt router (stand.steps.servers i) || not (nat_lt number (stand.steps.servers i)) then Some WrongKind else None)
       ∙ (λ i. if nat_le nodes router || there i then Some NoNode else if nat_lt router servers || not (kind i) then Some WrongKind else None)
 
+  -- the fault of a node where a Map-Server is meant, by what it is
+  as_server : (number : ℕ) (is_server : Bool) → nat_le nodes number ≡ false → nat_lt number servers ≡ is_server
+      → server_fault w number ≡ serving false is_server
+  as_server number is_server there kind =
+      (λ i. serving (nat_le (node_count i) number) (nat_lt number (stand.steps.servers i)))
+      ∙ (λ i. serving (there i) (kind i))
+
   -- beside a Map-Server
   module _ (number : ℕ) (low : number < servers) where
     pub at_server : (router : ℕ) → pair_fault w router number ≡ name_fault o.config router
@@ -70,6 +81,10 @@ module _ (w : WorldState) (o : Opening) (T : List Step) (stand : Stands w o T) w
     pub no_router : router_fault w number ≡ Some WrongKind
     no_router = named number ∙ (λ i. alone (lt-leb nodes number (omega (arith, low)) i) (lt-ltb number servers low i))
 
+    -- and has no fault where a Map-Server is meant
+    pub its_own : server_fault w number ≡ None
+    its_own = as_server number true (lt-leb nodes number (omega (arith, low))) (lt-ltb number servers low)
+
   -- beside a router
   module _ (number place : ℕ) (is : number ≡ servers + place) (within : place < length o.config.routers) where
     pub at_router : (router : ℕ) → pair_fault w router number ≡ option_or (name_fault o.config router) (Some WrongKind)
@@ -80,6 +95,10 @@ module _ (w : WorldState) (o : Opening) (T : List Step) (stand : Stands w o T) w
     -- which has no fault itself
     pub no_fault : router_fault w number ≡ None
     no_fault = named number ∙ (λ i. alone (lt-leb nodes number (omega (arith, is, within)) i) (le-ltb number servers (omega (arith, is)) i))
+
+    -- and is no Map-Server
+    pub no_server : server_fault w number ≡ Some WrongKind
+    no_server = as_server number false (lt-leb nodes number (omega (arith, is, within))) (le-ltb number servers (omega (arith, is)))
 
   -- the router with a number is there
   module _ (router : ℕ) (kind : is_router o.config router ≡ true) where

@@ -1,21 +1,26 @@
--- A Map-Server is told to send a notice: each network that has it takes the event.
-use Rattle.std.proofs.Common.{Global, ◌≡◌, ℕ, true, length, Result, Ok, Err, refl, sym, ap, subst, ◌∙◌, List}
+-- A Map-Server is told to send a notice, or to take other sites: each network that has it takes the event.
+use Rattle.std.proofs.Common.{Global, ◌≡◌, ℕ, Bool, true, false, ◌++◌, length, Result, Ok, Err, refl, sym, ap, subst, ◌∙◌, List, []}
+use Rattle.std.specs.Prelude.{slice_set}
 use Rattle.lisp_records.specs.declared.address.Addr.{Addr}
 use Rattle.lisp_records.specs.declared.router.RouterId.{RouterId}
 use Rattle.lisp_policy.specs.Configuration.{ConfigValue}
+use Rattle.lisp_policy.specs.Extends.{extends}
+use Rattle.lisp_policy.specs.Site.{SiteValue}
 use Rattle.lisp_nonces.specs.declared.fate.Fate.TheVariants.{Done}
 use Rattle.lisp_admission.specs.declared.notice_fault.NoticeFault.{NoticeFault}
 use Rattle.lisp_model.specs.declared.event.Event.TheVariants as events
 use Rattle.lisp_model.specs.Trace.{is_router, router_at}
 use Rattle.lisp_refinement.specs.World.{ServerNodeState, WorldState}
 use Rattle.lisp_refinement.specs.Calls.{NodeNotifies}
-use Rattle.lisp_refinement.specs.Events.{address_of, SaysNoticeAnswer}
-use Rattle.lisp_turns.specs.Act.{ActValue, numbered}
-use Rattle.lisp_turns.specs.Acts.{Does, DoesOne, datagrams}
+use Rattle.lisp_refinement.specs.Events.{address_of, SaysNoticeAnswer, NodeReloads, reload_line}
+use Rattle.lisp_turns.specs.Act.{ActValue, numbered, line_act}
+use Rattle.lisp_turns.specs.Acts.{Does, DoesOne, datagrams, with_act}
 use Rattle.lisp_turns.specs.Node.{Server, IsPlaced}
 use Rattle.lisp_turns.specs.Serving.{NoticeAct}
 use Rattle.lisp_turns.proofs.Obeying.{there}
 use Rattle.lisp_turns.proofs.ServingServer.{HasRouter}
+
+-- ---- a notice
 
 module _ (config : ConfigValue) (number router now : ℕ) (old new : ServerNodeState) (answer : Result (Addr × List ℕ) NoticeFault) (act : ActValue)
     (kind : is_router config router ≡ true) (notifies : NodeNotifies old new Done (router_at config router).me now answer) (told : NoticeAct number router answer act) where
@@ -56,4 +61,31 @@ module _ (config : ConfigValue) (number router now : ℕ) (old new : ServerNodeS
     made = (refl, (kind, answer, notifies, told));
     placed = placed;
     plain = plain answer told;
+  }
+
+-- ---- other sites
+
+-- the line has no number for a datagram
+reload_plain : (n number count : ℕ) (kept : Bool) → reload_line number kept count ≡ numbered n (reload_line number kept count)
+reload_plain n number count true = refl
+reload_plain n number count false = refl
+
+module _ (config : ConfigValue) (number now : ℕ) (old new : ServerNodeState) (sites : List SiteValue) (act : ActValue)
+    (reloads : NodeReloads old new sites now) (said : act ≡ line_act (reload_line number (extends old.core.sites sites) (length sites))) where
+  reload_does : Does Global config number (Server old) (Server new) now (events.Reload number sites) act
+  reload_does w o T stand same has clock = record {
+    acts = record { before = old; after = new; was = has; left = left };
+    reloads = subst (λ (m : ℕ). NodeReloads old new sites m) (sym clock) reloads;
+    said = ap (λ (a : ActValue). numbered (length w.bag) a.line) said ∙ sym (reload_plain (length w.bag) number (length sites) (extends old.core.sites sites));
+  }
+    where
+      left : with_act w number (Server new) act ≡ record w { bag = w.bag ++ []; servers = slice_set w.servers number new }
+      left = ap (λ (a : ActValue). with_act w number (Server new) a) said
+
+  pub reload_does_one : IsPlaced config number (Server old) → DoesOne Global config number (Server old) (Server new) now (events.Reload number sites) act
+  reload_does_one placed = record {
+    does = reload_does;
+    made = (refl, (reloads, said));
+    placed = placed;
+    plain = ap (λ (a : ActValue). a.line) said ∙ reload_plain 0 number (length sites) (extends old.core.sites sites) ∙ ap (λ (a : ActValue). numbered 0 a.line) (sym said);
   }

@@ -1,19 +1,21 @@
 -- What a node does in a turn is its own, and what arrives in it is what was received.
 use Rattle.std.proofs.Common.{◌≡◌, ◌⊎◌, inl, inr, ℕ, Bool, true, false, List, [], ◌∷◌, ◌++◌, map, Option, Some, None, Ok, Err, refl, sym, ap, subst, ◌∙◌}
-use Rattle.std.specs.List.{AllByRecursion}
+use Rattle.std.specs.List.{AllByRecursion, Contains}
 use Rattle.lisp_records.specs.declared.address.Addr.{Addr}
+use Rattle.lisp_model.specs.declared.event.Event.TheVariants as events
 use Rattle.lisp_model.specs.Trace.{EventValue}
 use Rattle.lisp_policy.specs.Configuration.{ConfigValue}
+use Rattle.lisp_nonces.specs.declared.fate.Fate.TheVariants.{Done}
 use Rattle.lisp_turns.specs.Acts.{TurnAct, DoesAll}
 use Rattle.lisp_turns.specs.Due.{IsDuty}
 use Rattle.lisp_turns.specs.Node.{NodeState}
 use Rattle.lisp_turns.specs.Obeying.{Outcome, Obeys, obeyed}
 use Rattle.lisp_turns.specs.Order.{event_of}
-use Rattle.lisp_turns.specs.Outside.{Reception, Datagram, Nothing, Failed, Receives, Polls}
-use Rattle.lisp_turns.specs.Part.{IsOwn, arrival, received_of}
+use Rattle.lisp_turns.specs.Outside.{Call, Reception, Datagram, Nothing, Failed, Receives, Polls, Listens}
+use Rattle.lisp_turns.specs.Part.{IsOwn, WasOrdered, arrival, received_of}
 use Rattle.lisp_turns.specs.Turn.{Hears, IsDone, IsPut, AreDone, ServesIf}
 use Rattle.lisp_turns.specs.declared.order.Order.{Order}
-use Rattle.lisp_turns.specs.declared.order.Order.TheVariants.{Notice, Change, Rotate}
+use Rattle.lisp_turns.specs.declared.order.Order.TheVariants.{Notice, Change, Rotate, Reload}
 use Rattle.lisp_turns.specs.declared.pause.Pause.{Pause}
 use Rattle.lisp_turns.proofs.Acting.{IsTold, AreOwn, arrived, own_duty, nothing_arrives}
 
@@ -24,6 +26,41 @@ heard_own number (Datagram from bytes ∷ earlier) acts (a, rest, is, event, tol
     subst (λ (l : List TurnAct). AreOwn number l) (sym is) ((subst (λ (e : EventValue). IsOwn number e) (sym event) refl, inl told), heard_own number earlier rest more)
 heard_own number (Nothing ∷ earlier) acts hears = heard_own number earlier acts hears
 heard_own number (Failed ∷ earlier) acts hears = heard_own number earlier acts hears
+
+-- what a user tells a node was told, among what was asked
+module _ (asked : List Call) where
+  abbrev pub AreOrdered : List TurnAct → Type 0
+  AreOrdered acts = AllByRecursion (λ a. WasOrdered asked a.event) acts
+
+  -- a datagram isn't of that kind
+  pub heard_ordered : (number : ℕ) (receptions : List Reception) (acts : List TurnAct) → Hears number receptions acts → AreOrdered acts
+  heard_ordered number [] acts is = subst AreOrdered (sym is) tt
+  heard_ordered number (Datagram from bytes ∷ earlier) acts (a, rest, is, event, told, more) =
+      subst AreOrdered (sym is) (subst (λ (e : EventValue). WasOrdered asked e) (sym event) tt, heard_ordered number earlier rest more)
+  heard_ordered number (Nothing ∷ earlier) acts hears = heard_ordered number earlier acts hears
+  heard_ordered number (Failed ∷ earlier) acts hears = heard_ordered number earlier acts hears
+
+  order_heard : (number : ℕ) (order : Order) → Contains asked (Listens (Some order)) → WasOrdered asked (event_of number order)
+  order_heard number (Notice router) has = has
+  order_heard number (Change db) has = has
+  order_heard number (Rotate key) has = has
+  order_heard number (Reload sites) has = has
+
+  pub taken_ordered : (number : ℕ) (order : Option Order) (outcome : Outcome) (taken : Bool) (heard : List TurnAct) → Contains asked (Listens order) → AreOrdered heard → AreOrdered (obeyed number order outcome taken ++ heard)
+  taken_ordered number (Some order) (Some (Ok act)) taken heard has before = (order_heard number order has, before)
+  taken_ordered number (Some order) (Some (Err fault)) taken heard has before = before
+  taken_ordered number (Some order) None taken heard has before = before
+  taken_ordered number None outcome taken heard has before = before
+
+  -- nor is what is due
+  duty_ordered : (number : ℕ) (event : EventValue) → IsDuty number event → WasOrdered asked event
+  duty_ordered number (events.Send router server part Done) due = tt
+  duty_ordered number (events.Resend server router) due = tt
+  duty_ordered number _ due = absurd due
+
+  due_ordered : (number : ℕ) (acts : List TurnAct) → AllByRecursion (λ a. IsDuty number a.event) acts → AreOrdered acts
+  due_ordered number [] due = tt
+  due_ordered number (a ∷ earlier) due = (duty_ordered number a.event due.0, due_ordered number earlier due.1)
 
 -- the datagrams that came
 abbrev pub came : List Reception → List (Addr × List ℕ)
@@ -52,11 +89,13 @@ told_own : (number : ℕ) (order : Order) → IsOwn number (event_of number orde
 told_own number (Notice router) = refl
 told_own number (Change db) = refl
 told_own number (Rotate key) = refl
+told_own number (Reload sites) = refl
 
 told_arrives : (number : ℕ) (order : Order) → arrival (event_of number order) ≡ []
 told_arrives number (Notice router) = refl
 told_arrives number (Change db) = refl
 told_arrives number (Rotate key) = refl
+told_arrives number (Reload sites) = refl
 
 pub taken_own : (number : ℕ) (order : Option Order) (outcome : Outcome) (taken : Bool) (heard : List TurnAct) → AreOwn number heard → AreOwn number (obeyed number order outcome taken ++ heard)
 taken_own number (Some order) (Some (Ok act)) taken heard own = ((told_own number order, inl refl), own)
@@ -105,7 +144,8 @@ module _ (number : ℕ) where
   pub record AreServed (acts : List TurnAct) : Type 0 where
     pub own : AreOwn number acts
     pub none : arrived acts ≡ []
+    pub ordered : (asked : List Call) → AreOrdered asked acts
 
   pub are_served : (config : ConfigValue) (b : Bool) (pause left : Pause) (now : ℕ) (before after : NodeState) (acts : List TurnAct) → ServesIf config b number before after now pause left acts → AreServed acts
-  are_served config true pause left now before after acts serves = record { own = served_own pause left now acts serves.duties serves.done; none = due_arrived acts serves.duties }
-  are_served config false pause left now before after acts (is, same) = record { own = subst (λ (l : List TurnAct). AreOwn number l) (sym is) tt; none = ap arrived is }
+  are_served config true pause left now before after acts serves = record { own = served_own pause left now acts serves.duties serves.done; none = due_arrived acts serves.duties; ordered = λ asked. due_ordered asked number acts serves.duties }
+  are_served config false pause left now before after acts (is, same) = record { own = subst (λ (l : List TurnAct). AreOwn number l) (sym is) tt; none = ap arrived is; ordered = λ asked. subst (AreOrdered asked) (sym is) tt }

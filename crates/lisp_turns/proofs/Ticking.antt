@@ -6,7 +6,7 @@ use Rattle.std.proofs.lemmas.Option.{slice_get_within}
 use Rattle.lisp_records.specs.Moment.{max_moment}
 use Rattle.lisp_model.specs.declared.event.Event.TheVariants as events
 use Rattle.lisp_model.specs.declared.line.Line.TheVariants as lines
-use Rattle.lisp_model.specs.Trace.{Step, Opening}
+use Rattle.lisp_model.specs.Trace.{EventValue, Step, Opening}
 use Rattle.lisp_refinement.specs.World.{ServerNodeState, RouterNodeState, WorldState}
 use Rattle.lisp_refinement.specs.Events.{ExpiresNode, ExpiresEach, NetworkTicks}
 use Rattle.lisp_refinement.specs.Stands.{Stands}
@@ -68,7 +68,7 @@ has_passed w ms now number (Router old) (Router new) (place, number_is, there) p
     (place, omega (arith, number_is, length-map w.servers (expired (w.clock + ms))), there ∙ ap (λ (n : RouterNodeState). Some n) (sym passes))
 
 -- so the network stands for its trace and a tick
-module _ (A : Type 0) (number : ℕ) (old new : NodeState) (now : ℕ) (w : WorldState) (o : Opening) (T : List Step) (stand : Stands w o T) (has : HasNode w number old)
+module _ (A : Type 0) (Allows : EventValue → Type 0) (tick : (ms : ℕ) → Allows (events.Tick ms)) (number : ℕ) (old new : NodeState) (now : ℕ) (w : WorldState) (o : Opening) (T : List Step) (stand : Stands w o T) (has : HasNode w number old)
     (later : w.clock ≤ now) (bound : now ≤ max_moment) (passes : Passes old new now) where
   abbrev ms : ℕ
   ms = now - w.clock
@@ -85,7 +85,7 @@ module _ (A : Type 0) (number : ℕ) (old new : NodeState) (now : ℕ) (w : Worl
     said = refl;
   }
 
-  pub tick_reaches : Reaches number [] [] [] new now w o T
+  pub tick_reaches : Reaches Allows number [] [] [] new now w o T
   tick_reaches =
       let after = taking_agrees A w (then_in w ms number new) (events.Tick ms) (lines.Ticked ms (w.clock + ms)) ticks o T stand in
       record {
@@ -93,6 +93,7 @@ module _ (A : Type 0) (number : ℕ) (old new : NodeState) (now : ℕ) (w : Worl
         left = then_in w ms number new;
         stands = after.2;
         own = (tt, tt);
+        allowed = (tick ms, tt);
         are_printed = inl (tt, refl);
         bag = sym (append-nil w.bag);
         heard = refl;

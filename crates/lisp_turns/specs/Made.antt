@@ -1,10 +1,12 @@
 -- What the core of a node says of an act, whatever the node's store.
-use Rattle.std.specs.Prelude.{◌≡◌, ℕ, true, false, List, Option, Some, None, Result, Ok, IfSome}
+use Rattle.std.specs.Prelude.{◌≡◌, ℕ, true, false, List, length, Option, Some, None, Result, Ok, IfSome}
 use Rattle.lisp_records.specs.declared.address.Addr.{Addr}
 use Rattle.lisp_records.specs.declared.router.RouterId.{RouterId}
 use Rattle.lisp_records.specs.Database.{database_of}
 use Rattle.lisp_records.specs.Record.{MapRecordValue}
 use Rattle.lisp_policy.specs.Configuration.{ConfigValue}
+use Rattle.lisp_policy.specs.Extends.{extends}
+use Rattle.lisp_policy.specs.Site.{SiteValue}
 use Rattle.lisp_nonces.specs.declared.fate.Fate.TheVariants.{Done}
 use Rattle.lisp_etr.specs.declared.send_fault.SendFault.{SendFault}
 use Rattle.lisp_etr.specs.declared.rotate_fault.RotateFault.{RotateFault}
@@ -15,7 +17,7 @@ use Rattle.lisp_model.specs.Trace.{EventValue, is_router, router_at}
 use Rattle.lisp_nodes.specs.declared.arrival.Arrival.{Arrival}
 use Rattle.lisp_nodes.specs.Hearing.{ServerHears, OneRouterHears}
 use Rattle.lisp_refinement.specs.Calls.{NodeNotifies}
-use Rattle.lisp_refinement.specs.Events.{NodeSends, NodeResends, NodeRotates, ChangesNoticesAlone, changed_node, change_line, is_up}
+use Rattle.lisp_refinement.specs.Events.{NodeSends, NodeResends, NodeRotates, NodeReloads, ChangesNoticesAlone, changed_node, change_line, reload_line, is_up}
 use Rattle.lisp_refinement.specs.World.{RouterNodeState, is_used}
 use Rattle.lisp_nodes.specs.Asked.{asked_rotate_line}
 use Rattle.lisp_turns.specs.Act.{ActValue, line_act}
@@ -74,6 +76,12 @@ abbrev pub IsRotated : ConfigValue → ℕ → NodeState → NodeState → ℕ �
 IsRotated config number (Router old) (Router new) now key act = RotatesTo config number old new now key act
 IsRotated config number _ _ now key act = ⊥
 
+-- a Map-Server was told to take other sites
+abbrev pub IsReloaded : ℕ → NodeState → NodeState → ℕ → List SiteValue → ActValue → Type 0
+IsReloaded number (Server old) (Server new) now sites act = NodeReloads old new sites now
+    × (act ≡ line_act (reload_line number (extends old.core.sites sites) (length sites)))
+IsReloaded number _ _ now sites act = ⊥
+
 -- what the core of the node with a number says of an event of its own at a moment, and of what it comes to
 abbrev pub IsMade : Type 0 → ConfigValue → ℕ → NodeState → NodeState → ℕ → EventValue → ActValue → Type 0
 IsMade A config number old new now (events.Junk to from bytes) act = (to ≡ number) × IsHeard A number old new now from bytes act
@@ -86,4 +94,6 @@ IsMade A config number old new now (events.Notice server router Done) act = (ser
 IsMade A config number old new now (events.Change router db) act = (router ≡ number) × IsChanged number old new now db act
 IsMade A config number old new now (events.Rotate router key Done) act = (router ≡ number)
     × IsRotated config number old new now key act
+IsMade A config number old new now (events.Reload server sites) act = (server ≡ number)
+    × IsReloaded number old new now sites act
 IsMade A config number old new now _ act = ⊥

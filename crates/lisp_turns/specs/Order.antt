@@ -13,13 +13,14 @@ use Rattle.lisp_refinement.specs.Stands.{Stands}
 use Rattle.lisp_world.specs.Faults.{fault_of}
 use Rattle.lisp_turns.specs.Node.{NodeState, Server, Router, HasNode}
 use Rattle.lisp_turns.specs.declared.order.Order.{Order}
-use Rattle.lisp_turns.specs.declared.order.Order.TheVariants.{Notice, Change, Rotate}
+use Rattle.lisp_turns.specs.declared.order.Order.TheVariants.{Notice, Change, Rotate, Reload}
 
 -- told to the node with a number; the calls of its store are done
 abbrev pub event_of : ℕ → Order → EventValue
 event_of number (Notice router) = events.Notice number router Done
 event_of number (Change db) = events.Change number db
 event_of number (Rotate key) = events.Rotate number key Done
+event_of number (Reload sites) = events.Reload number sites
 
 -- the number is that of no node, or of a Map-Server, where a router is meant
 abbrev pub name_fault : ConfigValue → ℕ → Option WorldFault
@@ -39,10 +40,12 @@ rotate_fault config n key =
 -- notice names a router
 abbrev pub order_fault : ConfigValue → NodeState → Order → Option WorldFault
 order_fault config (Server n) (Notice router) = name_fault config router
+order_fault config (Server n) (Reload sites) = None
 order_fault config (Server n) _ = Some WrongKind
 order_fault config (Router n) (Notice router) = option_or (name_fault config router) (Some WrongKind)
 order_fault config (Router n) (Change db) = None
 order_fault config (Router n) (Rotate key) = rotate_fault config n key
+order_fault config (Router n) (Reload sites) = Some WrongKind
 
 -- the same keeps the event of an order from being taken, or nothing does: in each network of the configuration that has the node and
 -- stands for a trace

@@ -1,6 +1,6 @@
 -- What a node prints and sends is a legal trace's part of it.
-use Rattle.std.specs.Prelude.{◌≡◌, ◌⊎◌, ℕ, List, [], ◌∷◌, ◌++◌, map, reverse}
-use Rattle.std.specs.List.{AllByRecursion}
+use Rattle.std.specs.Prelude.{◌≡◌, ◌⊎◌, ℕ, List, [], ◌∷◌, ◌++◌, map, reverse, Some}
+use Rattle.std.specs.List.{AllByRecursion, Contains}
 use Rattle.lisp_records.specs.declared.address.Addr.{Addr}
 use Rattle.lisp_policy.specs.Configuration.{ConfigValue}
 use Rattle.lisp_nonces.specs.declared.fate.Fate.TheVariants.{Done}
@@ -14,8 +14,9 @@ use Rattle.lisp_refinement.specs.Events.{address_of}
 use Rattle.lisp_refinement.specs.Stands.{Stands}
 use Rattle.lisp_turns.specs.Act.{numbered}
 use Rattle.lisp_turns.specs.Node.{HasNode}
-use Rattle.lisp_turns.specs.Outside.{Call, Receives, Polls, Prints, Sends, Datagram, logged}
+use Rattle.lisp_turns.specs.Outside.{Call, Receives, Polls, Listens, Prints, Sends, Datagram, logged}
 use Rattle.lisp_turns.specs.Turn.{TurnState, Turns}
+use Rattle.lisp_turns.specs.declared.order.Order.TheVariants as orders
 use Rattle.lisp_turns.specs.declared.outside.Printed.TheVariants as printed
 
 -- the events of one node of a network: time passes, bytes from anywhere arrive at it, it sends a Map-Register, or sends a
@@ -28,6 +29,7 @@ IsOwn number (events.Resend server router) = server ≡ number
 IsOwn number (events.Notice server router Done) = server ≡ number
 IsOwn number (events.Change router db) = router ≡ number
 IsOwn number (events.Rotate router key Done) = router ≡ number
+IsOwn number (events.Reload server sites) = server ≡ number
 IsOwn number _ = ⊥
 
 -- a line that need not be printed: time passed; or what was due was refused, perhaps not for the first time in a minute
@@ -71,18 +73,27 @@ received_of (Receives (Datagram from bytes) ∷ calls) = (from, bytes) ∷ recei
 received_of (Polls (Datagram from bytes) ∷ calls) = (from, bytes) ∷ received_of calls
 received_of (_ ∷ calls) = received_of calls
 
+-- what a user tells a node was told: it was heard outside
+abbrev pub WasOrdered : List Call → EventValue → Type 0
+WasOrdered calls (events.Notice server router fate) = Contains calls (Listens (Some (orders.Notice router)))
+WasOrdered calls (events.Change router db) = Contains calls (Listens (Some (orders.Change db)))
+WasOrdered calls (events.Rotate router key fate) = Contains calls (Listens (Some (orders.Rotate key)))
+WasOrdered calls (events.Reload server sites) = Contains calls (Listens (Some (orders.Reload sites)))
+WasOrdered calls _ = Unit {0}
+
 -- a message as a datagram of a network
 abbrev pub datagram_from : Addr → Addr × List ℕ → DatagramValue
 datagram_from from message = record { from = from; to = message.0; bytes = message.1 }
 
 -- a network went on by steps of the node with a number: the events' lines that were printed are theirs, the datagrams that were
--- sent are those of the network, in their order, and what arrived is what was received
+-- sent are those of the network, in their order, what arrived is what was received, and what a user tells was told
 pub record IsPart (number : ℕ) (calls : List Call) (old new : WorldState) (o : Opening) (T steps : List Step) : Type 0 where
   pub stands : Stands new o (steps ++ T)
   pub own : AllByRecursion (λ s. IsOwn number s.event) steps
   pub printed : ArePrinted steps (lines_of calls)
   pub sent : new.bag ≡ old.bag ++ map (datagram_from (address_of old number)) (reverse (sent_of calls))
   pub heard : arrivals steps ≡ received_of calls
+  pub ordered : AllByRecursion (λ s. WasOrdered calls s.event) steps
 
 -- a network that stands for a trace, and has a node that takes turns, stands for the trace followed by steps of that node
 pub record GoesOn (number : ℕ) (s t : TurnState) (w : WorldState) (o : Opening) (T : List Step) : Type 0 where

@@ -8,7 +8,7 @@ use std::alloc::Allocator;
 
 /// What a node prints and sends in its turns is a legal trace's part of it: a network that stands for a trace, and has the
 /// node, stands for the trace followed by steps of that node, whose lines are the events' lines that were printed, and whose
-/// datagrams are those that were sent.
+/// datagrams are those that were sent. Of what a user tells a node they have nothing that wasn't told.
 pub fn turns_are_parts<A: Allocator>()
     ensures { TurnsAreParts A }
 {}

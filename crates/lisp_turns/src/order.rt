@@ -1,9 +1,11 @@
 //! What a user tells a node that runs.
 
+use lisp_policy::Sites;
 use lisp_records::Database;
 
-/// What a user tells a node to do. Nodes are named by their numbers.
-#[derive(Debug, Drop)]
+/// What a user tells a node to do. Nodes are named by their numbers. It has no `Debug`, as sites have none: no text shows their
+/// secrets.
+#[derive(Drop)]
 pub enum Order {
     /// A Map-Server sends a router an unsolicited Map-Notify (notice) of what it holds of it.
     Notice {
@@ -19,5 +21,10 @@ pub enum Order {
     Rotate {
         /// The Key ID that it registers under from now on.
         key: u8,
+    },
+    /// A Map-Server takes other sites.
+    Reload {
+        /// Its sites from now on.
+        sites: Sites,
     },
 }

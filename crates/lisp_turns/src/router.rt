@@ -89,6 +89,7 @@ impl<S: WorldStore> Node for RouterNode<S> {
             }
             Order::Change { db } => Ok(change(self, place, db, now)),
             Order::Rotate { key } => rotate(self, place, key, now),
+            Order::Reload { .. } => Err(WorldFault::WrongKind),
         }
     }
 

@@ -21,8 +21,9 @@ use crate::place::Place;
 use lisp_mapping::{Handled, server_handles};
 use lisp_memory::Memory;
 use lisp_model::WorldFault;
-use lisp_nodes::{Arrival, ServerNode, noticed, resent, server_hears};
+use lisp_nodes::{Arrival, ServerNode, noticed, reloaded, resent, server_hears};
 use lisp_nonces::{Fate, WorldStore};
+use lisp_policy::Sites;
 use lisp_records::{Addr, Bytes, Prefix, RouterId};
 use lisp_replies::is_starting;
 use lisp_resolve::Unasked;
@@ -81,11 +82,14 @@ impl<S: WorldStore> Node for ServerNode<S> {
     }
 
     fn obey(&mut self, place: &Place, order: Order, now: u64) -> Result<Act, WorldFault> {
-        let Order::Notice { router } = order else {
-            return Err(WorldFault::WrongKind);
-        };
-        let me = place.identity_of(router)?;
-        Ok(notify(self, place, router, &me, now))
+        match order {
+            Order::Notice { router } => {
+                let me = place.identity_of(router)?;
+                Ok(notify(self, place, router, &me, now))
+            }
+            Order::Reload { sites } => Ok(reload(self, place, sites, now)),
+            Order::Change { .. } | Order::Rotate { .. } => Err(WorldFault::WrongKind),
+        }
     }
 
     fn serve(&mut self, place: &Place, now: u64) -> Option<Act> {
@@ -148,4 +152,16 @@ fn act_of_notice(server: usize, router: usize, answer: Result<(Addr, Bytes), Not
 {
     let (line, message) = noticed(server, router, 0, answer);
     Act { line, message }
+}
+
+// Has the Map-Server take other sites.
+fn reload<S: WorldStore>(server: &mut ServerNode<S>, place: &Place, sites: Sites, now: u64) -> Act
+    requires placed { IsPlaced place.now.config.now place.now.number (ServerNodeOf server.old) }
+    ensures does { DoesOne Global place.now.config.now place.now.number (ServerNodeOf server.old)
+        (ServerNodeOf server.new) now (events.Reload place.now.number sites) result }
+    ensures tells { MayTell ⟦<Global as Memory>⟧.may_refuse S.may_refuse result.line }
+{
+    let count = sites.as_slice().len();
+    let kept = server.reload(sites, now);
+    Act::line(reloaded(place.number, kept, count))
 }

@@ -7,13 +7,14 @@ use Rattle.std.proofs.lemmas.Option.{slice_get_within, slice_get-map, get_or_fro
 use Rattle.std.proofs.Math.Seq.{map-set_same}
 use Rattle.lisp_records.specs.declared.address.Addr.{Addr}
 use Rattle.lisp_records.specs.Record.{MapRecordValue}
+use Rattle.lisp_policy.specs.Site.{SiteValue}
 use Rattle.lisp_nonces.specs.declared.fate.Fate.{Fate}
 use Rattle.lisp_nonces.specs.declared.fate.Fate.TheVariants.{Done}
 use Rattle.lisp_nonces.specs.Store.{StoreState, Proceeds}
 use Rattle.lisp_model.specs.declared.line.Line.{Line}
 use Rattle.lisp_refinement.specs.World.{DatagramValue, ServerNodeState, RouterNodeState, RouterCoreState, Up, Down, WorldState}
 use Rattle.lisp_refinement.specs.Calls.{UsesStore}
-use Rattle.lisp_refinement.specs.Events.{ServerActs, RouterActs, ExpiresEach, NetworkTicks, NetworkChanges, RouterSends, NetworkSends, RouterHears, Arrives, ArrivesWhere, NetworkDelivers, NetworkRestarts, NetworkNotifies, NetworkResends, NetworkRotates, NetworkLoses, RouterRotates, node_with}
+use Rattle.lisp_refinement.specs.Events.{ServerActs, RouterActs, ExpiresEach, NetworkTicks, NetworkChanges, RouterSends, NetworkSends, RouterHears, Arrives, ArrivesWhere, NetworkDelivers, NetworkRestarts, NetworkNotifies, NetworkReloads, NetworkResends, NetworkRotates, NetworkLoses, RouterRotates, node_with}
 use Rattle.lisp_world.specs.Quiet.{stores_of, IsCalm, AllCalm, failures, KeepsCalm}
 use Rattle.lisp_refinement.proofs.Gets.{AtSet, get_set, get_before}
 
@@ -237,3 +238,8 @@ notices_calm old new server router fate line notices = server_keeps old new serv
 pub resends_calm : (old new : WorldState) (server router : ℕ) (line : Line) → NetworkResends old new server router line → KeepsCalm old new Done
 resends_calm old new server router line resends = server_keeps old new server resends.more Done resends.acts
     (same_store resends.acts.before.store resends.acts.after.store Done (ap (λ (n : ServerNodeState). n.store) resends.rest))
+
+-- a Map-Server takes other sites, without its store
+pub reloads_calm : (old new : WorldState) (server : ℕ) (given : List SiteValue) (line : Line) → NetworkReloads old new server given line → KeepsCalm old new Done
+reloads_calm old new server given line reloads = server_keeps old new server [] Done reloads.acts
+    (same_store reloads.acts.before.store reloads.acts.after.store Done reloads.reloads.store)

@@ -81,6 +81,7 @@ never w (events.Rotate router key fate) = never_key w router key (used_before_lo
 never w (events.Lose router key db) = never_key w router key (used_ever key)
 never w (events.Notice server router fate) = unless _ _ _ no_node (unless _ _ _ wrong_kind nothing)
 never w (events.Resend server router) = unless _ _ _ no_node (unless _ _ _ wrong_kind nothing)
+never w (events.Reload server sites) = unless _ _ _ no_node (unless _ _ _ wrong_kind nothing)
 
 -- what an event comes to, part by part
 module _ (node_may store_may : Type 0) (old new : WorldState) (event : EventValue) where

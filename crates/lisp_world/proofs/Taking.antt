@@ -1,8 +1,10 @@
 -- An event that was taken: a trace goes on by its turn, which keeps calm stores calm.
-use Rattle.std.proofs.Common.{◌≡◌, ℕ, ◌+◌, ◌<◌, ◌++◌, length, get_or, take, drop, List, Option, Some, None, Result, Ok, refl, sym, ap, subst, ◌∙◌, arith}
+use Rattle.std.proofs.Common.{◌≡◌, ℕ, ◌+◌, ◌<◌, ◌++◌, length, get_or, take, drop, Bool, true, false, List, Option, Some, None, Result, Ok, refl, sym, ap, subst, ◌∙◌, arith}
 use Rattle.std.specs.Prelude.{IfOk, slice_get}
 use Rattle.lisp_records.specs.declared.address.Addr.{Addr}
 use Rattle.lisp_records.specs.Record.{MapRecordValue}
+use Rattle.lisp_policy.specs.Extends.{extends}
+use Rattle.lisp_policy.specs.Site.{SiteValue}
 use Rattle.lisp_nonces.specs.declared.fate.Fate.{Fate}
 use Rattle.lisp_nonces.specs.declared.fate.Fate.TheVariants.{Done}
 use Rattle.lisp_model.specs.Restarting.{Fits}
@@ -12,19 +14,20 @@ use Rattle.lisp_model.specs.declared.line.Line.{Line}
 use Rattle.lisp_model.specs.declared.line.Line.TheVariants as lines
 use Rattle.lisp_model.specs.declared.world_fault.WorldFault.{WorldFault}
 use Rattle.lisp_refinement.specs.World.{DatagramValue, RouterCoreState, Up, Down, ServerNodeState, RouterNodeState, WorldState}
-use Rattle.lisp_refinement.specs.Events.{address_of, change_line, node_with, datagram_to, Arrives, NetworkChanges, NetworkDelivers, NetworkNotifies, NetworkLoses, NetworkResends, NetworkRestarts, NetworkRotates, NetworkSends, NetworkTicks}
+use Rattle.lisp_refinement.specs.Events.{address_of, change_line, reload_line, node_with, datagram_to, Arrives, NetworkChanges, NetworkDelivers, NetworkNotifies, NetworkLoses, NetworkReloads, NetworkResends, NetworkRestarts, NetworkRotates, NetworkSends, NetworkTicks}
 use Rattle.lisp_refinement.proofs.Changing.{change_stands}
 use Rattle.lisp_refinement.proofs.Losing.{lose_stands}
 use Rattle.lisp_refinement.proofs.Noticing.{notice_stands}
+use Rattle.lisp_refinement.proofs.Reloading.{reload_stands}
 use Rattle.lisp_refinement.proofs.Resending.{resend_stands}
 use Rattle.lisp_refinement.proofs.Rotating.{rotate_stands}
 use Rattle.lisp_refinement.proofs.Sending.{send_stands}
 use Rattle.lisp_refinement.proofs.Passing.{tick_stands}
 use Rattle.lisp_refinement.proofs.Taking.{delivers_stand, junk_stands, restarts_stand}
-use Rattle.lisp_world.specs.Faults.{datagram_fault, node_fault, pair_fault, refusal_of, restart_fault, router_fault, router_key_fault, tick_fault, used_before_loss, used_ever}
+use Rattle.lisp_world.specs.Faults.{datagram_fault, node_fault, pair_fault, refusal_of, restart_fault, router_fault, router_key_fault, server_fault, tick_fault, used_before_loss, used_ever}
 use Rattle.lisp_world.specs.Taking.{TookEvent}
 use Rattle.lisp_world.proofs.Arrivals.{arrived, datagram_there, delivered, read_again, read_still, same_world}
-use Rattle.lisp_world.proofs.Calm.{ticks_calm, changes_calm, sends_calm, delivers_calm, arrives_calm, restarts_calm, rotates_calm, loses_calm, notices_calm, resends_calm}
+use Rattle.lisp_world.proofs.Calm.{ticks_calm, changes_calm, sends_calm, delivers_calm, arrives_calm, restarts_calm, rotates_calm, loses_calm, notices_calm, reloads_calm, resends_calm}
 
 -- a check of a router's number and a Map-Server's passed: what is known of them, with the network as the call has it, and as it
 -- is seen
@@ -66,6 +69,19 @@ module _ (node_may store_may : Type 0) (old new : WorldState) where
     calm = resends_calm old new server router line turn;
     tells = tells;
   }
+
+  pub reloads_taken : (server : ℕ) (given : List SiteValue) (line : Line) → None ≡ server_fault old server → NetworkReloads old new server given line
+      → TookEvent node_may store_may old new (events.Reload server given) line
+  reloads_taken server given line possible turn = record {
+    possible = sym possible;
+    stands = reload_stands old new server given line turn;
+    calm = reloads_calm old new server given line turn;
+    tells = subst (λ (l : Line). MayTell node_may store_may l) (sym turn.said) (told (extends turn.acts.before.core.sites given));
+  }
+    where
+      told : (goes_on : Bool) → MayTell node_may store_may (reload_line server goes_on (length given))
+      told true = tt
+      told false = tt
 
   pub delivers_taken : (A : Type 0) (k : ℕ) (fate : Fate) (line : Line) → None ≡ datagram_fault old k → NetworkDelivers A old new k fate line → MayTell node_may store_may line
       → TookEvent node_may store_may old new (events.Deliver k fate) line

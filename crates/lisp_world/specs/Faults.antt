@@ -35,10 +35,16 @@ key_fault w key was_used node =
     else if was_used node.used then Some faults.KeyUsed
     else None
 
--- the fault of an event: of one node; of a router; of a router and a key; of a router and a Map-Server; of a restart; of a
--- datagram; of time
+-- the fault of an event: of one node; of a Map-Server; of a router; of a router and a key; of a router and a Map-Server; of a
+-- restart; of a datagram; of time
 abbrev pub node_fault : WorldState → ℕ → Option WorldFault
 node_fault w node = if is_missing w node then Some faults.NoNode else None
+
+abbrev pub server_fault : WorldState → ℕ → Option WorldFault
+server_fault w server =
+    if is_missing w server then Some faults.NoNode
+    else if not (is_server w server) then Some faults.WrongKind
+    else None
 
 abbrev pub router_fault : WorldState → ℕ → Option WorldFault
 router_fault w router =
@@ -91,6 +97,7 @@ fault_of w (events.Rotate router key fate) = router_key_fault w router key (used
 fault_of w (events.Lose router key db) = router_key_fault w router key (used_ever key)
 fault_of w (events.Notice server router fate) = pair_fault w router server
 fault_of w (events.Resend server router) = pair_fault w router server
+fault_of w (events.Reload server sites) = server_fault w server
 
 -- an event that has a fault is refused with it; another may be refused for want of memory alone
 abbrev pub Faults : {X : Type 0} → Option WorldFault → Result X WorldFault → Type 0

@@ -6,7 +6,8 @@
 //! - The headline is a clause of each call of a network, though it follows from the others: a reader finds it where the network
 //!   is used.
 //! - A network keeps of its configuration what its nodes need: the address of each node, the identity of each router, the
-//!   numbers of its Map-Servers, and the sites of each Map-Server.
+//!   numbers of its Map-Servers, and the sites of each Map-Server. It keeps the sites also for the keys of its routers: these
+//!   stay when a Map-Server takes others.
 //! - The network checks keys, and the router's core doesn't (`UnknownKey`, `KeyUsed`). Both come before the router is asked,
 //!   also for one that is down.
 //! - Room for a datagram is made before each call that may send one. So an event may run out of memory though its node then
@@ -22,6 +23,7 @@ mod lose;
 mod new;
 mod nodes;
 mod notice;
+mod reload;
 mod request;
 mod resend;
 mod restart;

@@ -1,7 +1,7 @@
 //! The nodes of a network by their numbers and addresses.
 
-ghost use Rattle.std.specs.Prelude.{◌≡◌, ◌<◌, IfOk, IfErr, length, slice_index_or};
-ghost use Rattle.lisp_world.specs.Faults.{is_missing, is_server, IsRouterPlace, IsPlaceWithKey, node_fault, router_fault, pair_fault, RefusesKey, refusal_of};
+ghost use Rattle.std.specs.Prelude.{◌≡◌, ◌<◌, IfOk, IfErr, OnOk, length, slice_index_or};
+ghost use Rattle.lisp_world.specs.Faults.{is_missing, is_server, IsRouterPlace, IsPlaceWithKey, node_fault, server_fault, router_fault, pair_fault, RefusesKey, refusal_of};
 ghost use Rattle.lisp_refinement.specs.Events.{address_of, node_with};
 
 use crate::world::World;
@@ -48,6 +48,20 @@ impl<S: WorldStore, A: Allocator> World<S, A> {
     {
         if self.is_missing(node) {
             return Err(WorldFault::NoNode);
+        }
+        Ok(())
+    }
+
+    // Refuses the number of no Map-Server.
+    pub(crate) fn check_server(&self, server: usize) -> Result<(), WorldFault>
+        ensures server { OnOk result (server < length self.now.servers) }
+        ensures fault { refusal_of result ≡ server_fault self.now server }
+    {
+        if self.is_missing(server) {
+            return Err(WorldFault::NoNode);
+        }
+        if !self.is_server(server) {
+            return Err(WorldFault::WrongKind);
         }
         Ok(())
     }

@@ -22,7 +22,7 @@ impl<S: WorldStore, A: Memory + Copy> World<S, A> {
     /// What keeps it from taking the event is found before the call, in this order, and changes nothing:
     /// `NoNode`, `WrongKind`, `UnknownKey` (the router's site has no such key), `KeyUsed` (a rotation to a key that the
     /// router used before its store was lost last, or a loss with one that it ever used), `NoDatagram`, `Clock` (the
-    /// moment would be above 2^62 ms), `OutOfMemory` (for a datagram or a database; every other event takes no memory).
+    /// moment would be above 2^62 ms), `OutOfMemory` (for a datagram, a database or sites; every other event takes no memory).
     pub fn step<E: Allocator>(&mut self, event: &Event<E>) -> Result<Line, WorldFault>
         // It stands for each trace that it stood for, followed by this event with its line.
         ensures stands { IfOk result (StandsAfter self.old self.new (event_value event.now)) }
@@ -64,6 +64,7 @@ impl<S: WorldStore, A: Memory + Copy> World<S, A> {
                 fate,
             } => self.notice(*server, *router, *fate),
             Event::Resend { server, router } => self.resend(*server, *router),
+            Event::Reload { server, sites } => self.reload(*server, sites),
         }
     }
 }

@@ -289,7 +289,7 @@ fn site_line(alloc: Global, site: &Site) -> Result<String, AllocError> {
     let id = site.id();
     let mut line = String::try_format(alloc, format_args!("site {id:016x}"))?;
     for key in site.keys() {
-        put(&mut line, "key", key.id)?;
+        put(&mut line, "key", key.id())?;
     }
     put_prefixes(&mut line, alloc, site.prefixes())?;
     Ok(line)

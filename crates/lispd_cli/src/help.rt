@@ -32,6 +32,7 @@ pub(crate) const PLAY_FORM: &str =
   lose ROUTER KEY [RECORD ..]    its store loses what it kept; it crashes and starts under a key that it never used
   notice SERVER ROUTER           the Map-Server sends an unsolicited Map-Notify
   resend SERVER ROUTER           and sends it again
+  reload SERVER --- SITES        the Map-Server takes other sites, a line of TOML: site = [{ id = .., key = [..], prefix = [..] }]
   hold SERVER, acks ROUTER, ask SERVER ADDRESS, due NODE
                                  what the node holds, counted, answers, has to send
   request SERVER PREFIX [from ADDRESS]

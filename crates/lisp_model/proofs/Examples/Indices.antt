@@ -238,5 +238,5 @@ kept_at_its_start : start_values opening (step (events.Restart 2 0 None) (lines.
 kept_at_its_start = refl
 
 -- a reply goes out under the key of its message
-replied_under_its_key : (reply_item two_keys.config 0 (record (arrived short 1) { message = record (registers short 1) { key_id = 2 } })).secret ≡ 1 ∷ []
+replied_under_its_key : (reply_item two_keys.config two_keys.config.sites 0 (record (arrived short 1) { message = record (registers short 1) { key_id = 2 } })).secret ≡ 1 ∷ []
 replied_under_its_key = refl

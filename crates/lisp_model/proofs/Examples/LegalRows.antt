@@ -42,7 +42,7 @@ one_sent_legal = (sends_legal [] 0 1 0 None refl refl refl refl (fresh_value (se
 
 pub one_taken_legal : LegalTrace opening one_taken
 unfolding cut cut_from written
-one_taken_legal = (takes_legal one_sent 0 0 1 1 _ _ None refl refl refl refl refl refl (fresh_value (got_from one)) tt refl, one_sent_legal)
+one_taken_legal = (takes_legal one_sent 0 0 1 1 _ _ None refl refl refl refl refl refl refl (fresh_value (got_from one)) tt refl, one_sent_legal)
 
 pub acceptance : LegalTrace opening one_counted
 unfolding numbers_below
@@ -51,7 +51,7 @@ acceptance = (counts_legal one_taken 1 0 1 _ _ refl refl refl refl (omega arith)
 -- the datagram arrives again
 pub replay : LegalTrace opening (replays one_taken 0 0 1 ∷ one_taken)
 unfolding cut cut_from written
-replay = (replays_legal one_taken 0 0 1 1 _ _ refl refl refl refl refl refl refl (omega arith), one_taken_legal)
+replay = (replays_legal one_taken 0 0 1 1 _ _ refl refl refl refl refl refl refl refl (omega arith), one_taken_legal)
 
 two_sent_legal : LegalTrace opening two_sent
 two_sent_legal = (
@@ -65,9 +65,9 @@ two_sent_legal = (
 pub older_after_newer : LegalTrace opening (replays newer_taken 0 0 2 ∷ newer_taken)
 unfolding cut cut_from written
 older_after_newer = (
-  replays_legal newer_taken 0 0 1 2 _ _ refl refl refl refl refl refl refl (omega arith),
+  replays_legal newer_taken 0 0 1 2 _ _ refl refl refl refl refl refl refl refl (omega arith),
   (
-    takes_legal two_sent 1 0 2 2 _ _ None refl refl refl refl refl refl (fresh_value (got_from one)) tt refl,
+    takes_legal two_sent 1 0 2 2 _ _ None refl refl refl refl refl refl refl (fresh_value (got_from one)) tt refl,
     two_sent_legal,
   ),
 )
@@ -77,7 +77,7 @@ restarted_legal = (restarts_legal one_taken 0 (inl refl) (set_full _ _ _ empty_f
 
 pub restart_remembers : LegalTrace opening (replays restarted 0 0 1 ∷ restarted)
 unfolding cut cut_from written
-restart_remembers = (replays_legal restarted 0 0 1 1 _ _ refl refl refl refl refl refl (set_value _ _ _) (omega arith), restarted_legal)
+restart_remembers = (replays_legal restarted 0 0 1 1 _ _ refl refl refl refl refl refl refl (set_value _ _ _) (omega arith), restarted_legal)
 
 restart_holds_nothing : held_row (since_start opening restarted 0) one wide 0 ≡ None
 restart_holds_nothing = refl
@@ -105,12 +105,12 @@ doubtful_send_kept = (
 
 unsure_legal : LegalTrace opening unsure
 unfolding cut cut_from written
-unsure_legal = (doubts_take_legal one_sent 0 0 1 _ _ None refl refl refl refl refl refl (fresh_value (got_from one)) tt refl, one_sent_legal)
+unsure_legal = (doubts_take_legal one_sent 0 0 1 _ _ None refl refl refl refl refl refl refl (fresh_value (got_from one)) tt refl, one_sent_legal)
 
 pub doubtful_take : LegalTrace opening (takes unsure_forgot 0 0 1 1 ∷ unsure_forgot)
 unfolding cut cut_from written
 doubtful_take = (
-  takes_legal unsure_forgot 0 0 1 1 _ _ None refl refl refl refl refl refl (set_value _ _ _) tt refl,
+  takes_legal unsure_forgot 0 0 1 1 _ _ None refl refl refl refl refl refl refl (set_value _ _ _) tt refl,
   (
     restarts_to_legal unsure 0 (got_from one) None (inl refl) (doubted_old _ _ 1 None (fresh_value (got_from one))) (insert_full _ _ _ empty_full (Some 1, doubted_end _ 1)) refl,
     unsure_legal,
@@ -120,7 +120,7 @@ doubtful_take = (
 pub doubtful_take_kept : LegalTrace opening (replays unsure_kept 0 0 1 ∷ unsure_kept)
 unfolding cut cut_from written
 doubtful_take_kept = (
-  replays_legal unsure_kept 0 0 1 1 _ _ refl refl refl refl refl refl (set_value _ _ _) (omega arith),
+  replays_legal unsure_kept 0 0 1 1 _ _ refl refl refl refl refl refl refl (set_value _ _ _) (omega arith),
   (
     restarts_to_legal unsure 0 (got_from one) (Some 1) (inl refl) (doubted_new _ _ 1) (insert_full _ _ _ empty_full (Some 1, doubted_end _ 1)) refl,
     unsure_legal,
@@ -129,7 +129,7 @@ doubtful_take_kept = (
 
 pub load_that_fails : LegalTrace opening (fails_load one_sent 0 0 ∷ one_sent)
 unfolding cut cut_from written
-load_that_fails = (fails_load_legal one_sent 0 0 1 _ _ refl refl refl refl refl refl refl, one_sent_legal)
+load_that_fails = (fails_load_legal one_sent 0 0 1 _ _ refl refl refl refl refl refl refl refl, one_sent_legal)
 
 pub life : LegalTrace opening (ticks (aged 179999) 1 180000 ∷ aged 179999)
 life = (
@@ -151,9 +151,9 @@ dead_after = refl
 pub two_servers : LegalTrace opening both_taken
 unfolding cut cut_from written
 two_servers = (
-  takes_legal (takes both_sent 0 0 1 2 ∷ both_sent) 1 1 2 3 _ _ None refl refl refl refl refl refl (fresh_value (got_from one)) tt refl,
+  takes_legal (takes both_sent 0 0 1 2 ∷ both_sent) 1 1 2 3 _ _ None refl refl refl refl refl refl refl (fresh_value (got_from one)) tt refl,
   (
-    takes_legal both_sent 0 0 1 2 _ _ None refl refl refl refl refl refl (fresh_value (got_from one)) tt refl,
+    takes_legal both_sent 0 0 1 2 _ _ None refl refl refl refl refl refl refl (fresh_value (got_from one)) tt refl,
     (
       sends_legal one_sent 1 2 1 (Some 1) refl refl refl refl refl refl (omega arith) wide_whole refl,
       one_sent_legal,
@@ -179,7 +179,7 @@ was_noticed_legal = (
 )
 
 pub notice_ends : LegalTrace opening ended
-notice_ends = (ends_legal was_noticed 4 (2 ^ 63) _ _ refl refl refl refl refl, was_noticed_legal)
+notice_ends = (ends_legal was_noticed 4 (2 ^ 63) _ _ refl refl refl refl refl refl, was_noticed_legal)
 
 -- the answer arrives again
 pub notice_ended : LegalTrace opening (refuses ended (events.Deliver 4 fates.Done) 0 (refusals.Receive refuseds.NoNotice) ∷ ended)
@@ -259,7 +259,7 @@ foreign_sent_legal = (sends_legal (changes [] foreign ∷ []) 0 1 0 None refl re
 
 pub foreign_refused : LegalTrace opening (refuses foreign_sent (events.Deliver 0 fates.Done) 0 (refusals.Receive (refuseds.NotAllowed 1)) ∷ foreign_sent)
 unfolding cut cut_from written
-foreign_refused = (refuses_record foreign_sent 0 0 1 1 _ _ refl refl refl refl refl strange_refused, foreign_sent_legal)
+foreign_refused = (refuses_record foreign_sent 0 0 1 1 _ _ refl refl refl refl refl refl strange_refused, foreign_sent_legal)
 
 told_and_gone_legal : LegalTrace opening told_and_gone
 told_and_gone_legal = (restarts_legal first_told 0 (inl refl) (set_full _ _ _ (set_full _ _ _ empty_full)) refl, first_told_legal)
@@ -270,7 +270,7 @@ nothing_to_tell = (record { faults = λ other. omega arith; obedient = refl; row
 pub registered_again_legal : LegalTrace opening registered_again
 unfolding cut cut_from written
 registered_again_legal = (
-  takes_legal sent_after 3 0 2 4 _ _ (Some 1) refl refl refl refl refl refl (other_value _ notice_pair (got_from one) _ (Some 1) (λ e. absurd (kinds_differ (sym e))) (set_value _ _ _)) (omega arith) refl,
+  takes_legal sent_after 3 0 2 4 _ _ (Some 1) refl refl refl refl refl refl refl (other_value _ notice_pair (got_from one) _ (Some 1) (λ e. absurd (kinds_differ (sym e))) (set_value _ _ _)) (omega arith) refl,
   (sends_legal told_and_gone 0 2 3 (Some 1) refl refl refl refl refl refl (omega arith) wide_whole refl, told_and_gone_legal),
 )
 
@@ -297,7 +297,7 @@ down_and_up = (
 -- a datagram that was overheard is thrown in from an address that no node has: it is accepted, and the reply gets nowhere
 lost_item : bag opening answered_elsewhere ≡ register_item opening [] 2 0 0 1 ∷ told (local_at 11) (local_at 99) 1 (mapping wide 1440 ∷ []) ∷ []
 unfolding cut cut_from written
-lost_item = ap (λ (r : Result MessageValue ReadFault). register_item opening [] 2 0 0 1 ∷ map (reply_item network 0) (acceptances_in (Some (record { from = local_at 99; bytes = bytes_of (register_item opening [] 2 0 0 1); read = r })) 0)) (registers_read (register_item opening [] 2 0 0 1) 1440 1 refl (omega arith) (omega arith))
+lost_item = ap (λ (r : Result MessageValue ReadFault). register_item opening [] 2 0 0 1 ∷ map (reply_item network network.sites 0) (acceptances_in (Some (record { from = local_at 99; bytes = bytes_of (register_item opening [] 2 0 0 1); read = r })) 0)) (registers_read (register_item opening [] 2 0 0 1) 1440 1 refl (omega arith) (omega arith))
 
 pub lost : Legal opening answered_elsewhere (step (events.Deliver 1 fates.Done) (lines.Nowhere 1) 4 (at [] 4))
 lost = record {

@@ -18,8 +18,8 @@ use Rattle.lisp_etr.specs.declared.notify_fault.NotifyFault.TheVariants as notif
 use Rattle.lisp_etr.specs.declared.rotate_fault.RotateFault.{RotateFault}
 use Rattle.lisp_etr.specs.declared.rotate_fault.RotateFault.TheVariants as rotate_faults
 use Rattle.lisp_etr.specs.declared.start_fault.StartFault.TheVariants as start_faults
-use Rattle.lisp_admission.specs.Checks.{first_not_allowed}
-use Rattle.lisp_admission.specs.Nonces.{IsBelow}
+use Rattle.lisp_admission.specs.Checks.{first_not_allowed, most_jump_at, secret_under}
+use Rattle.lisp_admission.specs.Nonces.{IsBelow, IsNear}
 use Rattle.lisp_model.specs.Bag.{Item, arrival_of, bag, bytes_of, register_item, since_start}
 use Rattle.lisp_model.specs.Counted.{notify_at}
 use Rattle.lisp_model.specs.Context.{IsBase, Saves}
@@ -28,14 +28,14 @@ use Rattle.lisp_model.specs.Keys.{KnowsKey, MayRotate}
 use Rattle.lisp_model.specs.Legal.{Legal, LegalTrace, context_of}
 use Rattle.lisp_model.specs.Receiving.{IsFresh}
 use Rattle.lisp_model.specs.Sending.{CountsFrom}
-use Rattle.lisp_model.specs.Trace.{Opening, ShownStore, Step, database, etr_config, etr_config_under, is_up, key as key_of, router_at, shown_store}
+use Rattle.lisp_model.specs.Trace.{Opening, ShownStore, Step, sites, database, etr_config, etr_config_under, is_up, key as key_of, router_at, shown_store}
 use Rattle.lisp_model.specs.declared.event.Event.TheVariants as events
 use Rattle.lisp_model.specs.declared.line.Line.TheVariants as lines
 use Rattle.lisp_model.specs.declared.refusal.Refusal.TheVariants as refusals
 use Rattle.lisp_model.specs.Story.{blank, got_from, keeps, local_at, mapping, network, one, opening, secret, sent_by, site, step, wide}
 use Rattle.lisp_model.proofs.Examples.Wholes.{IsOnePart, wide_whole}
 use Rattle.lisp_model.proofs.Examples.Samples.{failed}
-use Rattle.lisp_model.proofs.Examples.Steps.{block_of_one}
+use Rattle.lisp_model.proofs.Examples.Steps.{block_of_one, fits_under}
 use Rattle.lisp_model.proofs.ContextLemmas.{fresh_value, other_value, saved, set_value}
 use Rattle.lisp_model.proofs.ItemLemmas.{item_authentic, passes}
 use Rattle.lisp_model.proofs.KeptLemmas.{empty_full, set_here, set_others, stays}
@@ -161,10 +161,10 @@ sends_under_legal T key nonce datagram base is up counted next small low whole p
 }
 
 -- it is accepted
-takes_under_legal : (T before : List Step) (k key nonce datagram : ℕ) (base : Option ℕ) → slice_get (bag rotating T) k ≡ Some (register_item rotating before 2 0 0 nonce) → key_of rotating before 2 ≡ key → secret_of three_keys key ≡ Some (etr_config rotating before 2).secret
+takes_under_legal : (T before : List Step) (k key nonce datagram : ℕ) (base : Option ℕ) → sites rotating T 0 ≡ rotating.config.sites → slice_get (bag rotating T) k ≡ Some (register_item rotating before 2 0 0 nonce) → key_of rotating before 2 ≡ key → secret_of three_keys key ≡ Some (etr_config rotating before 2).secret
     → first_not_allowed three_keys (part_at (database rotating before 2) 0) ≡ None → IsBase (last_of (under key (got_from one)) (since_start rotating T 0)) (kept_at (shows T 0).kept (under key (got_from one))) base → IsBelow base nonce → datagram ≡ length (bag rotating T)
     → Legal rotating T (takes_under T k key nonce datagram)
-takes_under_legal T before k key nonce datagram base sent is known allowed counted below place = record {
+takes_under_legal T before k key nonce datagram base has sent is known allowed counted below place = record {
   faults = λ other. omega arith;
   obedient = refl;
   row = record {
@@ -174,12 +174,12 @@ takes_under_legal T before k key nonce datagram base sent is known allowed count
     arrives = record {
       acts = record { kind = refl; acts = refl };
       message = _;
-      admits = record { read = refl; secret = (etr_config rotating before 2).secret; checks = passes rotating.config.sites (register_item rotating before 2 0 0 nonce).from (bytes_of (register_item rotating before 2 0 0 nonce)) (map_register_of (etr_config rotating before 2) (part_at (database rotating before 2) 0) nonce) three_keys (etr_config rotating before 2).secret refl (ap (secret_of three_keys) is ∙ known) (item_authentic (register_item rotating before 2 0 0 nonce)) refl refl allowed };
+      admits = record { read = refl; secret = (etr_config rotating before 2).secret; checks = ap (λ (sites : List SiteValue). secret_under sites (register_item rotating before 2 0 0 nonce).from (bytes_of (register_item rotating before 2 0 0 nonce)) (map_register_of (etr_config rotating before 2) (part_at (database rotating before 2) 0) nonce)) has ∙ passes rotating.config.sites (register_item rotating before 2 0 0 nonce).from (bytes_of (register_item rotating before 2 0 0 nonce)) (map_register_of (etr_config rotating before 2) (part_at (database rotating before 2) 0) nonce) three_keys (etr_config rotating before 2).secret refl (ap (secret_of three_keys) is ∙ known) (item_authentic (register_item rotating before 2 0 0 nonce)) refl refl allowed };
       who = refl;
       under = sym is;
       number = refl;
-      fresh = subst (λ (k : ℕ). IsFresh (context_of rotating T (takes_under T k key nonce datagram)) (map_register_of (etr_config_under rotating.config (router_at rotating.config 2) k) (part_at (database rotating before 2) 0) nonce)) (sym is) (record { base = base; counts = counted; above = below; near = tt; loads = λ none obeys clash. absurd cc });
-      space = record { routers = tt; rows = tt };
+      fresh = subst (λ (k : ℕ). IsFresh (context_of rotating T (takes_under T k key nonce datagram)) (map_register_of (etr_config_under rotating.config (router_at rotating.config 2) k) (part_at (database rotating before 2) 0) nonce)) (sym is) (record { base = base; counts = counted; above = below; near = subst (λ (sites : List SiteValue). IsNear (most_jump_at sites 1) base nonce) (sym has) tt; loads = λ none obeys clash. absurd cc });
+      space = fits_under rotating T 0 rotating.config.sites _ _ has (record { routers = tt; rows = tt });
       may = λ obeys clash. absurd cc;
       kept = subst (λ (k : ℕ). kept_at (keeps (shows T 0) (under key (got_from one)) nonce).kept (under k (got_from one)) ≡ Some nonce ∷ []) (sym is) (set_here (shows T 0).kept (under key (got_from one)) (Some nonce ∷ []));
       others = subst (λ (k : ℕ). SameElsewhere (shows T 0).kept (keeps (shows T 0) (under key (got_from one)) nonce).kept (under k (got_from one))) (sym is) (set_others (shows T 0).kept (under key (got_from one)) (Some nonce ∷ []));
@@ -222,8 +222,8 @@ sent_anew_legal = (sends_under_legal renewed 2 1 1 None refl refl (fresh_under 2
 pub taken_late_legal : LegalTrace rotating taken_late
 unfolding cut cut_from written
 taken_late_legal = (
-  takes_under_legal taken_anew [] 0 1 1 3 None refl refl refl refl (other_value empty (under 2 (got_from one)) (got_from one) (Some 1 ∷ []) None (keys_differ (got_from one) 1 2 (other_number 1 2 refl)) (fresh_value (got_from one))) tt refl,
-  (takes_under_legal sent_anew renewed 1 2 1 2 None refl refl refl refl (fresh_value (under 2 (got_from one))) tt refl, sent_anew_legal),
+  takes_under_legal taken_anew [] 0 1 1 3 None refl refl refl refl refl (other_value empty (under 2 (got_from one)) (got_from one) (Some 1 ∷ []) None (keys_differ (got_from one) 1 2 (other_number 1 2 refl)) (fresh_value (got_from one))) tt refl,
+  (takes_under_legal sent_anew renewed 1 2 1 2 None refl refl refl refl refl (fresh_value (under 2 (got_from one))) tt refl, sent_anew_legal),
 )
 
 -- the reply under the first key doesn't count; that under the second does

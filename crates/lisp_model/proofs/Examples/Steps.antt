@@ -18,8 +18,10 @@ use Rattle.lisp_messages.specs.Message.{IsMapRegister, Registers, MessageValue}
 use Rattle.lisp_etr.specs.Hearing.{first_notice}
 use Rattle.lisp_etr.specs.Rounds.{part_with}
 use Rattle.lisp_etr.specs.Sending.{block_end, last_nonce, map_register_of}
-use Rattle.lisp_admission.specs.Checks.{first_not_allowed}
-use Rattle.lisp_admission.specs.Nonces.{IsBelow, nonce_after}
+use Rattle.lisp_policy.specs.Site.{SiteValue}
+use Rattle.lisp_lookup.specs.Growth.{Fits, LiveRows}
+use Rattle.lisp_admission.specs.Checks.{first_not_allowed, most_jump_at, most_routers_at, most_rows_at, secret_under}
+use Rattle.lisp_admission.specs.Nonces.{IsBelow, IsNear, nonce_after}
 use Rattle.lisp_admission.specs.Pairs.{notice_pair}
 use Rattle.lisp_admission.specs.declared.refused.Refused.TheVariants as refuseds
 use Rattle.lisp_model.specs.Bag.{Item, arrival_of, bag, bytes_of, since_start}
@@ -29,7 +31,7 @@ use Rattle.lisp_model.specs.Legal.{Legal, context_of}
 use Rattle.lisp_model.specs.Receiving.{FailsCheck, awaiting}
 use Rattle.lisp_model.specs.Sending.{CountsFrom}
 use Rattle.lisp_model.specs.Timers.{Notice, due, is_due, last_notice, notice_to}
-use Rattle.lisp_model.specs.Trace.{Step, clock, database, etr_config_under, key as key_of, router_at, is_listed, is_router, is_server, is_up, node_at}
+use Rattle.lisp_model.specs.Trace.{Opening, Step, clock, database, sites, etr_config_under, key as key_of, router_at, is_listed, is_router, is_server, is_up, node_at}
 use Rattle.lisp_model.specs.Context.{IsBase, SaveFails, Saves}
 use Rattle.lisp_model.specs.declared.event.Event.TheVariants as events
 use Rattle.lisp_model.specs.declared.line.Line.TheVariants as lines
@@ -73,10 +75,15 @@ sends_legal T server nonce datagram base key up kind listed counted next low who
   );
 }
 
-pub takes_legal : (T : List Step) (k server nonce datagram : ℕ) (i : Item) (db : List MapRecordValue) (base : Option ℕ) → slice_get (bag opening T) k ≡ Some i → node_at network i.to ≡ Some server → is_server network server ≡ true
+-- what fits under the sites that a server has
+pub fits_under : (o : Opening) (T : List Step) (server : ℕ) (known : List SiteValue) (before after : LiveRows) → sites o T server ≡ known → Fits (most_routers_at known 1) (most_rows_at known 1) 1 before after
+    → Fits (most_routers_at (sites o T server) 1) (most_rows_at (sites o T server) 1) 1 before after
+fits_under o T server known before after has fits = subst (λ (its : List SiteValue). Fits (most_routers_at its 1) (most_rows_at its 1) 1 before after) (sym has) fits
+
+pub takes_legal : (T : List Step) (k server nonce datagram : ℕ) (i : Item) (db : List MapRecordValue) (base : Option ℕ) → slice_get (bag opening T) k ≡ Some i → node_at network i.to ≡ Some server → is_server network server ≡ true → sites opening T server ≡ network.sites
     → i.message ≡ Registers (registers db nonce) → i.secret ≡ secret → first_not_allowed site db ≡ None
     → IsBase (last_of (got_from one) (since_start opening T server)) (kept_at (at T server).kept (got_from one)) base → IsBelow base nonce → datagram ≡ length (bag opening T) → Legal opening T (takes T k server nonce datagram)
-takes_legal T k server nonce datagram i db base sent there kind says key allowed counts below place = record {
+takes_legal T k server nonce datagram i db base sent there kind has says key allowed counts below place = record {
   faults = λ other. omega arith;
   obedient = refl;
   row = record {
@@ -86,12 +93,12 @@ takes_legal T k server nonce datagram i db base sent there kind says key allowed
     arrives = record {
       acts = record { kind = kind; acts = refl };
       message = registers db nonce;
-      admits = record { read = ap Ok says; secret = secret; checks = admitted i db nonce key allowed };
+      admits = record { read = ap Ok says; secret = secret; checks = ap (λ (sites : List SiteValue). secret_under sites i.from (bytes_of i) (registers db nonce)) has ∙ admitted i db nonce key allowed };
       who = refl;
       under = refl;
       number = refl;
-      fresh = record { base = base; counts = counts; above = below; near = tt; loads = λ none obeys clash. absurd cc };
-      space = record { routers = tt; rows = tt };
+      fresh = record { base = base; counts = counts; above = below; near = subst (λ (sites : List SiteValue). IsNear (most_jump_at sites 1) base nonce) (sym has) tt; loads = λ none obeys clash. absurd cc };
+      space = fits_under opening T server network.sites _ _ has (record { routers = tt; rows = tt });
       may = λ obeys clash. absurd cc;
       kept = set_here (at T server).kept (got_from one) (Some nonce ∷ []);
       others = set_others (at T server).kept (got_from one) (Some nonce ∷ []);
@@ -100,10 +107,10 @@ takes_legal T k server nonce datagram i db base sent there kind says key allowed
   };
 }
 
-pub replays_legal : (T : List Step) (k server nonce saved : ℕ) (i : Item) (db : List MapRecordValue) → slice_get (bag opening T) k ≡ Some i → node_at network i.to ≡ Some server → is_server network server ≡ true
+pub replays_legal : (T : List Step) (k server nonce saved : ℕ) (i : Item) (db : List MapRecordValue) → slice_get (bag opening T) k ≡ Some i → node_at network i.to ≡ Some server → is_server network server ≡ true → sites opening T server ≡ network.sites
     → i.message ≡ Registers (registers db nonce) → i.secret ≡ secret → first_not_allowed site db ≡ None
     → IsBase (last_of (got_from one) (since_start opening T server)) (kept_at (at T server).kept (got_from one)) (Some saved) → nonce ≤ saved → Legal opening T (replays T k server saved)
-replays_legal T k server nonce saved i db sent there kind says key allowed counts stale = record {
+replays_legal T k server nonce saved i db sent there kind has says key allowed counts stale = record {
   faults = λ other. omega arith;
   obedient = refl;
   row = record {
@@ -114,7 +121,7 @@ replays_legal T k server nonce saved i db sent there kind says key allowed count
       record { kind = kind; acts = refl },
       record {
         message = registers db nonce;
-        admits = record { read = ap Ok says; secret = secret; checks = admitted i db nonce key allowed };
+        admits = record { read = ap Ok says; secret = secret; checks = ap (λ (sites : List SiteValue). secret_under sites i.from (bytes_of i) (registers db nonce)) has ∙ admitted i db nonce key allowed };
         counts = counts;
         loads = λ none obeys clash. absurd cc;
         stale = stale;
@@ -163,10 +170,10 @@ doubts_send_legal T server base key up kind listed there counted left unbound = 
   row = (refl, kind, record { kind = refl; acts = refl; state = up }, ((listed, there), record { base = base; counts = counted; left = left; fails = subst (λ (k : ℕ). SaveFails (context_of opening T (doubts_send T server (number base + 1))) (record (sent_by one) { key = k }) (block_end (number base + 1) 1) stores.Device) (sym key) (subst (λ (n : ℕ). SaveFails (context_of opening T (doubts_send T server (number base + 1))) (sent_by one) n stores.Device) (sym (block_of_one (number base + 1) (omega (arith, left)))) (in_doubt (context_of opening T (doubts_send T server (number base + 1))) (sent_by one) (number base + 1) unbound refl (omega arith))) }));
 }
 
-pub doubts_take_legal : (T : List Step) (k server nonce : ℕ) (i : Item) (db : List MapRecordValue) (base : Option ℕ) → slice_get (bag opening T) k ≡ Some i → node_at network i.to ≡ Some server → is_server network server ≡ true
+pub doubts_take_legal : (T : List Step) (k server nonce : ℕ) (i : Item) (db : List MapRecordValue) (base : Option ℕ) → slice_get (bag opening T) k ≡ Some i → node_at network i.to ≡ Some server → is_server network server ≡ true → sites opening T server ≡ network.sites
     → i.message ≡ Registers (registers db nonce) → i.secret ≡ secret → first_not_allowed site db ≡ None
     → IsBase (last_of (got_from one) (since_start opening T server)) (kept_at (at T server).kept (got_from one)) base → IsBelow base nonce → (at T server).is_obedient ≡ false → Legal opening T (doubts_take T k server nonce)
-doubts_take_legal T k server nonce i db base sent there kind says key allowed counts below unbound = record {
+doubts_take_legal T k server nonce i db base sent there kind has says key allowed counts below unbound = record {
   faults = λ other. omega arith;
   obedient = refl;
   row = record {
@@ -177,18 +184,18 @@ doubts_take_legal T k server nonce i db base sent there kind says key allowed co
       record { kind = kind; acts = refl },
       record {
         message = registers db nonce;
-        admits = record { read = ap Ok says; secret = secret; checks = admitted i db nonce key allowed };
-        fresh = record { base = base; counts = counts; above = below; near = tt; loads = λ none obeys clash. absurd cc };
-        space = record { routers = tt; rows = tt };
+        admits = record { read = ap Ok says; secret = secret; checks = ap (λ (sites : List SiteValue). secret_under sites i.from (bytes_of i) (registers db nonce)) has ∙ admitted i db nonce key allowed };
+        fresh = record { base = base; counts = counts; above = below; near = subst (λ (sites : List SiteValue). IsNear (most_jump_at sites 1) base nonce) (sym has) tt; loads = λ none obeys clash. absurd cc };
+        space = fits_under opening T server network.sites _ _ has (record { routers = tt; rows = tt });
         fails = in_doubt _ (got_from one) nonce unbound refl (omega arith);
       },
     );
   };
 }
 
-pub fails_load_legal : (T : List Step) (k server nonce : ℕ) (i : Item) (db : List MapRecordValue) → slice_get (bag opening T) k ≡ Some i → node_at network i.to ≡ Some server → is_server network server ≡ true
+pub fails_load_legal : (T : List Step) (k server nonce : ℕ) (i : Item) (db : List MapRecordValue) → slice_get (bag opening T) k ≡ Some i → node_at network i.to ≡ Some server → is_server network server ≡ true → sites opening T server ≡ network.sites
     → i.message ≡ Registers (registers db nonce) → i.secret ≡ secret → first_not_allowed site db ≡ None → last_of (got_from one) (since_start opening T server) ≡ None → Legal opening T (fails_load T k server)
-fails_load_legal T k server nonce i db sent there kind says key allowed unknown = record {
+fails_load_legal T k server nonce i db sent there kind has says key allowed unknown = record {
   faults = λ other. omega arith;
   obedient = refl;
   row = record {
@@ -199,7 +206,7 @@ fails_load_legal T k server nonce i db sent there kind says key allowed unknown 
       record { kind = kind; acts = refl },
       record {
         message = registers db nonce;
-        admits = record { read = ap Ok says; secret = secret; checks = admitted i db nonce key allowed };
+        admits = record { read = ap Ok says; secret = secret; checks = ap (λ (sites : List SiteValue). secret_under sites i.from (bytes_of i) (registers db nonce)) has ∙ admitted i db nonce key allowed };
         unknown = unknown;
         fails = record { same = refl; cause = λ other. inl (omega arith); may = λ other obeys. refl };
       },
@@ -208,9 +215,9 @@ fails_load_legal T k server nonce i db sent there kind says key allowed unknown 
 }
 
 -- a record that the site doesn't have is refused
-pub refuses_record : (T : List Step) (k server nonce place : ℕ) (i : Item) (db : List MapRecordValue) → slice_get (bag opening T) k ≡ Some i → node_at network i.to ≡ Some server → is_server network server ≡ true
+pub refuses_record : (T : List Step) (k server nonce place : ℕ) (i : Item) (db : List MapRecordValue) → slice_get (bag opening T) k ≡ Some i → node_at network i.to ≡ Some server → is_server network server ≡ true → sites opening T server ≡ network.sites
     → i.message ≡ Registers (registers db nonce) → i.secret ≡ secret → first_not_allowed site db ≡ Some place → Legal opening T (refuses T (events.Deliver k fates.Done) server (refusals.Receive (refuseds.NotAllowed place)))
-refuses_record T k server nonce place i db sent there kind says key bad = record {
+refuses_record T k server nonce place i db sent there kind has says key bad = record {
   faults = λ other. omega arith;
   obedient = refl;
   row = record {
@@ -221,7 +228,7 @@ refuses_record T k server nonce place i db sent there kind says key bad = record
       record { kind = kind; acts = refl },
       (
         subst (λ (x : MessageValue). FailsCheck (context_of opening T (refuses T (events.Deliver k fates.Done) server (refusals.Receive (refuseds.NotAllowed place)))) (arrival_of i) (Ok x) (refuseds.NotAllowed place)) (sym says)
-            (is_not_allowed network.sites i.from (bytes_of i) (registers db nonce) site secret place refl refl (subst (λ (s : List ℕ). is_authentic (bytes_of i) s ≡ true) key (item_authentic i)) refl refl bad),
+            (ap (λ (sites : List SiteValue). secret_under sites i.from (bytes_of i) (registers db nonce)) has ∙ is_not_allowed network.sites i.from (bytes_of i) (registers db nonce) site secret place refl refl (subst (λ (s : List ℕ). is_authentic (bytes_of i) s ≡ true) key (item_authentic i)) refl refl bad),
         refl,
       ),
     );
@@ -285,9 +292,9 @@ notices_legal T k nonce datagram records key up sent high place = record {
   };
 }
 
-pub ends_legal : (T : List Step) (k nonce : ℕ) (records : List MapRecordValue) (n : Notice) → slice_get (bag opening T) k ≡ Some (answered nonce records)
+pub ends_legal : (T : List Step) (k nonce : ℕ) (records : List MapRecordValue) (n : Notice) → sites opening T 0 ≡ network.sites → slice_get (bag opening T) k ≡ Some (answered nonce records)
     → awaiting (context_of opening T (ends T k nonce)) (local_at 21) (record { ack = true; nonce = nonce; key_id = 1; records = records }) ≡ Some n → n.router ≡ one → n.key ≡ 1 → nonce ≡ n.nonce → Legal opening T (ends T k nonce)
-ends_legal T k nonce records n sent stands router key number = record {
+ends_legal T k nonce records n has sent stands router key number = record {
   faults = λ other. omega arith;
   obedient = refl;
   row = record {
@@ -301,7 +308,7 @@ ends_legal T k nonce records n sent stands router key number = record {
       ack = refl;
       notice = n;
       stands = stands;
-      authentic = rw (router, key) (item_authentic (answered nonce records));
+      authentic = rw (router, key, has) (item_authentic (answered nonce records));
       who = sym router;
       number = number;
       same = refl;

@@ -15,7 +15,7 @@ restarted_legal = (restarts_legal one_counted 0 (inl refl) (set_full _ _ _ empty
 
 replay_legal : LegalTrace opening replay_refused
 unfolding cut cut_from written
-replay_legal = (replays_legal server_restarted 0 0 1 1 _ _ refl refl refl refl refl refl (set_value _ _ _) (omega arith), restarted_legal)
+replay_legal = (replays_legal server_restarted 0 0 1 1 _ _ refl refl refl refl refl refl refl (set_value _ _ _) (omega arith), restarted_legal)
 
 pub six_steps_legal : LegalTrace opening six_steps
 six_steps_legal = (sends_legal replay_refused 0 2 2 (Some 1) refl refl refl refl refl refl (omega arith) wide_whole refl, replay_legal)

@@ -697,6 +697,15 @@ extern "C" {
     /// Starts the Map-Server of a handle again, as after a crash.
     pub fn lisp_registration_server_restart(server: *mut lisp_server) -> u16;
 
+    /// Has the Map-Server of a handle take the sites of a configuration in place of its own: 1 where it goes on with what it held,
+    /// since they have all that its own have, 0 where it starts anew.
+    pub fn lisp_registration_server_reload(
+        configuration: *const u8,
+        length: usize,
+        server: *mut lisp_server,
+        goes_on: *mut u8,
+    ) -> u16;
+
     /// Names the pair whose last nonce a datagram needs, or none.
     pub fn lisp_registration_server_pair(bytes: *const u8, length: usize, pair: *mut lisp_pair);
 

@@ -94,6 +94,7 @@ fn the_header_agrees() {
         lisp_registration_server_start(_, _, _)
         lisp_registration_server_stop(_)
         lisp_registration_server_restart(_)
+        lisp_registration_server_reload(_, _, _, _)
         lisp_registration_server_pair(_, _, _)
         lisp_registration_server_receive(_, _, _, _, _, _, _, _, _)
         lisp_registration_server_expire(_, _)

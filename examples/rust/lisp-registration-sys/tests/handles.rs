@@ -16,10 +16,12 @@ fn a_server_that_is_not_there() {
     let (eid, mut replied) = (lisp_prefix { mask_len: 0, address: from }, replied_before);
     let (handle, room) = (&mut server as *mut lisp_server, buffer.len());
     let bytes = buffer.as_mut_ptr();
+    let (text, mut goes_on) = (include_bytes!("../../../worked.toml"), 7);
     // SAFETY: the pointers are of locals and of their first items, of which there are so many as is said; `handle` holds none.
     let numbers = unsafe {
         [
             lisp_registration_server_restart(handle),
+            lisp_registration_server_reload(text.as_ptr(), text.len(), handle, &mut goes_on),
             lisp_registration_server_expire(handle, 0),
             lisp_registration_server_row(handle, 0, &mut place, &mut row, locators.as_mut_ptr(), 1),
             lisp_registration_server_answer(
@@ -47,8 +49,8 @@ fn a_server_that_is_not_there() {
             ),
         ]
     };
-    assert_eq!(numbers, [LISP_NULL; 9]);
-    assert_eq!((row, place, replied), (row_before, 9, replied_before));
+    assert_eq!(numbers, [LISP_NULL; 10]);
+    assert_eq!((row, place, replied, goes_on), (row_before, 9, replied_before, 7));
     assert!(buffer.iter().all(|&byte| byte == 0xee));
     // SAFETY: the handle holds none.
     unsafe { lisp_registration_server_stop(&mut server) };

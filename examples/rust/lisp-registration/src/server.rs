@@ -137,6 +137,19 @@ impl MapServer {
         self.handle.restart().expect(HOLDS);
     }
 
+    /// Takes the sites of a configuration in place of its own; of the configuration only the sites are taken. Where these have all
+    /// that its own have (each site with its keys, their secrets and its prefixes, under limits that are as wide), the Map-Server
+    /// goes on with its rows, its last nonces and its notices, and the answer is true. Else it starts anew, as by
+    /// [`MapServer::restart`], and the answer is false: it is `starting` then for another minute ([`MapServer::reply`]). Nothing is
+    /// to be saved.
+    ///
+    /// # Errors
+    ///
+    /// Each [`StartError`] but [`StartError::NoRouter`]; all is then as it was.
+    pub fn reload(&mut self, configuration: &str) -> Result<bool, StartError> {
+        self.handle.reload(configuration.as_bytes()).map_err(StartError::of)
+    }
+
     /// Receives a datagram that came from an address at a time, in ms, which must not go back (RFC 9301 section 8.2). `kept` is
     /// the nonce that the program saved last for the [`pair`] of the datagram, or `None` if it never saved one. The buffer needs
     /// as much room as the datagram has bytes.

@@ -229,6 +229,20 @@ fn notified() -> MapServer {
 }
 
 #[test]
+fn a_reload_that_gets_no_memory_changes_nothing() {
+    let another_secret = CONFIGURATION.replace("secret = \"73", "secret = \"74");
+    for (configuration, goes_on) in [(CONFIGURATION, true), (&another_secret, false)] {
+        let numbers = faults(registered, |server| {
+            let result = server.reload(configuration).map_err(StartError::number);
+            assert!(result.is_err() || result == Ok(goes_on));
+            assert_eq!(server.rows(0).count(), usize::from(result != Ok(false)));
+            result
+        });
+        assert_eq!(numbers, [24, 105]);
+    }
+}
+
+#[test]
 fn a_notice_that_gets_no_memory_is_none() {
     for kept in [None, Some(0)] {
         let numbers = faults(registered, |server| {

@@ -1,4 +1,4 @@
-//! A Map-Server over `examples/worked.toml`: the worked exchange, replays, starting again, and each error once, but those
+//! A Map-Server over `examples/worked.toml`: the worked exchange, replays, starting again, other sites, and each error once, but those
 //! of no memory, which `out_of_memory` has.
 #![allow(missing_docs)]
 
@@ -107,6 +107,48 @@ fn after_a_restart_the_kept_nonce_alone_refuses_a_replay() {
     assert!(answer(&mut server, Some(nonce), &with_nonce(nonce + 1)).is_ok());
     server.restart();
     assert_eq!(answer(&mut server, None, &bytes), Ok((1, Some(map_notify()))));
+}
+
+/// The worked configuration with one more site.
+fn another_site() -> String {
+    let site = CONFIGURATION.split("[[server]]").next().unwrap();
+    let other = site.replace("id = \"0000000000000001\"", "id = \"0000000000000002\"");
+    format!("{other}{CONFIGURATION}")
+}
+
+#[test]
+fn sites_that_have_all_that_the_old_ones_have_keep_what_is_held() {
+    let (mut server, bytes) = (started(), map_register());
+    assert!(answer(&mut server, None, &bytes).is_ok());
+    for configuration in [CONFIGURATION, &another_site()] {
+        assert_eq!(server.reload(configuration), Ok(true));
+        assert_eq!(server.rows(1000).count(), 1);
+        assert_eq!(answer(&mut server, None, &bytes), Err(Refusal::Replay));
+    }
+    let (other, mut buffer) = (changed(|registration| registration.site = 2), [0; 200]);
+    let answer = server.receive(None, address(ROUTER_ADDRESS), &other, 1000, &mut buffer);
+    assert!(matches!(answer, Ok(Received::Accepted { pair: Pair { site: 2, .. }, .. })));
+}
+
+#[test]
+fn sites_that_lack_something_start_a_map_server_anew() {
+    let (mut server, bytes) = (MapServer::start(&another_site()).unwrap(), map_register());
+    assert!(answer(&mut server, None, &bytes).is_ok());
+    assert_eq!(server.reload(CONFIGURATION), Ok(false));
+    assert_eq!(server.rows(1000).count(), 0);
+    assert_eq!(answer(&mut server, Some(1), &bytes), Err(Refusal::Replay));
+    assert!(answer(&mut server, None, &bytes).is_ok());
+    assert_eq!(server.reload(""), Ok(false));
+    assert_eq!(answer(&mut server, None, &bytes), Err(Refusal::UnknownSite));
+}
+
+#[test]
+fn a_configuration_with_a_fault_changes_nothing() {
+    let mut server = started();
+    assert!(answer(&mut server, None, &map_register()).is_ok());
+    assert_eq!(server.reload("[[site"), Err(StartError::Toml));
+    assert_eq!(server.rows(1000).count(), 1);
+    assert_eq!(answer(&mut server, None, &map_register()), Err(Refusal::Replay));
 }
 
 #[test]

@@ -18,4 +18,4 @@ returns-in_err-command-clause-gives g c =
 pub returns-in_err-try_push-clause-gives : goal.returns-in_err-try_push-clause-gives
 returns-in_err-try_push-clause-gives g c =
     let p = err_from_is_err_and c.from_residual-in_err-try_push.result c.from_residual-in_err-try_push.ensures.1 in
-    rw (p.1, p.2) (inl (c.in_err-try_push.ensures.refused, refl))
+    rw (p.1, p.2) (inl (inl c.in_err-try_push.ensures.refused, refl))

@@ -1,5 +1,4 @@
 use Rattle.std.proofs.Common.{◌≡◌, List, Some, get_or, sym, ap, subst, ◌∙◌, length, arith}
-use Rattle.std.specs.Prelude.{slice_get}
 use Rattle.std.proofs.lemmas.Option.{slice_get-get_or}
 use Rattle.lisp_policy.specs.Configuration.{RouterEntryValue, IsRouterEntry, HasServers}
 use Rattle.lisp_refinement.proofs.Places.{all_at}

@@ -26,6 +26,21 @@ impl ServerHandle {
         done(number, ())
     }
 
+    /// Takes the sites of a configuration; whether the Map-Server goes on with what it held.
+    pub(crate) fn reload(&mut self, configuration: &[u8]) -> Result<bool, u16> {
+        let mut goes_on = 0;
+        // SAFETY: the pointers are of a slice that lives for the call, of a handle that is borrowed mutably, and of a local.
+        let number = unsafe {
+            lisp_registration_server_reload(
+                configuration.as_ptr(),
+                configuration.len(),
+                &mut self.0,
+                &mut goes_on,
+            )
+        };
+        done(number, goes_on != 0)
+    }
+
     /// Receives a datagram (RFC 9301 section 8.2).
     pub(crate) fn receive(
         &mut self,

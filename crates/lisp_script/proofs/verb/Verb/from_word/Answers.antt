@@ -5,7 +5,7 @@ use Rattle.lisp_script.proofs.verb.Verb.from_word.Goals as goal
 pub returns-in_default : goal.returns-in_default
 returns-in_default c =
     let other = c.in_default in
-    sym (unknown c.args.word.now other.not-change other.not-send other.not-deliver other.not-junk other.not-tick other.not-restart other.not-rotate other.not-lose other.not-notice other.not-resend other.not-hold other.not-acks other.not-ask other.not-request other.not-due)
+    sym (unknown c.args.word.now other.not-change other.not-send other.not-deliver other.not-junk other.not-tick other.not-restart other.not-rotate other.not-lose other.not-notice other.not-resend other.not-reload other.not-hold other.not-acks other.not-ask other.not-request other.not-due)
 
 pub returns-in-change : goal.returns-in-change
 returns-in-change c = rw c.in-change.is refl
@@ -36,6 +36,9 @@ returns-in-notice c = rw c.in-notice.is refl
 
 pub returns-in-resend : goal.returns-in-resend
 returns-in-resend c = rw c.in-resend.is refl
+
+pub returns-in-reload : goal.returns-in-reload
+returns-in-reload c = rw c.in-reload.is refl
 
 pub returns-in-hold : goal.returns-in-hold
 returns-in-hold c = rw c.in-hold.is refl

@@ -26,3 +26,6 @@ returns-in-Notice g c = rw c.in-Notice.is c.notice.ensures
 
 pub returns-in-Resend : goal.returns-in-Resend
 returns-in-Resend g c = rw c.in-Resend.is c.resend.ensures
+
+pub returns-in-Reload : goal.returns-in-Reload
+returns-in-Reload g c = rw c.in-Reload.is c.reload.ensures
