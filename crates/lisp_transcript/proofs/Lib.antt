@@ -1,0 +1,4 @@
+pub mod Appends
+pub mod Lines
+pub mod RecordsEnd
+pub mod Written
