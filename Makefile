@@ -11,7 +11,7 @@
 #               replies an ITR keeps; reads as many drawn Map-Requests, Map-Replies and encapsulated messages; and sends
 #               DATAGRAMS that are drawn to nodes that answer Map-Requests
 # make bench    measures the codec, the tag and registrations, also through the library for C programs; and of out/lispd saves on a disk, the
-#               reading of configurations, plays, a server, and one that answers Map-Requests
+#               reading of configurations, plays, a server, one that takes other sites, and one that answers Map-Requests
 # make install  installs the program (out/lispd), its manual pages, completions, units and samples: PREFIX=/usr/local, DESTDIR=
 # make install-library installs the library for C programs, with its header and its pkg-config file
 # make uninstall removes what both installed
@@ -75,6 +75,7 @@ bench: lispd library
 	@tools/bench_saves
 	@tools/bench_play
 	@tools/bench_server
+	@tools/bench_reload
 	@tools/bench_asked
 	@tools/bench_resolve
 
@@ -108,6 +109,7 @@ install: $(PROGRAM)
 	@$(call put,docs/lispd.toml.5,share/man/man5/lispd.toml.5)
 	@$(call put,packaging/lispd@.service.in,lib/systemd/system/lispd-server@.service,server)
 	@$(call put,packaging/lispd@.service.in,lib/systemd/system/lispd-router@.service,router)
+	@sed -i '/^# A Map-Server is told/,/^ExecReload=/d' $(ROOT)/lib/systemd/system/lispd-router@.service
 	@$(call put,examples/configuration.toml,share/doc/lispd/examples/configuration.toml)
 	@$(call put,packaging/ask-group.conf,share/doc/lispd/examples/ask-group.conf)
 	@$(call put,packaging/alerts.yml,share/doc/lispd/examples/alerts.yml)

@@ -347,9 +347,10 @@ def wrong_words(here):
     """What is no question, and no order, for a node is a fault of the words, and changes nothing."""
     process = up(here, "server", "s1", here.s1)
     for words, number in ((["disallowed", RECORD], 82), (["hold", "s1"], 81), (["acks"], 82), (["ask", "10.1"], 84), (["tick", "5"], 81), (["resend", "r1"], 80),
-                          ([], 80), (["notice", "r1"], 80), (["records"], 80), (["counts", "s1"], 80), (["hold", "--prometheus"], 81)):
+                          ([], 80), (["notice", "r1"], 80), (["records"], 80), (["counts", "s1"], 80), (["hold", "--prometheus"], 81), (["reload", here.config], 80), (["compare"], 80)):
         check(f"ask {words}", ask(here, "s1", *words), wrong(number))
-    for words, number in ((["hold"], 80), (["notice", "r9"], 82), (["notice", "r1", "doubt"], 80), (["change", RECORD], 82), ([], 80)):
+    for words, number in ((["hold"], 80), (["notice", "r9"], 82), (["notice", "r1", "doubt"], 80), (["change", RECORD], 82), ([], 80),
+                          (["reload"], 81), (["reload", here.config, "s1"], 81)):
         check(f"tell {words}", tell(here, "s1", *words), wrong(number))
     check("no folder", ran("ask", f"{here.folder}/none", "hold"), UNANSWERED)
     check("it goes on", ask(here, "s1", "hold"), NOTHING_HELD)
@@ -389,6 +390,7 @@ def answers_on_the_socket(here):
     for name, said, front in (
             ("s1", "hold", "hold s1 by parts\nrow "), ("s1", "due", "due s1 none\n"), ("s1", "ask 10.1.0.1", "ask s1 10.1.0.1 "), ("s1", "routers", "routers s1 "),
             ("s1", "counts", "counts s1 "), ("s1", "counts --prometheus", "# HELP "), ("s1", "nonsense", "fault 80\n"),
+            ("s1", "nodes", "server s1 "), ("r1", "nodes", "server s1 "), ("s1", "compare", "fault 80\n"), ("s1", "reload", "fault 80\n"),
             ("s1", "notice r2", "refused s1 62\n"), ("r1", "records", "records r1 1\n"), ("r1", "acks", "acks r1 "), ("r1", "due", "due r1 "),
             ("r1", "disallowed 10.9.0.0/16=5", "disallowed r1 1\n"), ("r1", "counts", "counts r1 "), ("r1", f"change {OTHER}", "change r1 records 1\n"),
             ("r1", "rotate 200", "fault 78\n")):
@@ -634,8 +636,9 @@ def a_group_asks_under_the_drop_in(here):
     for folder in (here.folder, os.path.dirname(here.folder)):
         os.chmod(folder, 0o755)
     os.chmod(here.config, 0o644)
-    (options,) = shlex.split(found["Environment"])
-    words = options.removeprefix("OPTIONS=").replace("%t/" + found["RuntimeDirectory"], asked).split()
+    options, told = (it.replace("%t/" + found["RuntimeDirectory"], asked) for it in shlex.split(found["Environment"]))
+    check("where it is told", told, f"CONTROL={asked}")
+    words = options.removeprefix("OPTIONS=").split()
     process = here.start(*here.words("server", "s1"), *words, user=NODE, group=ASKERS, extra_groups=[], umask=int(found["UMask"], 8))
     is_up(here.s1)
     with peer(here.r1) as it:

@@ -146,8 +146,19 @@ def the_drop_in_lets_a_group_ask(root):
     found = settings((root / DROP_IN).read_text())
     check("its group", found.pop("Group"), GROUP)
     check("its folder", (found["RuntimeDirectory"], found.pop("RuntimeDirectoryMode")), ("lispd/%i", "0770"))
-    check("its options", found.pop("Environment"), f'"OPTIONS=--control %t/{found.pop("RuntimeDirectory")}"')
+    asked = f"%t/{found.pop('RuntimeDirectory')}"
+    check("its options, and where it is told", found.pop("Environment"), f'"OPTIONS=--control {asked}" CONTROL={asked}')
     check("nothing else", found, {})
+
+
+def a_map_server_is_reloaded(root):
+    """Its unit tells it the file that it was started with, at its socket; a router's has nothing to reload."""
+    for path in UNITS:
+        text = (root / path).read_text()
+        check(f"what {path} reads", settings(text)["LoadCredential"], "lispd.toml:/etc/lispd/lispd.toml")
+        wanted = f"+{root}/bin/lispd tell ${{CONTROL}} reload /etc/lispd/lispd.toml --words" if "server" in path else None
+        check(f"what {path} reloads", settings(text).get("ExecReload"), wanted)
+        check(f"where {path} is asked", "Environment=CONTROL=%S/lispd/%i" in text.splitlines(), wanted is not None)
 
 
 def alerts_are_raised(root):
@@ -312,6 +323,7 @@ with tempfile.TemporaryDirectory() as name:
     check("make install PREFIX", make("install", "install-library", f"PREFIX={root}"), (0, ""))
     units_are_well(root)
     the_drop_in_lets_a_group_ask(root)
+    a_map_server_is_reloaded(root)
     alerts_are_raised(root)
     bash_completes(root)
     zsh_has_the_options(root)

@@ -13,9 +13,9 @@ gives_same may (Ok x) read is = sym is
 gives_same may (Err what) read is = inr (sym is)
 
 -- texts that differ are not alike
-differs : (name word : List ℕ) → word ≢ name → is_word name word ≡ false
+pub differs : (name word : List ℕ) → word ≢ name → is_word name word ≡ false
 differs name word other = not_true (is_word name word) (λ alike. other (sym ((bytes_eq-Decides name word).0 alike)))
 
 -- no question is another line
-pub no_own_word : (line : List ℕ) → line ≢ codes "records" → line ≢ codes "routers" → line ≢ codes "counts" → line ≢ codes "counts --prometheus" → None ≡ own_question line
-no_own_word line records routers counts metrics = rw (differs _ line records, differs _ line routers, differs _ line counts, differs _ line metrics) refl
+pub no_own_word : (line : List ℕ) → line ≢ codes "records" → line ≢ codes "routers" → line ≢ codes "counts" → line ≢ codes "counts --prometheus" → line ≢ codes "nodes" → None ≡ own_question line
+no_own_word line records routers counts metrics nodes = rw (differs _ line records, differs _ line routers, differs _ line counts, differs _ line metrics, differs _ line nodes) refl

@@ -1,3 +1,5 @@
 mod Asking
 mod Allowing
+mod Comparing
+mod Gathered
 pub mod Values

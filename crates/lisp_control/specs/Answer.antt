@@ -14,6 +14,7 @@ use Rattle.lisp_server.specs.Server.{ServerState}
 use Rattle.lisp_lines.specs.Line.{line_text}
 use Rattle.lisp_sites.specs.Numbers.{servers_of}
 use Rattle.lisp_lines.specs.Name.{node_name}
+use Rattle.lisp_lines.specs.Nodes.{nodes_text}
 use Rattle.lisp_statistics.specs.Counts.{counts_text}
 use Rattle.lisp_statistics.specs.declared.counts.Format.{Format}
 use Rattle.lisp_statistics.specs.declared.gathering.Gathering.{Gathering}
@@ -25,7 +26,7 @@ use Rattle.lisp_lines.specs.declared.datagram_place.DatagramPlace.TheVariants.{H
 use Rattle.lisp_lines.specs.Router.{TellsRouter}
 use Rattle.lisp_control.specs.Disallowed.{disallowed_text}
 use Rattle.lisp_control.specs.declared.question.Question.{Question}
-use Rattle.lisp_control.specs.declared.question.Question.TheVariants.{Router, Counts, Disallowed}
+use Rattle.lisp_control.specs.declared.question.Question.TheVariants.{Router, Counts, Disallowed, Nodes}
 
 -- a fault's line
 abbrev pub numbered : ℕ → List ℕ
@@ -68,5 +69,6 @@ abbrev pub AnswersRouter : {A : Type 0} → ConfigValue → ℕ → Option EtrSt
 AnswersRouter c number (Some core) s (Router question) now text = TellsRouter c number (servers_of c number) core question now text
 AnswersRouter c number None s (Router question) now text = text ≡ line_text c Hidden (Down number)
 AnswersRouter c number core s (Disallowed records) now text = text ≡ disallowed_text c number records
+AnswersRouter c number core s Nodes now text = text ≡ nodes_text c
 AnswersRouter c number core s (Counts format) now text = text ≡ router_counts c number core s format
 AnswersRouter c number core s _ now text = text ≡ fault_text Word

@@ -1,4 +1,5 @@
 pub mod Question
 pub mod Disallowed
+pub mod Gathering
 pub mod Answer
 pub mod Part

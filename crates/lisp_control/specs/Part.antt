@@ -8,6 +8,7 @@ use Rattle.lisp_lookup.specs.Table.{live_from}
 use Rattle.lisp_server.specs.Server.{ServerState}
 use Rattle.lisp_script.specs.declared.fault.ScriptWhat.TheVariants.{Word}
 use Rattle.lisp_lines.specs.Name.{node_name}
+use Rattle.lisp_lines.specs.Nodes.{nodes_text}
 use Rattle.lisp_lines.specs.Query.{hold_by_parts}
 use Rattle.lisp_log.specs.declared.replays.Replay.{Replay}
 use Rattle.lisp_lines.specs.Listing.{ListsRows, most_rows}
@@ -27,6 +28,7 @@ use Rattle.lisp_statistics.specs.declared.router_list.RouterList.{RouterList}
 use Rattle.lisp_statistics.specs.declared.statistics.Statistics.{Statistics}
 use Rattle.lisp_turns.specs.Node.{CoreState, ServerCore, RouterCore}
 use Rattle.lisp_control.specs.Answer.{AnswersRouter, fault_text, server_gauges, told_counts}
+use Rattle.lisp_control.specs.Gathering.{compared_text}
 use Rattle.lisp_control.specs.declared.part.Progress.{Progress}
 use Rattle.lisp_control.specs.declared.part.Progress.TheVariants as progresses
 use Rattle.lisp_control.specs.declared.question.Question.{Question}
@@ -102,6 +104,8 @@ ServerPart c number core s runs (questions.Server Hold) progress now text rest =
 ServerPart c number core s runs (questions.Server question) progress now text rest = TellsServer Global c number core question now text × (rest ≡ None)
 ServerPart c number core s runs questions.Routers progress now text rest = HeardPart c number core s runs progress now text rest
 ServerPart c number core s runs (questions.Counts format) progress now text rest = CountsPart core progress now (TellsCounts c number core s runs format now) text rest
+ServerPart c number core s runs questions.Nodes progress now text rest = (text ≡ nodes_text c) × (rest ≡ None)
+ServerPart c number core s runs (questions.Compare sites) progress now text rest = (text ≡ compared_text (node_name c number) core.sites sites) × (rest ≡ None)
 ServerPart c number core s runs _ progress now text rest = (text ≡ fault_text Word) × (rest ≡ None)
 
 -- by the core of the node with a number at a moment, by what is counted of it, and by its runs of replays

@@ -9,7 +9,7 @@ ghost use Rattle.lisp_control.specs.Part.{told_server};
 use crate::disallowed::disallowed_text;
 use crate::question::Question;
 use lisp_etr::Etr;
-use lisp_lines::{DatagramPlace, line_text, router_answer};
+use lisp_lines::{DatagramPlace, line_text, nodes_text, router_answer};
 use lisp_log::Replay;
 use lisp_memory::{FallibleString, Memory};
 use lisp_model::{Line, WorldFault};
@@ -49,6 +49,7 @@ pub(crate) fn router_text(
             line_text(alloc, config, &line, DatagramPlace::Hidden)
         }
         (Question::Disallowed(db), _) => disallowed_text(alloc, config, number, db.records()),
+        (Question::Nodes, _) => nodes_text(alloc, config),
         (Question::Counts(format), core) => {
             router_counts(alloc, config, number, core, statistics, *format)
         }

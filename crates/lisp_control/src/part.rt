@@ -8,9 +8,11 @@ ghost use Rattle.lisp_control.specs.Part.{AnswersPart, BeginsHold, BeginsRouters
 ghost use Rattle.lisp_control.specs.declared.part.Progress.TheVariants as progresses;
 
 use crate::answer::{fault_text, router_text, server_counts};
+use crate::compare::compared_text;
 use crate::question::Question;
 use lisp_lines::{
-    MOST_ROWS, ServerQuestion, Walk, hold_by_parts, holds_at_least, next_rows, server_answer,
+    MOST_ROWS, ServerQuestion, Walk, hold_by_parts, holds_at_least, next_rows, node_name,
+    nodes_text, server_answer,
 };
 use lisp_log::Replay;
 use lisp_memory::Memory;
@@ -109,6 +111,11 @@ fn server_part(
         Question::Counts(format) => counts_part(
             alloc, config, number, core, statistics, runs, *format, progress, now,
         ),
+        Question::Nodes => Ok(last(nodes_text(alloc, config)?)),
+        Question::Compare(sites) => {
+            let name = node_name(config, number);
+            Ok(last(compared_text(alloc, name, core.sites(), sites)?))
+        }
         _ => Ok(last(fault_text(alloc, ScriptWhat::Word)?)),
     }
 }

@@ -8,6 +8,7 @@ ghost use Rattle.lisp_control.specs.Question.{question_of, due_at, told, order_o
 use lisp_lines::{RouterQuestion, ServerQuestion};
 use lisp_model::Event;
 use lisp_nonces::Fate;
+use lisp_policy::Sites;
 use lisp_records::Database;
 use lisp_script::{Command, ScriptWhat};
 use lisp_sites::Config;
@@ -27,6 +28,12 @@ pub enum Question {
     Counts(Format),
     /// Which of these records the router's site doesn't allow, by the configuration.
     Disallowed(Database),
+    /// The Map-Servers and routers of the node's configuration.
+    Nodes,
+    /// So many bytes of sites follow, to be gathered.
+    Sites(usize),
+    /// What taking these sites, which were gathered, would do.
+    Compare(Sites),
     /// What the node is to do.
     Tell(Order),
 }

@@ -148,8 +148,12 @@ forgotten last next pair nonce saved lost survives =
     only (suc i, within, is) = omega (arith, within)
 
 -- a Map-Server doesn't begin at another moment
-other_start : (config : ConfigValue) (number now : ℕ) (store : StoreState) (n : ServerNodeState) → n.started ≢ now → Begins config number store now (Server n) → ⊥
-other_start config number now store n differs begins = differs (ap (λ (x : ServerNodeState). x.started) begins.1)
+other_start : (config : ConfigValue) (sites : List SiteValue) (number now : ℕ) (store : StoreState) (n : ServerNodeState) → n.started ≢ now → Begins config sites number store now (Server n) → ⊥
+other_start config sites number now store n differs begins = differs (ap (λ (x : ServerNodeState). x.started) begins.1)
+
+-- nor under other sites than its own
+other_sites : (config : ConfigValue) (sites : List SiteValue) (number now : ℕ) (store : StoreState) (n : ServerNodeState) → n.core.sites ≢ sites → Begins config sites number store now (Server n) → ⊥
+other_sites config sites number now store n differs begins = differs (ap (λ (x : ServerNodeState). x.core.sites) begins.1)
 
 -- nor is an act that was told one of which nobody was told, if it wasn't due
 untold_act : (A : Type 0) (config : ConfigValue) (number : ℕ) (old last : NodeState) (now : ℕ) (act : TurnAct) → act.told ≡ false → (IsDuty number act.event → ⊥)
@@ -174,7 +178,7 @@ module _ (config : ConfigValue) (number : ℕ) (n : RouterNodeState) (ends : End
 -- a deployment begins at moment 0, each of its nodes over its own honest store, and nothing was sent
 module _ (config : ConfigValue) (stores : ℕ → StoreState) (d : DeploymentState) where
   late_server : (k : ℕ) (n : ServerNodeState) → k < node_count config → (d.nodes k).node ≡ Server n → n.started ≢ 0 → DeploymentBegins config stores d → ⊥
-  late_server k n known is late begins = other_start config k 0 (stores k) n late (subst (λ (x : NodeState). Begins config k (stores k) 0 x) is (begins.nodes k known))
+  late_server k n known is late begins = other_start config config.sites k 0 (stores k) n late (subst (λ (x : NodeState). Begins config config.sites k (stores k) 0 x) is (begins.nodes k known))
 
   any_store : (k : ℕ) → k < node_count config → (IsTrue (stores k).is_honest → ⊥) → DeploymentBegins config stores d → ⊥
   any_store k known lies begins = lies (begins.honest k known)

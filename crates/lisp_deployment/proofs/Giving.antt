@@ -1,8 +1,7 @@
 -- The sites that Map-Servers take are of the configuration, or were given to one.
-use Rattle.std.proofs.Common.{◌≡◌, ◌⊎◌, inl, inr, List, [], ◌∷◌, ◌++◌, Option, Some, None, sym, subst}
+use Rattle.std.proofs.Common.{◌≡◌, ◌⊎◌, inl, inr, List, [], ◌∷◌, ◌++◌, Some, sym, subst}
 use Rattle.std.specs.List.{AllByRecursion, Contains}
 use Rattle.std.proofs.lemmas.List.Elements.{Contains-append_left, Contains-append_right}
-use Rattle.lisp_policy.specs.Configuration.{ConfigValue}
 use Rattle.lisp_policy.specs.Site.{SiteValue}
 use Rattle.lisp_model.specs.declared.event.Event.TheVariants as events
 use Rattle.lisp_model.specs.Trace.{EventValue, Step, Opening}
@@ -81,14 +80,13 @@ ordered_given o calls given are steps T ordered took =
     both (λ (s : Step). TakesOneOf (o.config.sites ∷ given) s.event) steps T
     (wider (λ (s : Step). WasOrdered calls s.event) (λ (s : Step). TakesOneOf (o.config.sites ∷ given) s.event) (λ s. told_one o.config.sites calls given are s.event) steps ordered) took
 
--- by steps in which one of the configuration's or of some is taken
-pub taken_given : (o : Opening) (config : ConfigValue) → o.config ≡ config → (some given : List (List SiteValue)) → ((sites : List SiteValue) → Contains some sites → Contains given sites)
-    → (steps T : List Step) → AllByRecursion (λ s. TakesOneOf (config.sites ∷ some) s.event) steps → TakeGiven o given T → TakeGiven o given (steps ++ T)
-taken_given o config same some given are steps T takes took =
+-- by steps in which one of some is taken
+pub taken_given : (o : Opening) (some given : List (List SiteValue)) → ((sites : List SiteValue) → Contains some sites → Contains given sites)
+    → (steps T : List Step) → AllByRecursion (λ s. TakesOneOf some s.event) steps → TakeGiven o given T → TakeGiven o given (steps ++ T)
+taken_given o some given are steps T takes took =
     both (λ (s : Step). TakesOneOf (o.config.sites ∷ given) s.event) steps T
-    (wider (λ (s : Step). TakesOneOf (o.config.sites ∷ some) s.event) (λ (s : Step). TakesOneOf (o.config.sites ∷ given) s.event)
-    (λ s. one_of_more (o.config.sites ∷ some) (o.config.sites ∷ given) (behind_first o.config.sites some given are) s.event) steps
-    (subst (λ (c : ConfigValue). AllByRecursion (λ s. TakesOneOf (c.sites ∷ some) s.event) steps) (sym same) takes)) took
+    (wider (λ (s : Step). TakesOneOf some s.event) (λ (s : Step). TakesOneOf (o.config.sites ∷ given) s.event)
+    (λ s. one_of_more some (o.config.sites ∷ given) (λ sites has. in_tail o.config.sites given sites (are sites has)) s.event) steps takes) took
 
 -- and so it is where more are given
 pub more_given : (o : Opening) (more given : List (List SiteValue)) (T : List Step) → TakeGiven o given T → TakeGiven o (more ++ given) T

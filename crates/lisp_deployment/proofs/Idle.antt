@@ -62,12 +62,12 @@ abbrev idle_node : ConfigValue → ℕ → StoreState → Bool → NodeState
 idle_node c k store true = Server (server_over c store)
 idle_node c k store false = router_of c store (slice_get c.routers (k - length c.servers))
 
-begins_idle : (c : ConfigValue) (k : ℕ) (store : StoreState) → k < node_count c → KeepsSome store.kept → (b : Bool) → ltb k (length c.servers) ≡ b → Begins c k store 0 (idle_node c k store b)
+begins_idle : (c : ConfigValue) (k : ℕ) (store : StoreState) → k < node_count c → KeepsSome store.kept → (b : Bool) → ltb k (length c.servers) ≡ b → Begins c c.sites k store 0 (idle_node c k store b)
 begins_idle c k store known some true is = (ltb-true k (length c.servers) is, refl)
 begins_idle c k store known some false is =
     let high : length c.servers ≤ k = ltb-false k (length c.servers) is in
     let there = get_within c.routers (k - length c.servers) (omega (arith, known, high)) in
-    subst (λ (r : Option RouterEntryValue). Begins c k store 0 (router_of c store r)) (sym there.1)
+    subst (λ (r : Option RouterEntryValue). Begins c c.sites k store 0 (router_of c store r)) (sym there.1)
     (k - length c.servers, omega (arith, high), router_over c there.0 store, (there.0, there.1, refl), starts_idle c there.0 store some)
 
 abbrev nothing_outside : OutsideState

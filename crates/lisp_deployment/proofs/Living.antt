@@ -30,7 +30,7 @@ use Rattle.lisp_records.specs.Record.{MapRecordValue}
 use Rattle.lisp_nodes.specs.Cores.{first_used}
 use Rattle.lisp_world.specs.Making.{router_over, StartsAt}
 use Rattle.lisp_turns.specs.Acts.{TurnAct, DoesAll, send_calls, printed_of, act_calls, acts_calls}
-use Rattle.lisp_turns.specs.Beginning.{Begins}
+use Rattle.lisp_turns.specs.Beginning.{Begins, TakesSites}
 use Rattle.lisp_turns.specs.Outside.{Prints}
 use Rattle.lisp_turns.proofs.Calls.{lines_append}
 use Rattle.lisp_turns.specs.Node.{NodeState, Server, Router, HasNode, Passes}
@@ -42,7 +42,7 @@ use Rattle.lisp_turns.proofs.OwnActs.{heard_own, taken_own, taken_did}
 use Rattle.lisp_turns.proofs.Reaching.{Reaches, goes_further}
 use Rattle.lisp_turns.proofs.Ticking.{tick_reaches}
 use Rattle.lisp_deployment.specs.Deployment.{DeploymentState, node_count, sent_by, IsAmong, DeploymentStands}
-use Rattle.lisp_deployment.specs.Lives.{store_of, BeginsLife, IsAsConfigured, EndsAsConfigured, arrived_in, sites_taken, TakesOneOf, TakesAgain, IsLife, LifeGoesOn, LostTurnsAreCuts, LivesStand}
+use Rattle.lisp_deployment.specs.Lives.{store_of, BeginsLife, IsAsConfigured, EndsAsConfigured, arrived_in, sites_taken, TakesOneOf, IsLife, LifeGoesOn, LostTurnsAreCuts, LivesStand}
 use Rattle.lisp_refinement.proofs.Passing.{passing_stands, idling_passes}
 use Rattle.lisp_deployment.proofs.OthersStand.{others_kept, others_stand, has_it, has_others}
 use Rattle.lisp_deployment.proofs.Deploying.{among_more, kept_clock, kept_bag}
@@ -133,20 +133,20 @@ still_all : (P : EventValue → Type 0) (acts : List TurnAct) → AllByRecursion
 still_all P [] all = tt
 still_all P (a ∷ earlier) all = (all.0, still_all P earlier all.1)
 
--- a Map-Server that takes the sites of its configuration again: so it acts, nothing arrives, and it has these
-own_again : (config : ConfigValue) (number : ℕ) (steps : List Step) → TakesAgain config number steps → AllByRecursion (λ s. IsOwn number s.event) steps
-own_again config number [] again = tt
-own_again config number (s ∷ steps) again = (subst (λ (e : EventValue). IsOwn number e) (sym again.0) refl, own_again config number steps again.1)
+-- a Map-Server that takes sites: so it acts, nothing arrives, and it has these
+own_reloads : (number : ℕ) (sites : List SiteValue) (steps : List Step) → TakesSites number sites steps → AllByRecursion (λ s. IsOwn number s.event) steps
+own_reloads number sites [] takes = tt
+own_reloads number sites (s ∷ steps) takes = (subst (λ (e : EventValue). IsOwn number e) (sym takes.0) refl, own_reloads number sites steps takes.1)
 
-none_again : (config : ConfigValue) (number : ℕ) (steps : List Step) → TakesAgain config number steps → arrivals steps ≡ []
-none_again config number [] again = refl
-none_again config number (s ∷ steps) again = (λ i. arrival (again.0 i) ++ none_again config number steps again.1 i)
+none_arrives : (number : ℕ) (sites : List SiteValue) (steps : List Step) → TakesSites number sites steps → arrivals steps ≡ []
+none_arrives number sites [] takes = refl
+none_arrives number sites (s ∷ steps) takes = (λ i. arrival (takes.0 i) ++ none_arrives number sites steps takes.1 i)
 
-its_own_again : (config : ConfigValue) (number : ℕ) (given : List (List SiteValue)) (steps : List Step) → TakesAgain config number steps → AllByRecursion (λ s. TakesOneOf (config.sites ∷ given) s.event) steps
-its_own_again config number given [] again = tt
-its_own_again config number given (s ∷ steps) again = (
-  subst (λ (e : EventValue). TakesOneOf (config.sites ∷ given) e) (sym again.0) (at_head config.sites given),
-  its_own_again config number given steps again.1,
+takes_these : (number : ℕ) (sites : List SiteValue) (given : List (List SiteValue)) (steps : List Step) → TakesSites number sites steps → AllByRecursion (λ s. TakesOneOf (sites ∷ given) s.event) steps
+takes_these number sites given [] takes = tt
+takes_these number sites given (s ∷ steps) takes = (
+  subst (λ (e : EventValue). TakesOneOf (sites ∷ given) e) (sym takes.0) (at_head sites given),
+  takes_these number sites given steps takes.1,
 )
 
 reloaded_sites : (old : ServerState) (new : List SiteValue) → (reloaded old new).sites ≡ new
@@ -162,17 +162,17 @@ only_own number [] own = tt
 only_own number (a ∷ earlier) own = (own.0.0, only_own number earlier own.1)
 
 pub lost_turns_are_cuts : (A : Type 0) → LostTurnsAreCuts A
-lost_turns_are_cuts A config number places s outside lost =
+lost_turns_are_cuts A config number places s left outside lost =
     let hearing = lost.hearing in
     let takes = hearing.takes in
     let intake = lost.intake in
-    let did = taken_did A config number lost.now hearing.passed takes.between lost.between intake.heard takes.did_hear intake.order intake.outcome intake.taken takes.obeys in
+    let did = taken_did A config number lost.now hearing.passed takes.between left intake.heard takes.did_hear intake.order intake.outcome intake.taken takes.obeys in
     let own = taken_own number intake.order intake.outcome intake.taken intake.heard (heard_own number (intake.others ++ lost.reception ∷ []) intake.heard takes.hears) in
     let all = sym (append-nil (acts_of number intake)) in (
       record {
         passed = hearing.passed;
         passes = inl hearing.expires.passes;
-        did = subst (λ (l : List TurnAct). DoesAll A config number hearing.passed lost.between lost.now l) all did;
+        did = subst (λ (l : List TurnAct). DoesAll A config number hearing.passed left lost.now l) all did;
         own = subst (λ (l : List TurnAct). AllByRecursion (λ a. IsOwn number a.event) l) all (only_own number (acts_of number intake) own);
         are_told = tt;
       },
@@ -218,8 +218,8 @@ module _ (w : WorldState) (now : ℕ) (o : Opening) (T : List Step) (stand : Sta
   }
 
 -- a life that begins, and the network by the time that all was told which was told of the last one
-pub record LifeIsTold (config : ConfigValue) (number : ℕ) (untold told : List TurnAct) (new : DeploymentState) (w : WorldState) (o : Opening) (T : List Step) : Type 0 where
-  pub goes : LifeGoesOn config number untold told new o T
+pub record LifeIsTold (config : ConfigValue) (sites : List SiteValue) (number : ℕ) (untold told : List TurnAct) (new : DeploymentState) (w : WorldState) (o : Opening) (T : List Step) : Type 0 where
+  pub goes : LifeGoesOn config sites number untold told new o T
   pub left : WorldState
   pub stands : Stands left o (goes.life.first ++ T)
   pub bag : left.bag ≡ w.bag ++ sent_by config number (acts_calls told)
@@ -230,10 +230,10 @@ module _ (A : Type 0) (config : ConfigValue) (number : ℕ) (told : List TurnAct
   taken = sites_taken (life.untold ++ told)
 
   abbrev Takes : EventValue → Type 0
-  Takes event = TakesOneOf (config.sites ∷ taken) event
+  Takes event = TakesOneOf (life.sites ∷ taken) event
 
   all_take : AllByRecursion (λ a. Takes a.event) (life.untold ++ told)
-  all_take = acts_take (config.sites ∷ taken) (life.untold ++ told) (in_tail config.sites taken)
+  all_take = acts_take (life.sites ∷ taken) (life.untold ++ told) (in_tail life.sites taken)
 
   -- what it did until it ended
   abbrev Ended : NodeState → Type 0
@@ -338,9 +338,9 @@ module _ (A : Type 0) (config : ConfigValue) (number : ℕ) (told : List TurnAct
       ∙ ap (λ (l : List DatagramValue). l ++ more) (kept_bag w until_told.left number split.0 ∙ told_bag)
 
   abbrev Goes : Type 0
-  Goes = LifeIsTold config number life.untold told new w o T
+  Goes = LifeIsTold config life.sites number life.untold told new w o T
 
-  module _ (left : WorldState) (s : Step) (again : List Step) (takes_again : TakesAgain config number again) (event_is : s.event ≡ events.Restart number 0 None) (line_is : s.line ≡ lines.Restarted number) (stands : Stands left o (s ∷ again ++ until_start))
+  module _ (left : WorldState) (s : Step) (reloads : List Step) (takes_sites : TakesSites number life.sites reloads) (event_is : s.event ≡ events.Restart number 0 None) (line_is : s.line ≡ lines.Restarted number) (stands : Stands left o (s ∷ reloads ++ until_start))
       (bag : left.bag ≡ at_start.bag ++ []) (clock : left.clock ≡ at_start.clock) (has : HasNode left number (new.nodes number).node) (others : (k : ℕ) (other : NodeState) → k ≢ number → HasNode at_end k other → HasNode left k other) where
     nodes_are : (k : ℕ) → k < node_count config → HasNode left k (new.nodes k).node
     nodes_are k known = by (k == number) refl
@@ -362,7 +362,7 @@ module _ (A : Type 0) (config : ConfigValue) (number : ℕ) (told : List TurnAct
     rest = waits ∷ untold_reaches.steps
 
     abbrev untold : List Step
-    untold = again ++ rest
+    untold = reloads ++ rest
 
     abbrev all_steps : List Step
     all_steps = s ∷ untold ++ until_told.steps
@@ -372,7 +372,7 @@ module _ (A : Type 0) (config : ConfigValue) (number : ℕ) (told : List TurnAct
       first = until_told.steps;
       printed = subst (ArePrinted until_told.steps) (append-nil (lines_of (acts_calls told))) until_told.are_printed;
       untold = untold;
-      own = all_of_both (λ x. IsOwn number x.event) untold until_told.steps (all_of_both (λ x. IsOwn number x.event) again rest (own_again config number again takes_again) (tt, untold_reaches.own)) until_told.own;
+      own = all_of_both (λ x. IsOwn number x.event) untold until_told.steps (all_of_both (λ x. IsOwn number x.event) reloads rest (own_reloads number life.sites reloads takes_sites) (tt, untold_reaches.own)) until_told.own;
       restart = s;
       event = event_is;
       line = line_is;
@@ -380,7 +380,7 @@ module _ (A : Type 0) (config : ConfigValue) (number : ℕ) (told : List TurnAct
     }
 
     untold_arrived : arrivals untold ≡ arrived (all_told life.untold)
-    untold_arrived = arrivals_both again rest ∙ ap (λ (l : List (Addr × List ℕ)). l ++ arrivals rest) (none_again config number again takes_again) ∙ untold_reaches.heard
+    untold_arrived = arrivals_both reloads rest ∙ ap (λ (l : List (Addr × List ℕ)). l ++ arrivals rest) (none_arrives number life.sites reloads takes_sites) ∙ untold_reaches.heard
 
     what_arrived : arrivals all_steps ≡ arrived_in (life.untold ++ told)
     what_arrived = (λ i. arrival (event_is i) ++ arrivals (untold ++ until_told.steps)) ∙ arrivals_both untold until_told.steps
@@ -390,11 +390,11 @@ module _ (A : Type 0) (config : ConfigValue) (number : ℕ) (told : List TurnAct
     what_it_takes : AllByRecursion (λ x. Takes x.event) all_steps
     what_it_takes = (
       subst Takes (sym event_is) tt,
-      all_of_both (λ x. Takes x.event) untold until_told.steps (all_of_both (λ x. Takes x.event) again rest (its_own_again config number taken again takes_again) (tt, untold_reaches.allowed)) until_told.allowed,
+      all_of_both (λ x. Takes x.event) untold until_told.steps (all_of_both (λ x. Takes x.event) reloads rest (takes_these number life.sites taken reloads takes_sites) (tt, untold_reaches.allowed)) until_told.allowed,
     )
 
-    regrouped : (untold ++ until_told.steps) ++ T ≡ again ++ until_start
-    regrouped = append_assoc untold until_told.steps T ∙ append_assoc again rest first
+    regrouped : (untold ++ until_told.steps) ++ T ≡ reloads ++ until_start
+    regrouped = append_assoc untold until_told.steps T ∙ append_assoc reloads rest first
 
     goes_on : Goes
     unfolding life_steps
@@ -404,10 +404,10 @@ module _ (A : Type 0) (config : ConfigValue) (number : ℕ) (told : List TurnAct
         left = left;
         life = life_steps;
         heard = what_arrived;
-        again = again;
+        reloads = reloads;
         rest = rest;
         parts = refl;
-        takes_again = takes_again;
+        takes_sites = takes_sites;
         swallowed = inl (tt, subst (ArePrinted untold_reaches.steps) (all_told_lines life.untold) untold_reaches.are_printed);
         takes = what_it_takes;
         stands = record {
@@ -428,31 +428,31 @@ module _ (A : Type 0) (config : ConfigValue) (number : ℕ) (told : List TurnAct
     was : slice_get at_start.servers number ≡ Some last
     was = subst (λ (n : NodeState). HasNode at_end number n) last_is end_has
 
-    begins : Begins config number life.store new.moment (Server begun)
-    begins = subst (λ (n : NodeState). Begins config number life.store new.moment n) begun_is life.begins
+    begins : Begins config life.sites number life.store new.moment (Server begun)
+    begins = subst (λ (n : NodeState). Begins config life.sites number life.store new.moment n) begun_is life.begins
 
-    -- it takes the sites of its configuration again
+    -- it takes the sites of its next life
     abbrev taking : ServerNodeState
-    taking = record { core = reloaded last.core config.sites; store = last.store; started = if extends last.core.sites config.sites then last.started else at_start.clock }
+    taking = record { core = reloaded last.core life.sites; store = last.store; started = if extends last.core.sites life.sites then last.started else at_start.clock }
 
     abbrev at_taking : WorldState
     at_taking = record at_start { bag = at_start.bag ++ []; servers = slice_set at_start.servers number taking }
 
     abbrev taking_line : Line
-    taking_line = reload_line number (extends last.core.sites config.sites) (length config.sites)
+    taking_line = reload_line number (extends last.core.sites life.sites) (length life.sites)
 
-    takes : NetworkReloads at_start at_taking number config.sites taking_line
+    takes : NetworkReloads at_start at_taking number life.sites taking_line
     takes = record {
       acts = record { before = last; after = taking; was = was; left = refl };
       reloads = record { core = refl; store = refl; started = refl };
       said = refl;
     }
 
-    abbrev took : (actor : ℕ) × (s : ShownStore) × Stands at_taking o (record { event = events.Reload number config.sites; line = taking_line; actor = actor; shown = s } ∷ until_start)
-    took = reload_stands at_start at_taking number config.sites taking_line takes o until_start start_stands
+    abbrev took : (actor : ℕ) × (s : ShownStore) × Stands at_taking o (record { event = events.Reload number life.sites; line = taking_line; actor = actor; shown = s } ∷ until_start)
+    took = reload_stands at_start at_taking number life.sites taking_line takes o until_start start_stands
 
     abbrev taking_step : Step
-    taking_step = record { event = events.Reload number config.sites; line = taking_line; actor = took.0; shown = took.1 }
+    taking_step = record { event = events.Reload number life.sites; line = taking_line; actor = took.0; shown = took.1 }
 
     has_taken : slice_get at_taking.servers number ≡ Some taking
     has_taken = get_set_there at_start.servers number taking (slice_get_within at_start.servers number last was)
@@ -464,7 +464,7 @@ module _ (A : Type 0) (config : ConfigValue) (number : ℕ) (told : List TurnAct
     server_restarts : ServerReopens at_taking with_server number 0 (lines.Restarted number)
     server_restarts = record {
       acts = record { before = taking; after = begun; was = has_taken; left = refl };
-      core = ap (λ (n : ServerNodeState). n.core) begins.1 ∙ ap fresh_server (sym (reloaded_sites last.core config.sites));
+      core = ap (λ (n : ServerNodeState). n.core) begins.1 ∙ ap fresh_server (sym (reloaded_sites last.core life.sites));
       reopens = subst (λ (p : StoreState × StoreState). StoreReopens p.0 p.1 0) {x = (store_of life.last, life.store)} {y = (last.store, begun.store)}
           (λ i. (store_of (last_is i), sym (ap (λ (n : ServerNodeState). n.store) begins.1) i)) reopens;
       started = ap (λ (n : ServerNodeState). n.started) begins.1 ∙ sym start_moment;
@@ -538,7 +538,7 @@ module _ (A : Type 0) (config : ConfigValue) (number : ℕ) (told : List TurnAct
   same_count : length at_end.servers ≡ length config.servers
   same_count = end_stands.steps.servers ∙ ap (λ (c : ConfigValue). length c.servers) stand.config_is
 
-  by_kind : (last begun : NodeState) → life.last ≡ last → (new.nodes number).node ≡ begun → EndsAsConfigured config number last → HasNode at_end number last → Begins config number life.store new.moment begun → Goes
+  by_kind : (last begun : NodeState) → life.last ≡ last → (new.nodes number).node ≡ begun → EndsAsConfigured config number last → HasNode at_end number last → Begins config life.sites number life.store new.moment begun → Goes
   by_kind (Server last) (Server begun) last_is begun_is configured has begins = server_goes_on last begun last_is begun_is
   by_kind (Server last) (Router begun) last_is begun_is configured has (place, number_is, down, over, starts) = absurd (omega (arith, number_is, slice_get_within at_end.servers number last has, same_count))
   by_kind (Router last) (Server begun) last_is begun_is configured (place, number_is, was) begins = absurd (omega (arith, number_is, begins.0, same_count))
@@ -546,7 +546,7 @@ module _ (A : Type 0) (config : ConfigValue) (number : ℕ) (told : List TurnAct
       router_goes_on last begun last_is begun_is configured place number_is was entry_place entry_number down entry there down_is starts
 
 pub lives_are_told : (A : Type 0) (config : ConfigValue) (number : ℕ) (told : List TurnAct) (old new : DeploymentState) (life : BeginsLife A config number told old new) → EndsAsConfigured config number life.last
-    → (w : WorldState) (o : Opening) (T : List Step) → DeploymentStands config old w o T → LifeIsTold config number life.untold told new w o T
+    → (w : WorldState) (o : Opening) (T : List Step) → DeploymentStands config old w o T → LifeIsTold config life.sites number life.untold told new w o T
 lives_are_told A config number told old new life configured w o T stand =
     by_kind A config number told old new life w o T stand life.last (new.nodes number).node refl refl configured (end_has A config number told old new life w o T stand) life.begins
 

@@ -48,11 +48,11 @@ IsServerThere c store node n = (node ≡ Server n) × (n ≡ server_over c store
 abbrev IsRouterThere : ConfigValue → ℕ → StoreState → NodeState → RouterNodeState × RouterNodeState → Type 0
 IsRouterThere c place store node pair = (node ≡ Router pair.1) × IsRouterOver c place store pair.0 × HasStarted pair.0 pair.1
 
-server_there : (c : ConfigValue) (number : ℕ) (store : StoreState) (node : NodeState) → number < length c.servers → Begins c number store 0 node → (n : ServerNodeState) × IsServerThere c store node n
+server_there : (c : ConfigValue) (number : ℕ) (store : StoreState) (node : NodeState) → number < length c.servers → Begins c c.sites number store 0 node → (n : ServerNodeState) × IsServerThere c store node n
 server_there c number store (Server n) low (known, is) = (n, (refl, is))
 server_there c number store (Router n) low (place, number_is, down, over, starts) = absurd (omega (arith, low, number_is))
 
-router_there : (c : ConfigValue) (place : ℕ) (store : StoreState) (node : NodeState) → Begins c (length c.servers + place) store 0 node → (pair : RouterNodeState × RouterNodeState) × IsRouterThere c place store node pair
+router_there : (c : ConfigValue) (place : ℕ) (store : StoreState) (node : NodeState) → Begins c c.sites (length c.servers + place) store 0 node → (pair : RouterNodeState × RouterNodeState) × IsRouterThere c place store node pair
 router_there c place store (Server n) (known, is) = absurd (omega (arith, known))
 router_there c place store (Router n) (at, number_is, down, over, starts) =
     let here : at ≡ place = omega (arith, number_is) in ((down, n), (refl, subst (λ p. IsRouterOver c p store down) here over, starts))

@@ -151,14 +151,14 @@ module _ (A : Type 0) (config : ConfigValue) where
               (subst (λ (ms : List (Addr × List ℕ)). AllByRecursion ItsUnforged ms) (sym part.heard) (still_unforged (received_of calls) unforged)) take clean_then);
         }
 
-    one_life : (acts : List TurnAct) (begins : BeginsAgain A config number acts old new) → ((sites : List SiteValue) → Contains (sites_taken (begins.life.untold ++ acts)) sites → Contains given sites)
+    one_life : (acts : List TurnAct) (begins : BeginsAgain A config number acts old new) → ((sites : List SiteValue) → Contains (begins.life.sites ∷ sites_taken (begins.life.untold ++ acts)) sites → Contains given sites)
         → AllByRecursion (IsUnforged config given old.sent number) (arrived_in (begins.life.untold ++ acts)) → GoesOnCleanly config given (Life number acts) new printed w o T
     one_life acts begins are_given unforged =
         let tells = lives_are_told A config number acts old new begins.life begins.configured w o T stand in
         let goes = tells.goes in
         let life = goes.life in
         let legal = goes.stands.stands.steps.legal in
-        let take = taken_given o config stand.config_is (sites_taken (begins.life.untold ++ acts)) given are_given goes.steps T goes.takes took in
+        let take = taken_given o (begins.life.sites ∷ sites_taken (begins.life.untold ++ acts)) given are_given goes.steps T goes.takes took in
         let clean_then = life_clean config given number acts o T goes.steps life legal take
         (subst (λ (ms : List (Addr × List ℕ)). AllByRecursion (IsHarmlessTo o given T number) ms) (sym goes.heard) (all_harmless config given old w o T stand number (arrived_in (begins.life.untold ++ acts)) unforged)) clean in
         record {

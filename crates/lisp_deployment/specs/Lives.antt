@@ -14,7 +14,7 @@ use Rattle.lisp_refinement.specs.Calls.{config_of, database_of}
 use Rattle.lisp_refinement.specs.World.{RouterNodeState, WorldState}
 use Rattle.lisp_nodes.specs.Cores.{first_used}
 use Rattle.lisp_turns.specs.Acts.{TurnAct, DoesAll, acts_calls}
-use Rattle.lisp_turns.specs.Beginning.{Begins}
+use Rattle.lisp_turns.specs.Beginning.{Begins, TakesSites}
 use Rattle.lisp_turns.specs.Due.{IsDuty, IsRefused}
 use Rattle.lisp_turns.specs.Node.{NodeState, Server, Router, Passes}
 use Rattle.lisp_turns.specs.Part.{IsOwn, ArePrinted, arrival, arrivals, lines_of}
@@ -46,11 +46,12 @@ pub record IsCut (A : Type 0) (config : ConfigValue) (number : ℕ) (old last : 
 
 -- A turn that is lost is cut off so: the store keeps all that it saved, or nothing.
 abbrev pub LostTurnsAreCuts : Type 0 → Type 0
-LostTurnsAreCuts A = (config : ConfigValue) (number places : ℕ) (s : TurnState) (outside : OutsideState)
-    → (lost : IsLostTurn A config number places s outside)
-    → IsCut A config number s.node lost.between lost.now (acts_of number lost.intake) [] × IsCut A config number s.node s.node lost.now [] []
+LostTurnsAreCuts A = (config : ConfigValue) (number places : ℕ) (s : TurnState) (left : NodeState) (outside : OutsideState)
+    → (lost : IsLostTurn A config number places s left outside)
+    → IsCut A config number s.node left lost.now (acts_of number lost.intake) [] × IsCut A config number s.node s.node lost.now [] []
 
--- A node's life ends, at the end of a turn or in one, and its next life begins over what its store kept; the others do nothing.
+-- A node's life ends, at the end of a turn or in one, and its next life begins over what its store kept, that of a Map-Server under these
+-- sites; the others do nothing.
 pub record BeginsLife (A : Type 0) (config : ConfigValue) (number : ℕ) (told : List TurnAct) (old new : DeploymentState)
     : Type 0 where
   pub known : number < node_count config
@@ -62,7 +63,8 @@ pub record BeginsLife (A : Type 0) (config : ConfigValue) (number : ℕ) (told :
   pub survives : Survives (store_of last) store
   pub later : (old.moment ≤ ended) × (ended ≤ new.moment)
   pub bound : new.moment ≤ max_moment
-  pub begins : Begins config number store new.moment (new.nodes number).node
+  pub sites : List SiteValue
+  pub begins : Begins config sites number store new.moment (new.nodes number).node
   pub fresh : new.nodes number ≡ beginning (new.nodes number).node (new.nodes number).resolving (new.nodes number).outside
   pub others : (k : ℕ) → k ≢ number → new.nodes k ≡ old.nodes k
   pub sent : new.sent ≡ old.sent ++ sent_by config number (acts_calls told)
@@ -96,13 +98,8 @@ abbrev pub TakesOneOf : List (List SiteValue) → EventValue → Type 0
 TakesOneOf given (events.Reload server sites) = Contains given sites
 TakesOneOf given _ = Unit {0}
 
--- steps in which a Map-Server takes the sites of its configuration again
-abbrev pub TakesAgain : ConfigValue → ℕ → List Step → Type 0
-TakesAgain config number steps = AllByRecursion (λ s. s.event ≡ events.Reload number config.sites) steps
-
 -- The steps of a life that begins: first what was told of the last turn, of which the lines are those that were printed; then what nobody
--- was told: the rest of that turn, time that passes, and that a Map-Server takes the sites of its configuration again; and last the
--- restart.
+-- was told: the rest of that turn, time that passes, and that a Map-Server takes the sites of its next life; and last the restart.
 pub record IsLife (number : ℕ) (told : List TurnAct) (steps : List Step) : Type 0 where
   pub first : List Step
   pub printed : ArePrinted first (lines_of (acts_calls told))
@@ -114,20 +111,20 @@ pub record IsLife (number : ℕ) (told : List TurnAct) (steps : List Step) : Typ
   pub is : steps ≡ restart ∷ untold ++ first
 
 -- A deployment that is a network went on to be one by them. What arrived in them is what arrived in the acts, and the lines of what nobody
--- was told are those of the acts of which nobody was told; but a Map-Server takes the sites of its configuration again, as its next life
--- reads them anew. It takes no other sites than those, and those that it took in the acts.
-pub record LifeGoesOn (config : ConfigValue) (number : ℕ) (untold told : List TurnAct) (new : DeploymentState) (o : Opening)
-    (T : List Step) : Type 0 where
+-- was told are those of the acts of which nobody was told; but a Map-Server takes the sites of its next life. It takes no other sites than
+-- those, and those that it took in the acts.
+pub record LifeGoesOn (config : ConfigValue) (sites : List SiteValue) (number : ℕ) (untold told : List TurnAct) (new : DeploymentState)
+    (o : Opening) (T : List Step) : Type 0 where
   pub steps : List Step
   pub left : WorldState
   pub life : IsLife number told steps
   pub heard : arrivals steps ≡ arrived_in (untold ++ told)
-  pub again : List Step
+  pub reloads : List Step
   pub rest : List Step
-  pub parts : life.untold ≡ again ++ rest
-  pub takes_again : TakesAgain config number again
+  pub parts : life.untold ≡ reloads ++ rest
+  pub takes_sites : TakesSites number sites reloads
   pub swallowed : ArePrinted rest (map (λ a. a.act.line) untold)
-  pub takes : AllByRecursion (λ s. TakesOneOf (config.sites ∷ sites_taken (untold ++ told)) s.event) steps
+  pub takes : AllByRecursion (λ s. TakesOneOf (sites ∷ sites_taken (untold ++ told)) s.event) steps
   pub stands : DeploymentStands config new left o (steps ++ T)
 
 -- A node's next life is a restart, where a router ended as it is configured.
@@ -135,4 +132,4 @@ abbrev pub LivesStand : Type 0 → Type 0
 LivesStand A = (config : ConfigValue) (number : ℕ) (told : List TurnAct) (old new : DeploymentState)
     → (life : BeginsLife A config number told old new) → EndsAsConfigured config number life.last
     → (w : WorldState) (o : Opening) (T : List Step) → DeploymentStands config old w o T
-    → LifeGoesOn config number life.untold told new o T
+    → LifeGoesOn config life.sites number life.untold told new o T

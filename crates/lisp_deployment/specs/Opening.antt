@@ -10,9 +10,9 @@ use Rattle.lisp_turns.specs.Beginning.{Begins}
 use Rattle.lisp_turns.specs.Outside.{Call}
 use Rattle.lisp_deployment.specs.Deployment.{DeploymentState, node_count, TakeTurns, DeploymentStands, DeploymentGoesOn}
 
--- each node begins with its network, over an honest store; nothing was sent
+-- each node begins with its network, over an honest store, a Map-Server under the sites of the configuration; nothing was sent
 pub record DeploymentBegins (config : ConfigValue) (stores : ℕ → StoreState) (d : DeploymentState) : Type 0 where
-  pub nodes : (k : ℕ) → k < node_count config → Begins config k (stores k) 0 (d.nodes k).node
+  pub nodes : (k : ℕ) → k < node_count config → Begins config config.sites k (stores k) 0 (d.nodes k).node
   pub honest : (k : ℕ) → k < node_count config → IsTrue (stores k).is_honest
   pub moment : d.moment ≡ 0
   pub unsent : d.sent ≡ []

@@ -38,11 +38,11 @@ sites_told [] = []
 sites_told (Listens (Some (orders.Reload sites)) ∷ calls) = sites ∷ sites_told calls
 sites_told (_ ∷ calls) = sites_told calls
 
--- the sites that a node was given in a deed, and nodes in deeds: those that it was told to take, and perhaps did
+-- the sites that a node was given in a deed, and nodes in deeds: those that it was told to take, and perhaps did; and those of its next life
 abbrev pub given_in : (A : Type 0) (config : ConfigValue) (deed : Deed) (old new : DeploymentState) → DoesDeed A config deed old new
     → List (List SiteValue)
 given_in A config (Turn number calls) old new takes = sites_told calls
-given_in A config (Life number told) old new begins = sites_taken (begins.life.untold ++ told)
+given_in A config (Life number told) old new begins = begins.life.sites ∷ sites_taken (begins.life.untold ++ told)
 
 abbrev pub given_by : (A : Type 0) (config : ConfigValue) (deeds : List Deed) (old new : DeploymentState) → DoDeeds A config deeds old new
     → List (List SiteValue)

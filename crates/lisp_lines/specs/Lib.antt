@@ -12,3 +12,4 @@ pub mod Server
 pub mod Router
 pub mod Walk
 pub mod Listing
+pub mod Nodes

@@ -71,6 +71,15 @@ impl<S: WorldStore, A: Allocator> ServerNode<S, A> {
     }
 }
 
+impl<S: WorldStore + Drop, A: Allocator + Copy> ServerNode<S, A> {
+    /// Its sites again; what it held and its store are gone. Takes no memory.
+    pub fn stop(self) -> Sites<A>
+        ensures { result ≡ self.core.sites }
+    {
+        self.core.stop()
+    }
+}
+
 impl<S: WorldStore, A: Memory + Copy> ServerNode<S, A> {
     /// A Map-Server of these sites that holds nothing, over its store, at the moment 0. Takes no memory; what it holds
     /// later lies in memory of `alloc`.

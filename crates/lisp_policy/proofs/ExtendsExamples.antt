@@ -1,6 +1,5 @@
 -- Examples: which sites have all that one site has, and which don't.
-use Rattle.std.proofs.Common.{◌≡◌, ℕ, Bool, true, false, List, [], ◌∷◌, Option, Some, None, refl}
-use Rattle.lisp_records.specs.declared.address.Addr.{Addr}
+use Rattle.std.proofs.Common.{◌≡◌, ℕ, Bool, true, false, List, [], ◌∷◌, Some, refl}
 use Rattle.lisp_records.specs.declared.address.Addr.TheVariants.{V4}
 use Rattle.lisp_policy.specs.declared.site.SitePrefix.{SitePrefix}
 use Rattle.lisp_policy.specs.Limits.{LimitsValue, no_limits}

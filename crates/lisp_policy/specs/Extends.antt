@@ -5,7 +5,7 @@ use Rattle.std.specs.Str.{bytes_eq}
 use Rattle.lisp_records.specs.Address.{PrefixValue, prefix_eq}
 use Rattle.lisp_policy.specs.declared.site.SitePrefix.{SitePrefix}
 use Rattle.lisp_policy.specs.Limits.{LimitsValue, lists_router}
-use Rattle.lisp_policy.specs.Site.{SiteKeyValue, SiteValue, secret_of, site_of}
+use Rattle.lisp_policy.specs.Site.{SiteValue, secret_of, site_of}
 
 -- the site has a secret under a Key ID, and that is this one
 abbrev pub is_secret : Option (List ℕ) → List ℕ → Bool

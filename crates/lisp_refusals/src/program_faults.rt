@@ -33,7 +33,7 @@ with `lispd: fault N`, with the status 1.",
 pub(crate) const PROGRAM_FAULTS: Section = Section {
     title: "Faults of the program",
     introduction: "`lispd: fault N`. Standard error has exactly this line, if it is not a terminal. On a terminal, with `--words`, and of `lispd
-check` a second line follows, in words: what is wrong and what to do; for a bad value, which option it is and what it takes.
+check` and `lispd tell FOLDER reload` a second line follows, in words: what is wrong and what to do; for a bad value, which option it is and what it takes.
 
 Words that `clap` refuses (an unknown subcommand or option, or one given twice) are reported in its own text on standard
 error, with status 2. Help and the version, if asked for, go to standard output, with status 0.",
@@ -115,7 +115,7 @@ error, with status 2. Help and the version, if asked for, go to standard output,
             number: 99,
             carried: "",
             name: "",
-            meaning: "`lispd ask` or `lispd tell`: no node runs over the folder, or it didn't answer: it couldn't save what it was to do, or ended",
+            meaning: "`lispd ask`, `lispd tell` or `lispd check --against`: no node runs over the folder, or it didn't answer: it couldn't save what it was to do, or ended",
             status: "1",
             remedy: "check the folder, which is that of the node, DIR/NAME; ask the node that runs there, or see its log",
         },
@@ -158,6 +158,14 @@ error, with status 2. Help and the version, if asked for, go to standard output,
             meaning: "`lispd forget`: line L of the file LIST is no line `kept ..` as it prints them, nor blank, and doesn't begin with `#`; nothing was removed",
             status: "2",
             remedy: "correct the line, or put `#` before it",
+        },
+        Row {
+            number: 142,
+            carried: "",
+            name: "",
+            meaning: "`lispd tell FOLDER reload CONFIG` or `lispd check CONFIG --against FOLDER`: the nodes of the configuration changed: the names, addresses or order of Map-Servers or routers, what a Map-Server replies to, or a router's site or xTR-ID; nothing was told",
+            status: "3",
+            remedy: "restart the node: a node that runs takes other sites alone",
         },
     ],
 };

@@ -152,7 +152,7 @@ pub record IsOpening (c : ConfigValue) (number : ℕ) (store : StoreState) (node
   pub bag : w.bag ≡ []
 
 -- so it is with each node that begins with its network
-pub beginnings_open : (c : ConfigValue) (number : ℕ) (store : StoreState) (node : NodeState) → IsNetwork c → IsTrue store.is_honest → Begins c number store 0 node
+pub beginnings_open : (c : ConfigValue) (number : ℕ) (store : StoreState) (node : NodeState) → IsNetwork c → IsTrue store.is_honest → Begins c c.sites number store 0 node
     → (w : WorldState) × (o : Opening) × IsOpening c number store node w o
 beginnings_open c number store (Server n) network honest (low, is) =
     let w : WorldState = network_of c number store (all_started c number store) in

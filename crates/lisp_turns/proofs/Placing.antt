@@ -2,6 +2,7 @@
 use Rattle.std.proofs.Common.{◌≡◌, ℕ, List, length, sym, ap, ◌∙◌}
 use Rattle.std.proofs.lemmas.List.{length-map, length-replicate}
 use Rattle.lisp_policy.specs.Configuration.{ConfigValue}
+use Rattle.lisp_policy.specs.Site.{SiteValue}
 use Rattle.lisp_nonces.specs.Store.{StoreState}
 use Rattle.lisp_etr.specs.Etr.{EtrState}
 use Rattle.lisp_etr.specs.Rounds.{first_rounds}
@@ -28,7 +29,7 @@ module _ (config : ConfigValue) (place : ℕ) (store : StoreState) (now : ℕ) (
       let its : start.etr ≡ etr = same_some start.etr etr (sym (ap up_in start.up) ∙ up) in
       ap (λ (e : EtrState). length e.rounds) (sym its ∙ start.starts) ∙ length-replicate (length (config_of down.core).servers) (first_rounds now) ∙ its_servers ∙ ap (λ (l : List ℕ). length l) (sym its_list)
 
-pub begins_placed : (config : ConfigValue) (number : ℕ) (store : StoreState) (now : ℕ) (node : NodeState) → Begins config number store now node → IsPlaced config number node
-begins_placed config number store now (Server n) begins = begins.0
-begins_placed config number store now (Router n) begins =
+pub begins_placed : (config : ConfigValue) (sites : List SiteValue) (number : ℕ) (store : StoreState) (now : ℕ) (node : NodeState) → Begins config sites number store now node → IsPlaced config number node
+begins_placed config sites number store now (Server n) begins = begins.0
+begins_placed config sites number store now (Router n) begins =
     (begins.0, begins.3.0, begins.1, begins.3.1, its_list config begins.0 store now begins.2 n begins.3 begins.4, started_rounds config begins.0 store now begins.2 n begins.3 begins.4)

@@ -76,7 +76,7 @@ module _ (A : Type 0) (config : ConfigValue) (number places : ℕ) where
     asked_in b = told_calls number b reception receives now takes.intake between ++ commit_calls (acts_of number takes.intake) b ++ Listens takes.intake.order ∷ map Polls takes.intake.others
 
     -- it is lost
-    pub turn_lost : done ≡ false → IsLostTurn A config number places old heard
+    pub turn_lost : done ≡ false → IsLostTurn A config number places old between heard
     turn_lost is =
         let asked = asks_then begun expired heard _ (asked_in false) expires.asked (subst (λ (b : Bool). Asks expired heard (asked_in b)) is takes.asked) in
         record {
@@ -84,7 +84,6 @@ module _ (A : Type 0) (config : ConfigValue) (number places : ℕ) where
           now = now;
           dead = expires.dead;
           intake = takes.intake;
-          between = between;
           hearing = is_hearing;
           some = takes.some is;
           calls = asked_all heard _ (hearing_calls number reception now expires.dead takes.intake false) asked refl;
@@ -143,10 +142,10 @@ module _ (A : Type 0) (config : ConfigValue) (number places : ℕ) where
   starts turns count begun node before after receives sends resolving left few cut took =
       record { receives = receives; sends = sends; left = left; took = record { count = count; few = few; took = took; cut = cut } }
 
-  pub loses : (turns left count : ℕ) (begun : NodeState) (resolving : ResolvingValue) (before after : OutsideState) (last : TurnState) → count + 1 + left ≡ turns
-      → UncutTurns A config number places count (beginning begun resolving before) last → IsUncut count last → IsLostTurn A config number places last after
-      → LosesTurn A config number places turns left (beginning begun resolving before) after
-  loses turns left count begun resolving before after last counted took uncut lost = record { count = count; counted = counted; before = last; took = took; uncut = uncut; lost = lost }
+  pub loses : (turns left count : ℕ) (begun : NodeState) (resolving : ResolvingValue) (before after : OutsideState) (last : TurnState) (node : NodeState) → count + 1 + left ≡ turns
+      → UncutTurns A config number places count (beginning begun resolving before) last → IsUncut count last → IsLostTurn A config number places last node after
+      → LosesTurn A config number places turns left (beginning begun resolving before) node after
+  loses turns left count begun resolving before after last node counted took uncut lost = record { count = count; counted = counted; before = last; took = took; uncut = uncut; lost = lost }
 
   pub turns_are : (n : ℕ) (first last : TurnState) → UncutTurns A config number places n first last → Turns A config number places n first last
   turns_are zero first last turns = turns

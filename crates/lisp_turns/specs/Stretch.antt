@@ -129,7 +129,7 @@ pub record AnswersWaiting (config : ConfigValue) (number places : ℕ) (node : N
 -- a turn was taken, or was lost
 abbrev pub EndsTurn : Type 0 → ConfigValue → (number places : ℕ) → (old new : TurnState) → (done : Bool) → Type 0
 EndsTurn A config number places old new true = IsTurn A config number places old new
-EndsTurn A config number places old new false = IsLostTurn A config number places old new.outside
+EndsTurn A config number places old new false = IsLostTurn A config number places old new.node new.outside
 
 -- a node that begins, with no failure before
 abbrev pub beginning : NodeState → ResolvingValue → OutsideState → TurnState
@@ -150,4 +150,4 @@ abbrev pub EndsTurns : Type 0 → ConfigValue → (number places turns : ℕ) �
 EndsTurns A config number places turns begun node resolving before after (Ok _) =
     StartsTurns A config number places turns begun node resolving before after
 EndsTurns A config number places turns begun node resolving before after (Err lost) =
-    LosesTurn A config number places turns lost.turns_left (beginning begun resolving before) after
+    LosesTurn A config number places turns lost.turns_left (beginning begun resolving before) node after

@@ -181,13 +181,14 @@ pub record IsTurn (A : Type 0) (config : ConfigValue) (number places : ℕ) (old
   pub answers : AnswersRequests config number places new.node now old.resolving new.resolving deeds ended
   pub calls : new.outside ≡ record old.outside { log = logged (turn_calls number reception old.receives now dead intake between served (answered_calls ended deeds)) old.outside.log; moment = now; is_cut = new.outside.is_cut }
 
--- A turn that is lost: what it took in couldn't be committed. No line of it and no answer goes out, and no turn follows it.
-pub record IsLostTurn (A : Type 0) (config : ConfigValue) (number places : ℕ) (old : TurnState) (outside : OutsideState) : Type 0 where
+-- A turn that is lost: what it took in couldn't be committed. No line of it and no answer goes out, and no turn follows it. The node is left
+-- as it was then.
+pub record IsLostTurn (A : Type 0) (config : ConfigValue) (number places : ℕ) (old : TurnState) (between : NodeState) (outside : OutsideState)
+    : Type 0 where
   pub reception : Reception
   pub now : ℕ
   pub dead : List (RouterId × PrefixValue)
   pub intake : Intake
-  pub between : NodeState
   pub hearing : IsHearing A config number places old between now reception dead intake
   pub some : acts_of number intake ≢ []
   pub calls : outside ≡ record old.outside { log = logged (hearing_calls number reception now dead intake false) old.outside.log; moment = now; is_cut = outside.is_cut }
@@ -216,10 +217,11 @@ pub record TakesTurns (A : Type 0) (config : ConfigValue) (number places turns :
   pub cut : count < turns → new.outside.is_cut ≡ true
 
 -- turns, and then one that is lost, behind which so many are left
-pub record LosesTurn (A : Type 0) (config : ConfigValue) (number places turns left : ℕ) (old : TurnState) (outside : OutsideState) : Type 0 where
+pub record LosesTurn (A : Type 0) (config : ConfigValue) (number places turns left : ℕ) (old : TurnState) (node : NodeState)
+    (outside : OutsideState) : Type 0 where
   pub count : ℕ
   pub counted : count + 1 + left ≡ turns
   pub before : TurnState
   pub took : UncutTurns A config number places count old before
   pub uncut : IsUncut count before
-  pub lost : IsLostTurn A config number places before outside
+  pub lost : IsLostTurn A config number places before node outside

@@ -6,3 +6,4 @@ pub mod Places
 pub mod Sending
 pub mod Taken
 pub mod Bound
+pub mod GatheredSites

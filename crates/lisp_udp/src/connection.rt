@@ -1,14 +1,20 @@
-//! A connection of a user's, for one question: a line, then the lines that answer it and the line that closes them, and the end.
+//! A connection of a user's, for one question: a line, then the lines that answer it and the line that closes them, and the end. Sites
+//! that it is about come before that: a line and so many bytes, and a line that answers them.
 
-ghost use Rattle.std.specs.Prelude.{IfOk};
+ghost use Rattle.std.specs.Prelude.{◌≡◌, IfOk, OnErr};
 ghost use Rattle.std.specs.String.{string_bytes};
-ghost use Rattle.lisp_udp.specs.Answers.{ClosesWith, WritesPart};
+ghost use Rattle.lisp_udp.specs.Answers.{AnswersSites, ClosesWith, WritesBeforeLine, WritesPart};
+ghost use Rattle.lisp_udp.specs.declared.connection.Stage.TheVariants as stages;
 
-use lisp_control::{Part, Progress, Question, answer_part, fault_text, outcome_text, question_in};
+use lisp_control::{
+    Part, Progress, Question, Ungathered, answer_part, fault_text, gather, gathered_text,
+    outcome_text, question_in,
+};
 use lisp_files::closed;
 use lisp_log::Replay;
 use lisp_memory::{FallibleVec, Memory};
 use lisp_model::{Line, WorldFault};
+use lisp_policy::Sites;
 use lisp_script::ScriptWhat;
 use lisp_sites::Config;
 use lisp_statistics::Statistics;
@@ -18,11 +24,11 @@ use std::io::{ErrorKind, Read, Write};
 use std::mem;
 use std::os::unix::net::UnixStream;
 
-/// How long a connection may take for its line, and for each part of its answer and each 65,536 bytes of one, in ms.
+/// How long a connection may take for its line, for each part of its answer, and for each 65,536 bytes of one or of sites, in ms.
 pub(crate) const MOST_MS: u64 = 100;
 
-/// How many bytes of its answer it has to take in that time.
-const FEWEST_TAKEN: usize = 65_536;
+/// How many bytes of its answer it has to take in that time, or how many bytes of sites have to come.
+const FEWEST_MOVED: usize = 65_536;
 
 /// The most bytes of a line, its line feed among them.
 const MOST_BYTES: usize = 65_536;
@@ -52,10 +58,12 @@ pub(crate) struct Connection {
     stream: UnixStream,
     // From this moment on it is dropped, in ms.
     end: u64,
-    // How many bytes of its answer it took since its time began.
-    taken: usize,
+    // How many bytes of its answer it took, or of sites came, since its time began.
+    moved: usize,
     // Its time is to begin anew.
     is_renewed: bool,
+    // The sites that it gathered.
+    gathered: Option<Sites>,
     stage: Stage,
 }
 
@@ -64,6 +72,13 @@ pub(crate) struct Connection {
 enum Stage {
     /// These bytes of its line came.
     Asks(Vec<u8>),
+    /// Sites come, in so many bytes.
+    Takes {
+        /// How many bytes are to come.
+        wanted: usize,
+        /// Those that came; what is after them is left out.
+        bytes: Vec<u8>,
+    },
     /// The next part of its answer is to be made.
     Asked(Answering),
     /// The node was told the order.
@@ -74,11 +89,22 @@ enum Stage {
         text: String,
         /// How many bytes of it.
         written: usize,
-        /// The parts after it; `None` where it is the last.
-        rest: Option<Answering>,
+        /// What comes after it.
+        next: Next,
     },
     /// It ended, or failed.
     Ended,
+}
+
+/// What comes after a text that is written.
+#[derive(Drop)]
+enum Next {
+    /// The end.
+    End,
+    /// The next part of the answer.
+    Part(Answering),
+    /// The next line of the connection.
+    Line,
 }
 
 /// An answer of which not all is made.
@@ -93,6 +119,7 @@ impl Stage {
     fn answered(text: Result<String, AllocError>) -> Stage
         ensures closed { IfOk text (λ text.
             ClosesWith ⟦<Global as Memory>⟧.may_refuse (string_bytes text) result) }
+        ensures ended { OnErr text (result ≡ stages.Ended) }
     {
         let Ok(text) = text else {
             return Stage::Ended;
@@ -101,10 +128,35 @@ impl Stage {
             Ok(text) => Stage::Answered {
                 text,
                 written: 0,
-                rest: None,
+                next: Next::End,
             },
             Err(_) => Stage::Ended,
         }
+    }
+
+    // There is the answer to sites, unless memory for it was refused: it isn't closed, since the next line comes after it.
+    fn before_line(text: Result<String, AllocError>) -> Stage
+        ensures line { IfOk text (λ text. WritesBeforeLine text result) }
+        ensures ended { OnErr text (result ≡ stages.Ended) }
+    {
+        match text {
+            Ok(text) => Stage::Answered {
+                text,
+                written: 0,
+                next: Next::Line,
+            },
+            Err(_) => Stage::Ended,
+        }
+    }
+
+    // Sites come, in so many bytes, of which the first came with their line.
+    fn takes(alloc: Global, wanted: usize, first: &[u8]) -> Stage {
+        let mut bytes = Vec::new(alloc);
+        if bytes.make_room_for(first).is_err() {
+            return Stage::Ended;
+        }
+        let _ = bytes.extend_from_slice(first);
+        Stage::Takes { wanted, bytes }
     }
 
     // There is a part of the answer to a question, unless memory for it was refused. The last one is closed.
@@ -121,18 +173,19 @@ impl Stage {
         Stage::Answered {
             text,
             written: 0,
-            rest: Some(Answering { question, progress }),
+            next: Next::Part(Answering { question, progress }),
         }
     }
 
     // All that there is of an answer is written.
-    fn written(self) -> Stage {
-        let Stage::Answered { rest, .. } = self else {
+    fn written(self, alloc: Global) -> Stage {
+        let Stage::Answered { next, .. } = self else {
             return Stage::Ended;
         };
-        match rest {
-            Some(answering) => Stage::Asked(answering),
-            None => Stage::Ended,
+        match next {
+            Next::Part(answering) => Stage::Asked(answering),
+            Next::Line => Stage::Asks(Vec::new(alloc)),
+            Next::End => Stage::Ended,
         }
     }
 }
@@ -144,25 +197,33 @@ impl Connection {
         Some(Connection {
             stream,
             end: now.saturating_add(MOST_MS),
-            taken: 0,
+            moved: 0,
             is_renewed: false,
+            gathered: None,
             stage: Stage::Asks(Vec::new(alloc)),
         })
     }
 
     /// Whether it goes on behind a turn at a moment, in ms: it has something to do yet, and its time isn't over. That begins anew where its
-    /// answer was made, and where it took enough of that.
+    /// answer was made, and where it took enough of that, or gave enough of sites.
     pub(crate) fn goes_on(&mut self, now: u64) -> bool {
         if self.is_renewed {
             self.end = now.saturating_add(MOST_MS);
-            self.taken = 0;
+            self.moved = 0;
             self.is_renewed = false;
         }
         now < self.end && !matches!(self.stage, Stage::Ended)
     }
 
-    /// Reads what came of its line. What that tells the node, if it is whole and does.
+    /// Reads what came of its line, or of sites. What that tells the node, if it is whole and does.
     pub(crate) fn listen(&mut self, node: &AskedNode<'_>) -> Option<Order> {
+        let order = self.hear(node);
+        self.take(node);
+        order
+    }
+
+    // Reads what came of its line.
+    fn hear(&mut self, node: &AskedNode<'_>) -> Option<Order> {
         let Stage::Asks(line) = &mut self.stage else {
             return None;
         };
@@ -174,9 +235,30 @@ impl Connection {
                 return None;
             }
         }
-        let (stage, order) = asked(node, line.as_slice());
+        let (stage, order) = asked(node, &mut self.gathered, line.as_slice());
         self.stage = stage;
         order
+    }
+
+    // Reads what came of sites, and gathers them where all came.
+    fn take(&mut self, node: &AskedNode<'_>) {
+        let Stage::Takes { wanted, bytes } = &mut self.stage else {
+            return;
+        };
+        let before = bytes.len();
+        let heard = read_sites(&mut self.stream, bytes, *wanted);
+        let more = bytes.len().saturating_sub(before);
+        self.moved = self.moved.saturating_add(more);
+        self.is_renewed |= self.moved >= FEWEST_MOVED;
+        match heard {
+            Heard::Whole => {
+                let bytes = &bytes[..(*wanted).min(bytes.len())];
+                self.stage = took(node, &mut self.gathered, bytes);
+                self.is_renewed = true;
+            }
+            Heard::Waits => {}
+            Heard::Ended => self.stage = Stage::Ended,
+        }
     }
 
     /// Answers by the node's core at a moment, in ms, what is counted of it, and the runs of Map-Registers
@@ -199,7 +281,7 @@ impl Connection {
             }
             stage => self.stage = self.outcome(node, stage, outcome),
         }
-        self.write();
+        self.write(node.alloc);
     }
 
     // What came of the order, where there was one.
@@ -219,21 +301,21 @@ impl Connection {
     }
 
     // Writes what the connection takes.
-    fn write(&mut self) {
+    fn write(&mut self, alloc: Global) {
         let Stage::Answered { text, written, .. } = &mut self.stage else {
             return;
         };
         for _ in 0..MOST_CALLS {
             let rest = &text.as_bytes()[(*written).min(text.len())..];
             if rest.is_empty() {
-                self.stage = mem::replace(&mut self.stage, Stage::Ended).written();
+                self.stage = mem::replace(&mut self.stage, Stage::Ended).written(alloc);
                 return;
             }
             match self.stream.write(rest) {
                 Ok(count) => {
                     *written = written.saturating_add(count);
-                    self.taken = self.taken.saturating_add(count);
-                    self.is_renewed |= self.taken >= FEWEST_TAKEN;
+                    self.moved = self.moved.saturating_add(count);
+                    self.is_renewed |= self.moved >= FEWEST_MOVED;
                 }
                 Err(error) if error.kind() == ErrorKind::WouldBlock => return,
                 Err(_) => {
@@ -266,43 +348,80 @@ fn next_part(
     )
 }
 
-/// What came of a line.
+/// What came of a line, or of sites.
+#[derive(Clone, Copy)]
 enum Heard {
-    /// It is whole.
+    /// They are whole.
     Whole,
-    /// Not all of it came yet.
+    /// Not all of them came yet.
     Waits,
-    /// It ended before that, was too long, or the connection failed.
+    /// They ended before that, were too long, or the connection failed.
     Ended,
 }
 
 // Puts what came of a line behind what came of it before.
 fn read_line(stream: &mut UnixStream, line: &mut Vec<u8>) -> Heard {
-    let mut buffer = [0; ROOM];
     for _ in 0..MOST_CALLS {
-        let count = match stream.read(&mut buffer) {
-            Ok(0) => return Heard::Ended,
-            Ok(count) => count.min(ROOM),
-            Err(error) if error.kind() == ErrorKind::WouldBlock => return Heard::Waits,
-            Err(_) => return Heard::Ended,
-        };
-        let bytes = &buffer[..count];
-        let is_long = line.len().saturating_add(count) > MOST_BYTES;
-        if is_long || line.make_room_for(bytes).is_err() {
+        let before = line.len();
+        if let Err(heard) = read_once(stream, line) {
+            return heard;
+        }
+        if line.len() > MOST_BYTES {
             return Heard::Ended;
         }
-        let _ = line.extend_from_slice(bytes);
-        if bytes.contains(&b'\n') {
+        if line[before.min(line.len())..].contains(&b'\n') {
             return Heard::Whole;
         }
     }
     Heard::Waits
 }
 
-// What a line asks of the node, or tells it.
-fn asked(node: &AskedNode<'_>, bytes: &[u8]) -> (Stage, Option<Order>) {
-    match question_of(node, bytes) {
+// Puts what came of sites behind what came of them before, until so many bytes came.
+fn read_sites(stream: &mut UnixStream, bytes: &mut Vec<u8>, wanted: usize) -> Heard {
+    for _ in 0..MOST_CALLS {
+        if bytes.len() >= wanted {
+            return Heard::Whole;
+        }
+        if let Err(heard) = read_once(stream, bytes) {
+            return heard;
+        }
+    }
+    Heard::Waits
+}
+
+// Reads once, and puts what came behind what came before; why nothing came.
+fn read_once(stream: &mut UnixStream, bytes: &mut Vec<u8>) -> Result<(), Heard> {
+    let mut buffer = [0; ROOM];
+    let count = match stream.read(&mut buffer) {
+        Ok(0) => return Err(Heard::Ended),
+        Ok(count) => count.min(ROOM),
+        Err(error) if error.kind() == ErrorKind::WouldBlock => return Err(Heard::Waits),
+        Err(_) => return Err(Heard::Ended),
+    };
+    let more = &buffer[..count];
+    if bytes.make_room_for(more).is_err() {
+        return Err(Heard::Ended);
+    }
+    let _ = bytes.extend_from_slice(more);
+    Ok(())
+}
+
+// What a line asks of the node, by the sites that were gathered, or tells it; what came after the line is the first of sites.
+fn asked(
+    node: &AskedNode<'_>,
+    gathered: &mut Option<Sites>,
+    bytes: &[u8],
+) -> (Stage, Option<Order>) {
+    let end = bytes
+        .iter()
+        .position(|byte| *byte == b'\n')
+        .unwrap_or(bytes.len());
+    match question_of(node, gathered, &bytes[..end.min(bytes.len())]) {
         Ok(Question::Tell(order)) => (Stage::Told, Some(order)),
+        Ok(Question::Sites(wanted)) => {
+            let first = &bytes[end.saturating_add(1).min(bytes.len())..];
+            (Stage::takes(node.alloc, wanted, first), None)
+        }
         Ok(question) => {
             let progress = Progress::Asked;
             (Stage::Asked(Answering { question, progress }), None)
@@ -311,11 +430,39 @@ fn asked(node: &AskedNode<'_>, bytes: &[u8]) -> (Stage, Option<Order>) {
     }
 }
 
-fn question_of(node: &AskedNode<'_>, bytes: &[u8]) -> Result<Question, ScriptWhat> {
-    let end = bytes.iter().position(|byte| *byte == b'\n');
-    let line = match str::from_utf8(&bytes[..end.unwrap_or(bytes.len())]) {
-        Ok(line) => line,
-        Err(_) => return Err(ScriptWhat::Word),
+fn question_of(
+    node: &AskedNode<'_>,
+    gathered: &mut Option<Sites>,
+    line: &[u8],
+) -> Result<Question, ScriptWhat> {
+    let Ok(line) = str::from_utf8(line) else {
+        return Err(ScriptWhat::Word);
     };
-    question_in(node.alloc, node.config, node.number, node.name, line)
+    question_in(
+        node.alloc,
+        node.config,
+        node.number,
+        node.name,
+        line,
+        gathered,
+    )
+}
+
+// Gathers sites of which all bytes came. What is written then: how many are gathered, and the next line comes; or the fault of sites, and
+// the end. Nothing more where memory ran out.
+fn took(node: &AskedNode<'_>, gathered: &mut Option<Sites>, bytes: &[u8]) -> Stage
+    ensures { AnswersSites node.now.config.now node.now.number gathered.old gathered.new bytes.now
+        result }
+{
+    let AskedNode {
+        alloc,
+        config,
+        number,
+        ..
+    } = *node;
+    match gather(alloc, alloc, gathered, bytes) {
+        Ok(count) => Stage::before_line(gathered_text(alloc, config, number, count)),
+        Err(Ungathered::Sites) => Stage::answered(fault_text(alloc, ScriptWhat::Record)),
+        Err(Ungathered::OutOfMemory) => Stage::Ended,
+    }
 }

@@ -1,11 +1,11 @@
-//! The lives of a node that begins anew where its store couldn't commit.
+//! The lives of a Map-Server that begins anew where its store couldn't commit.
 
 ghost use Rattle.std.specs.Prelude.{IfOk};
 ghost use Rattle.lisp_database_store.specs.Keeper.{shared_store};
 ghost use Rattle.lisp_udp.specs.Lives.{Lives, SaysRestarted};
 ghost use Rattle.lisp_sites.specs.Numbers.{IsMapServer};
 
-use crate::life::run_over;
+use crate::life::serve_over;
 use crate::resolving::Answering;
 use lisp_database_store::{SharedDatabase, SystemTable};
 use lisp_model::Line;
@@ -19,8 +19,9 @@ const REST_MS: u64 = 1_000;
 
 /// Runs the Map-Server with a number over a store in the database, in so many turns of so many datagrams. Where a turn couldn't be
 /// committed, it says that it restarted, rests, and begins anew over a store in that database, with the turns that are left: as a
-/// crash would have it. Each life begins at the moment that the clock tells then. What is outside is given back. Faults: those of the
-/// start, then that of what is outside, then 97; at a later start 97.
+/// crash would have it. Each life begins at the moment that the clock tells then: the first one under the sites of the configuration, each
+/// other one under those that the Map-Server had last. What is outside is given back. Faults: that of what is outside, or 97; at a
+/// later start 97.
 pub(crate) fn live<
     T: SystemTable,
     O: Endpoint + Requests + Clock + Commit + Lines + Control + Drop,
@@ -39,9 +40,10 @@ pub(crate) fn live<
         (λ after. Lives Global config.now number shared_store places answering turns (O.seen before)
         (O.seen after))) }
 {
+    let sites = config.sites().copy(alloc)?;
     let store = database.store();
-    let mut life = run_over(
-        alloc, config, number, store, places, answering, turns, outside,
+    let mut life = serve_over(
+        alloc, config, sites, number, store, places, answering, turns, outside,
     )?;
     while let Err(Uncommitted { turns_left }) = life.ended {
         let mut outside = life.outside;
@@ -49,10 +51,12 @@ pub(crate) fn live<
         if outside.is_cut() {
             return Ok(outside);
         }
+        let sites = life.node.stop();
         let store = database.store();
-        life = run_over(
+        life = serve_over(
             alloc,
             config,
+            sites,
             number,
             store,
             places,

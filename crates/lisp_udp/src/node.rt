@@ -9,7 +9,7 @@ use crate::entry::{NodeKind, entry_at, number_named};
 use crate::folder::open_folder;
 use crate::inbox::inbox_at;
 use crate::journal::Journal;
-use crate::life::run_over;
+use crate::life::{route_over, serve_over};
 use crate::line_writer::LineWriter;
 use crate::lives::live;
 use crate::printer::Printer;
@@ -173,17 +173,17 @@ fn run_alone<'a, T: SystemTable, S: WorldStore + Drop, P: Printer + Drop>(
     let address = entry_at(config, number).address;
     let devices = Devices::<_, T, _>::open(rt, address, inbox, None, control, saves, printer);
     let store = TimedStore::over(store, saves);
-    let life = run_over(
-        rt.alloc(),
-        config,
-        number,
-        store,
-        1,
-        answering,
-        turns,
-        devices,
-    )?;
-    Ok(life.outside.into_printer())
+    let alloc = rt.alloc();
+    let outside = if config.is_server(number) {
+        let sites = config.sites().copy(alloc)?;
+        serve_over(
+            alloc, config, sites, number, store, 1, answering, turns, devices,
+        )?
+        .outside
+    } else {
+        route_over(alloc, config, number, store, 1, answering, turns, devices)?.outside
+    };
+    Ok(outside.into_printer())
 }
 
 // Runs the Map-Server with a number over a database, to which groups of so many datagrams are committed.

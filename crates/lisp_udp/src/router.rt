@@ -81,7 +81,8 @@ pub(crate) fn start_router<S: WorldStore + Drop>(
     now: u64,
 ) -> Result<RouterNode<S>, RunFault>
     requires { (length config.now.servers ≤ number) × (number < node_count config.now) }
-    ensures { IfOk result (λ n. Begins config.now number (S.seen store) now (Router n)) }
+    ensures { IfOk result (λ n. Begins config.now config.now.sites number (S.seen store) now
+        (Router n)) }
 {
     let place = number - config.servers().len();
     let router = router_node(alloc, config, place, store)?;

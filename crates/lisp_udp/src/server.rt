@@ -1,6 +1,6 @@
 //! A Map-Server on a socket.
 
-ghost use Rattle.std.specs.Prelude.{◌<◌, IfOk, length};
+ghost use Rattle.std.specs.Prelude.{◌<◌, length};
 ghost use Rattle.lisp_turns.specs.Beginning.{Begins};
 ghost use Rattle.lisp_turns.specs.Node.{Server};
 
@@ -10,6 +10,7 @@ use crate::subject::{Stretch, Subject, run_subject};
 use lisp_database_store::SystemTable;
 use lisp_nodes::ServerNode;
 use lisp_nonces::WorldStore;
+use lisp_policy::Sites;
 use lisp_script::RunFault;
 use lisp_sites::Config;
 use std::alloc::Global;
@@ -73,17 +74,17 @@ pub fn keep_server_running<T: SystemTable>(
     Ok(())
 }
 
-/// The Map-Server with a number, which holds nothing, over its store; its life begins at a moment, in ms. Fault: 97.
+/// The Map-Server with a number, which holds nothing, of these sites over its store; its life begins at a moment, in ms.
 pub(crate) fn start_server<S: WorldStore + Drop>(
     alloc: Global,
     config: &Config,
+    sites: Sites,
     number: usize,
     store: S,
     now: u64,
-) -> Result<ServerNode<S>, RunFault>
+) -> ServerNode<S>
     requires { number < length config.now.servers }
-    ensures { IfOk result (λ n. Begins config.now number (S.seen store) now (Server n)) }
+    ensures { Begins config.now sites number (S.seen store) now (Server result) }
 {
-    let sites = config.sites().copy(alloc)?;
-    Ok(ServerNode::start_at(alloc, sites, store, now))
+    ServerNode::start_at(alloc, sites, store, now)
 }

@@ -10,6 +10,7 @@ use Rattle.lisp_check.specs.declared.warning.Warning.{Warning}
 use Rattle.lisp_check.specs.Warning.{IsWarned, AreThose, of_all}
 use Rattle.lisp_check.specs.Line.{IsHeaderLine}
 use Rattle.lisp_check.specs.Words.{lined, warning_text}
+use Rattle.lispd_cli.specs.declared.check.Checked.{Checked}
 
 -- at Ok a text was made, and written as a line
 abbrev pub WritesLine : {X E F W Z : Type 0} → Result X E → Result (String Z) F → (W → Option (List ℕ)) → W → W → Type 0
@@ -82,3 +83,14 @@ pub record Warns {W : Type 0} (c : ConfigValue) (text : List ℕ) (is_open : Boo
 -- those of the configuration that a text is
 abbrev pub WarnsOfText : {W : Type 0} → List ℕ → (W → Option (List ℕ)) → W → W → Bool → Type 0
 WarnsOfText path contents old new warned = (text : List ℕ) × (c : ConfigValue) × (is_open : Bool) × (config_of (parse_document text) ≡ Ok c) × Warns c text is_open path contents old new warned
+
+-- a configuration that was read is that of its document, whose text is that of its file
+pub record IsChecked (checked : Checked) : Type 0 where
+  pub config : config_of (parse_document checked.document.text) ≡ Ok checked.config
+  pub text : string_bytes checked.source.text ≡ checked.document.text
+
+-- whether it has warnings
+pub record HasWarnings (checked : Checked) (warned : Bool) : Type 0 where
+  pub all : Vec (String Global) Global
+  pub warnings : AreWarnings checked.config checked.document.text checked.source.is_open_to_others all
+  pub warned_is : warned ≡ not (length all.items == 0)

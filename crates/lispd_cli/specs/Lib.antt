@@ -5,3 +5,4 @@ pub mod Question
 pub mod Asking
 pub mod Check
 pub mod PrintedLine
+pub mod Reloading

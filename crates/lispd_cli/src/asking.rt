@@ -7,10 +7,11 @@ ghost use Rattle.lispd_cli.specs.declared.fault.ProgramFault.TheVariants.{Answer
 ghost use Rattle.lisp_answer.specs.declared.fault.AnswerFault.TheVariants as answers;
 
 use crate::advice::advice_of;
-use crate::command_line::{FOLDER, FORCE, PROMETHEUS, QUESTION};
+use crate::command_line::{FOLDER, FORCE, PROMETHEUS, QUESTION, RELOAD};
 use crate::failure::Failure;
 use crate::fault::ProgramFault;
 use crate::printed_line::fault_of;
+use crate::reloading::reload_sites;
 use crate::words::{is_given, word};
 use clap::ArgMatches;
 use lisp_answer::AnswerFault;
@@ -27,7 +28,7 @@ use std::rt::Files;
 use std::time::Duration;
 
 /// How long the next part of an answer may take, in seconds.
-const PATIENCE: u64 = 10;
+pub(crate) const PATIENCE: u64 = 10;
 
 /// The number of a record that its site doesn't allow.
 const NOT_ALLOWED: u16 = 55;
@@ -46,16 +47,23 @@ pub enum Errand {
 
 /// Asks the node that runs over a folder, or tells it what to do, and prints its answer. Before it tells a router to register other
 /// records it asks which of them the router's site doesn't allow; it warns of each on standard error, and doesn't tell it then, but
-/// with `--force`. Faults: 80 where it is asked an order, or told a question; 99 where no node answers, or its answer is cut off;
-/// those of the line, 80 to 86; what keeps the node from doing what it is told, 55 where a record isn't allowed, with the status 3;
-/// 88 where the answer can't be written; 97.
-pub fn ask_node<R: Eprint + Files + Net + AllocGlobal, W: Write>(
+/// with `--force`. A Map-Server is told the sites of a configuration as `reload_sites` says. Faults: 80 where it is asked an order, or
+/// told a question; 99 where no node answers, or its answer is cut off; those of the line, 80 to 86; what keeps the node from doing what
+/// it is told, 55 where a record isn't allowed, with the status 3; 88 where the answer can't be written; 97.
+pub fn ask_node<R: Input + Eprint + Files + Net + AllocGlobal, W: Write>(
     rt: &R,
     errand: Errand,
     words: &ArgMatches<'_>,
     writer: &mut W,
 ) -> Result<(), Failure> {
-    match ask(rt, errand, words, writer) {
+    let question = match question(rt.alloc(), words) {
+        Ok(question) => question,
+        Err(error) => return Err(Failure::from(ProgramFault::from(error))),
+    };
+    if errand == Errand::Tell && first_word(question.as_str()) == RELOAD {
+        return reload_sites(rt, words, writer);
+    }
+    match ask(rt, errand, words, question.as_str(), writer) {
         Ok(()) => Ok(()),
         Err(fault) => Err(Failure {
             fault,
@@ -68,18 +76,23 @@ fn ask<R: Eprint + Files + Net + AllocGlobal, W: Write>(
     rt: &R,
     errand: Errand,
     words: &ArgMatches<'_>,
+    question: &str,
     writer: &mut W,
 ) -> Result<(), ProgramFault> {
-    let question = question(rt.alloc(), words)?;
-    if errand_of(question.as_str()) != errand {
+    if errand_of(question) != errand {
         return Err(bad_line(ScriptWhat::Word.number()));
     }
-    let path = String::try_format(rt.alloc(), format_args!("{}/control", word(words, FOLDER)))?;
+    let path = control_path(rt.alloc(), word(words, FOLDER))?;
     if errand == Errand::Tell && !is_given(words, FORCE) {
-        check_change(rt, path.as_str(), question.as_str())?;
+        check_change(rt, path.as_str(), question)?;
     }
-    let answer = answer(rt, path.as_str(), question.as_str())?;
+    let answer = answer(rt, path.as_str(), question)?;
     print_answer(errand, answer.as_str(), writer)
+}
+
+/// The socket at which the node of a folder is asked.
+pub(crate) fn control_path(alloc: Global, folder: &str) -> Result<String, AllocError> {
+    String::try_format(alloc, format_args!("{folder}/control"))
 }
 
 // What is wrong with the question or the order, in words; `None` where the fault's own words say it, or there is no memory.
@@ -89,16 +102,19 @@ fn details(alloc: Global, errand: Errand, fault: ProgramFault) -> Option<String>
             let words = advice_of(errand, fault.number)?.words();
             String::try_from_str(alloc, words).ok()
         }
-        ProgramFault::Refused(number) => {
-            let (meaning, remedy) = (meaning(number)?, remedy(number)?);
-            String::try_format(
-                alloc,
-                format_args!("the node doesn't do it: {meaning}: {remedy}"),
-            )
-            .ok()
-        }
+        ProgramFault::Refused(number) => refusal_words(alloc, number),
         _ => None,
     }
+}
+
+/// Why a node doesn't do what it is told, in words; `None` where there is no memory.
+pub(crate) fn refusal_words(alloc: Global, number: u16) -> Option<String> {
+    let (meaning, remedy) = (meaning(number)?, remedy(number)?);
+    String::try_format(
+        alloc,
+        format_args!("the node doesn't do it: {meaning}: {remedy}"),
+    )
+    .ok()
 }
 
 // Warns of each record of an order to register other records that the router's site doesn't allow, and refuses the order then. Where
@@ -150,7 +166,7 @@ fn disallows(answer: &str) -> bool
     }
 }
 
-fn first_line(answer: &str) -> &str
+pub(crate) fn first_line(answer: &str) -> &str
     ensures { result.now ≡ first_line answer.now }
 {
     match answer.split_once('\n') {
@@ -181,12 +197,12 @@ fn errand_of(question: &str) -> Errand
     ensures { result ≡ errand_of question.now }
 {
     match first_word(question) {
-        "change" | "notice" | "rotate" => Errand::Tell,
+        "change" | "notice" | "reload" | "rotate" => Errand::Tell,
         _ => Errand::Ask,
     }
 }
 
-fn first_word(question: &str) -> &str
+pub(crate) fn first_word(question: &str) -> &str
     ensures { result.now ≡ first_word question.now }
 {
     match question.split_once(' ') {
@@ -195,7 +211,7 @@ fn first_word(question: &str) -> &str
     }
 }
 
-fn behind_word(line: &str) -> &str
+pub(crate) fn behind_word(line: &str) -> &str
     ensures { result.now ≡ behind_word line.now }
 {
     match line.split_once(' ') {
@@ -204,14 +220,14 @@ fn behind_word(line: &str) -> &str
     }
 }
 
-fn third_word(line: &str) -> &str
+pub(crate) fn third_word(line: &str) -> &str
     ensures { result.now ≡ third_word line.now }
 {
     first_word(behind_word(behind_word(line)))
 }
 
-// What the node answers to a question at its socket, until it closes that.
-fn answer<R: Files + Net + AllocGlobal>(
+/// What the node answers to a question at its socket, until it closes that.
+pub(crate) fn answer<R: Files + Net + AllocGlobal>(
     rt: &R,
     path: &str,
     question: &str,
@@ -234,8 +250,12 @@ fn read_answer<R: Files + Net + AllocGlobal>(
     io::read_to_string(rt.alloc(), stream)
 }
 
-// Prints an answer without the line that closes it. One that is cut off is none.
-fn print_answer<W: Write>(errand: Errand, answer: &str, writer: &mut W) -> Result<(), ProgramFault>
+/// Prints an answer without the line that closes it. One that is cut off is none.
+pub(crate) fn print_answer<W: Write>(
+    errand: Errand,
+    answer: &str,
+    writer: &mut W,
+) -> Result<(), ProgramFault>
     ensures { PrintsAnswer errand answer.now (W.contents writer.old)
         (W.contents writer.new) result }
 {
@@ -293,8 +313,8 @@ fn refused_in(lines: &str) -> Option<u16>
     }
 }
 
-// The fault of a line that is no question and no order, where an answer says so.
-fn fault_in(lines: &str) -> Option<u16>
+/// The fault of a line that is no question and no order, where an answer says so.
+pub(crate) fn fault_in(lines: &str) -> Option<u16>
     ensures { result ≡ fault_in lines.now }
 {
     let (word, number) = lines.split_once(' ')?;
@@ -307,7 +327,7 @@ fn fault_in(lines: &str) -> Option<u16>
     }
 }
 
-fn bad_line(number: u16) -> ProgramFault
+pub(crate) fn bad_line(number: u16) -> ProgramFault
     ensures { result ≡ bad_line number }
 {
     ProgramFault::Run(RunFault { number, line: 0 })

@@ -1,8 +1,8 @@
 //! What was understood of a configuration, a line for each site and each node; and its warnings.
 
-ghost use Rattle.std.specs.Prelude.{◌≡◌, map, string_bytes, IfOk};
+ghost use Rattle.std.specs.Prelude.{◌≡◌, true, false, map, string_bytes, IfOk, OnOk};
 ghost use Rattle.lisp_check.specs.Words.{warning_text};
-ghost use Rattle.lispd_cli.specs.Check.{WritesLine, WritesSome, Writes, AddsWords, AddsLined, Warns, WarnsOfText, warning_of, warning_lines, words_of_mode, AreWarnings};
+ghost use Rattle.lispd_cli.specs.Check.{WritesLine, WritesSome, Writes, AddsWords, AddsLined, Warns, WarnsOfText, warning_of, warning_lines, words_of_mode, AreWarnings, IsChecked, HasWarnings};
 
 use crate::failure::Failure;
 use crate::fault::ProgramFault;
@@ -23,7 +23,31 @@ use std::alloc::{AllocError, Global};
 use std::fmt::Display;
 use std::fs::Files;
 use std::io::Write;
-use std::str;
+
+/// A configuration that was read, with its document and the keys and tables there that no configuration has.
+#[derive(Drop)]
+pub(crate) struct Checked {
+    source: Source,
+    document: Document,
+    unknown: Vec<Unknown>,
+    config: Config,
+}
+
+impl Checked {
+    /// The text that was read.
+    pub(crate) fn text(&self) -> &str
+        ensures { result.now ≡ string_bytes self.now.source.text }
+    {
+        self.source.text.as_str()
+    }
+
+    /// The configuration that it is.
+    pub(crate) fn config(&self) -> &Config
+        ensures { result.now ≡ self.now.config }
+    {
+        &self.config
+    }
+}
 
 /// Reads the configuration of a file, of standard input where the path is `-`, and prints a line for each site, Map-Server and
 /// router of it, then one for each warning: of keys that aren't known and of secrets, then of what may not be meant, then that others
@@ -36,22 +60,114 @@ pub fn check_config<R: Input + Files + AllocGlobal, W: Write>(
 ) -> Result<bool, Failure>
     ensures warns { IfOk result (WarnsOfText path.now W.contents writer.old writer.new) }
 {
+    let checked = read_checked(rt, path)?;
+    let has_warnings = print_findings(rt.alloc(), path, &checked, writer)?;
+    accept(rt.alloc(), &checked, false, has_warnings)?;
+    Ok(has_warnings)
+}
+
+/// Reads the configuration of a file, of standard input where the path is `-`. At a fault of the configuration the failure's details say
+/// where it is, and name further faults.
+pub(crate) fn read_checked<R: Input + Files + AllocGlobal>(
+    rt: &R,
+    path: &str,
+) -> Result<Checked, Failure>
+    ensures { IfOk result IsChecked }
+{
     let source = read_source(rt, path)?;
-    let Ok(text) = str::from_utf8(&source.bytes) else {
-        return Err(Failure::from(PlayFault::NotUtf8));
-    };
-    let alloc = rt.alloc();
+    check_source(rt.alloc(), source)
+}
+
+// The configuration that a text is.
+fn check_source(alloc: Global, source: Source) -> Result<Checked, Failure>
+    ensures { IfOk result IsChecked }
+{
+    let text = source.text.as_str();
     let config = match Config::read(alloc, alloc, text) {
         Ok(config) => config,
         Err(placed) => return Err(placed_failure(alloc, text, &placed)),
     };
     let document = document_of(alloc, text)?;
     let unknown = unknown_in(alloc, &document)?;
-    let has_warnings = print_checked(alloc, path, &source, &document, &unknown, &config, writer)?;
-    if let Some(failure) = ignored_failure(alloc, &unknown)? {
+    Ok(Checked {
+        source,
+        document,
+        unknown,
+        config,
+    })
+}
+
+/// Prints a line for each site, Map-Server and router of a configuration, then its warnings. Returns whether there are any.
+pub(crate) fn print_findings<W: Write>(
+    alloc: Global,
+    path: &str,
+    checked: &Checked,
+    writer: &mut W,
+) -> Result<bool, InputFault>
+    ensures { IfOk result (Warns checked.now.config checked.now.document.text
+        checked.now.source.is_open_to_others path.now W.contents writer.old writer.new) }
+{
+    print_checked(
+        alloc,
+        path,
+        &checked.source,
+        &checked.document,
+        &checked.unknown,
+        &checked.config,
+        writer,
+    )
+}
+
+/// Prints the warnings of a configuration on standard error. Returns whether there are any.
+pub(crate) fn tell_warnings<R: Eprint + AllocGlobal>(
+    rt: &R,
+    path: &str,
+    checked: &Checked,
+) -> Result<bool, InputFault>
+    ensures { IfOk result (HasWarnings checked.now) }
+{
+    let alloc = rt.alloc();
+    let lines = warning_words(
+        alloc,
+        &checked.source,
+        &checked.document,
+        &checked.unknown,
+        &checked.config,
+    )?;
+    eprint_warnings(rt, path, &lines)?;
+    let has_warnings = !lines.is_empty();
+    Ok(has_warnings)
+}
+
+fn eprint_warnings<R: Eprint + AllocGlobal>(
+    rt: &R,
+    path: &str,
+    lines: &[String],
+) -> Result<(), AllocError> {
+    for line in lines {
+        let warning = warning_of(rt.alloc(), path, line)?;
+        let _ = eprintln!(rt; "{warning}");
+    }
+    Ok(())
+}
+
+/// Whether a configuration may be used: `ProgramFault::Warnings` (25) where a table of it is ignored, with a line for each; and, where
+/// that is asked for, where it has warnings.
+pub(crate) fn accept(
+    alloc: Global,
+    checked: &Checked,
+    is_strict: bool,
+    has_warnings: bool,
+) -> Result<(), Failure>
+    ensures strict { OnOk result (is_strict ≡ true → has_warnings ≡ false) }
+{
+    if let Some(failure) = ignored_failure(alloc, &checked.unknown)? {
         return Err(failure);
     }
-    Ok(has_warnings)
+    if is_strict && has_warnings {
+        return Err(Failure::from(ProgramFault::Warnings));
+    }
+    Ok(())
 }
 
 fn document_of(alloc: Global, text: &str) -> Result<Document, InputFault>

@@ -14,6 +14,12 @@ use std::alloc::{AllocError, Global};
 /// The subcommand that checks a configuration.
 pub const CHECK: &str = "check";
 
+/// The subcommand that tells a node what to do.
+pub const TELL: &str = "tell";
+
+/// What it tells a Map-Server that is to take the sites of a configuration.
+pub const RELOAD: &str = "reload";
+
 /// The argument of `play`, `draw` and `loop`.
 pub const FILE: &str = "FILE";
 
@@ -80,8 +86,11 @@ pub const LIST: &str = "LIST";
 /// The switch of `forget` that removes.
 pub const REMOVE: &str = "remove";
 
-/// The switch of `check` that makes warnings a fault.
+/// The switch of `check` and `tell` that makes warnings a fault.
 pub const STRICT: &str = "strict";
+
+/// The option of `check` for the folder of a node that runs.
+pub const AGAINST: &str = "against";
 
 /// The switch of `draw` for lines of text.
 pub const TEXT: &str = "text";
@@ -226,7 +235,7 @@ static ASKING: [Subcommand; 6] = [
         ],
     },
     Subcommand {
-        name: "tell",
+        name: TELL,
         about: TELL_ABOUT,
         after_help: Some(TELL_FORM),
         arguments: &[
@@ -235,6 +244,10 @@ static ASKING: [Subcommand; 6] = [
             Argument::Switch {
                 name: FORCE,
                 help: "Send `change` also where the router's site doesn't allow a record",
+            },
+            Argument::Switch {
+                name: STRICT,
+                help: "Don't send `reload` where the configuration has a warning",
             },
             WORDS_ARGUMENT,
         ],
@@ -316,6 +329,12 @@ Map-Server is reached",
             Argument::Switch {
                 name: STRICT,
                 help: "End with status 2 where a warning is printed",
+            },
+            Argument::Value {
+                name: AGAINST,
+                letters: "FOLDER",
+                is_required: false,
+                help: "Print also what `lispd tell FOLDER reload CONFIG` would do to the Map-Server that runs over that folder, which changes nothing there",
             },
             WORDS_ARGUMENT,
         ],

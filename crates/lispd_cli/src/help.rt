@@ -128,6 +128,7 @@ pub(crate) const TELL_ABOUT: &str =
 /// What a node is told, for its help.
 pub(crate) const TELL_FORM: &str = "A Map-Server is told:
   notice ROUTER       to send the router an unsolicited Map-Notify of what it holds of it
+  reload CONFIG       to take the sites of the file from now on, without a restart
 and a router:
   change RECORD ..    to register these records from now on, or `empty`; the configuration stays as it is
   rotate KEY          to go over to another key of its site; the configuration stays as it is
@@ -136,8 +137,14 @@ The status is 3 where it doesn't do so; its answer says why. Where the router's 
 Map-Server would refuse the whole Map-Register: each such record is a warning on standard error, and the router isn't told,
 but with --force.
 
-Example:
-  lispd tell nonces/s1 notice r1";
+`reload` checks the file as `lispd check` does, its warnings on standard error, and tells nothing at a fault of it. It prints what it
+would do, then the Map-Server's answer: `kept`, all rows, where the sites have all that those before had; else `restarted`, with no rows,
+each of which is printed before, as `leaves ..`; the routers register again. Where the file has other nodes than the Map-Server runs
+with, nothing is told (142). A router isn't told: restart it. Its nonces are kept, and so are its rows at its Map-Servers.
+
+Examples:
+  lispd tell nonces/s1 notice r1
+  lispd tell nonces/s1 reload lispd.toml --strict";
 
 /// What `look` does, for its help.
 pub(crate) const LOOK_ABOUT: &str =
@@ -183,7 +190,14 @@ pub(crate) const CHECK_ABOUT: &str =
 pub(crate) const CHECK_WARNS: &str =
     "A line `warning: ..` says what may not be meant, as an unknown key, a short secret or a record that no Map-Server takes. At a \
 fault nothing is printed, and standard error names its entry, with its line and its value; then further faults, at most 20. A table \
-that no configuration has is fault 25.";
+that no configuration has is fault 25.
+
+With --against it asks the Map-Server that runs over the folder what `lispd tell FOLDER reload CONFIG` would do, which has to have the
+same nodes (142): `compared NAME sites N kept`, or `restarted` where its rows would leave; `comes SITE` and `goes SITE` for each site
+that is new, or is no more there; and `leaves ..` for each row that would leave.
+
+Example:
+  lispd check lispd.toml --against nonces/s1";
 
 /// What `explain` does, for its help.
 pub(crate) const EXPLAIN_ABOUT: &str =

@@ -1,5 +1,5 @@
 //! The words of the program `lispd`: its subcommands with their arguments and help, the options of `answer`, what is reported
-//! of a fault that ends it; the subcommands that need no network, those that ask a node that runs, and the one that asks a Map-Server.
+//! of a fault that ends it; the subcommands that run no node, those that ask a node that runs, and the one that asks a Map-Server.
 //!
 //! # Decisions
 //!
@@ -11,6 +11,7 @@
 //! - The conversions into `ProgramFault` are written out and not derived, since a derived `From` promises nothing of its
 //!   result.
 //! - `ask` takes no order, and `tell` no question, so that a word that is mistyped never changes a node.
+//! - A Map-Server is told the text of a configuration, and not the sites that were read of it: so both read one text by one function.
 //! - `explain` takes a line as it was printed, whatever a log put in front of it.
 #![tactic(auto)]
 
@@ -28,6 +29,7 @@ mod option;
 mod options;
 mod printed_line;
 mod question;
+mod reloading;
 mod remedy;
 mod reporting;
 mod source;
@@ -37,8 +39,8 @@ mod words;
 pub use asking::{Errand, ask_node};
 pub use check::check_config;
 pub use command_line::{
-    BUDGET, CONFIG, CONTROL, DATABASE, FILE, FOLDER, GROUP, KNOWN, LIST, NAME, NUMBER, QUESTION,
-    QUIET, REMOVE, STORE, STRICT, TEXT, TURNS, WORDS, command,
+    AGAINST, BUDGET, CONFIG, CONTROL, DATABASE, FILE, FOLDER, GROUP, KNOWN, LIST, NAME, NUMBER,
+    QUESTION, QUIET, REMOVE, STORE, STRICT, TEXT, TURNS, WORDS, command,
 };
 pub use failure::Failure;
 pub use fault::{ProgramFault, SetupFault};

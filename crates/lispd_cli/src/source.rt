@@ -15,15 +15,16 @@ const PATH_OF_INPUT: &str = "-";
 /// The bits of a file's mode by which others than its owner can read, write or run it.
 const OTHERS: u32 = 0o077;
 
-/// The bytes of a configuration.
+/// The text of a configuration.
 #[derive(Drop)]
 pub(crate) struct Source {
-    pub(crate) bytes: Vec<u8>,
+    pub(crate) text: String,
     /// Others than its owner can read its file.
     pub(crate) is_open_to_others: bool,
 }
 
-/// Reads a file, or standard input, by the two bounds of an input. Faults: 93 where the file can't be opened, 87, 89, 97.
+/// Reads a file, or standard input, by the two bounds of an input. Faults: 93 where the file can't be opened, 87, 89, 97; 95
+/// where it isn't UTF-8.
 pub(crate) fn read_source<R: Input + Files + AllocGlobal>(
     rt: &R,
     path: &str,
@@ -31,7 +32,7 @@ pub(crate) fn read_source<R: Input + Files + AllocGlobal>(
     let alloc = rt.alloc();
     if path == PATH_OF_INPUT {
         return Ok(Source {
-            bytes: read_bytes(alloc, STANDARD_INPUT, rt.reader())?,
+            text: read_text(alloc, STANDARD_INPUT, rt.reader())?,
             is_open_to_others: false,
         });
     }
@@ -47,12 +48,19 @@ pub(crate) fn read_source<R: Input + Files + AllocGlobal>(
         return Err(Failure::from(PlayFault::OutOfMemory));
     };
     Ok(Source {
-        bytes: read_bytes(alloc, path, reader)?,
+        text: read_text(alloc, path, reader)?,
         is_open_to_others,
     })
 }
 
-// The bytes that the reader of a path has left.
+// The text that the reader of a path has left.
+fn read_text<R: Read + Drop>(alloc: Global, path: &str, reader: R) -> Result<String, Failure> {
+    match String::from_utf8(read_bytes(alloc, path, reader)?) {
+        Ok(text) => Ok(text),
+        Err(_) => Err(Failure::from(PlayFault::NotUtf8)),
+    }
+}
+
 fn read_bytes<R: Read + Drop>(alloc: Global, path: &str, reader: R) -> Result<Vec<u8>, Failure> {
     let mut reader = WatchedReader::over(reader);
     match read_to_end(alloc, &mut reader) {

@@ -1,11 +1,12 @@
-//! The subcommands that need no network.
+//! The subcommands that run no node, and ask none but where `check` is to.
 
-use crate::check::check_config;
-use crate::command_line::{CHECK, CONFIG, NUMBER, STRICT};
+use crate::check::{accept, print_findings, read_checked};
+use crate::command_line::{AGAINST, CHECK, CONFIG, NUMBER, STRICT};
 use crate::explanation::explain_line;
 use crate::failure::Failure;
 use crate::fault::ProgramFault;
 use crate::options::setup;
+use crate::reloading::compare_sites;
 use crate::words::{is_given, word};
 use clap::ArgMatches;
 use lisp_answer::{AnswerSetup, answer};
@@ -13,10 +14,11 @@ use lisp_files::{STANDARD_INPUT, WatchedReader};
 use lisp_refusals::explain_all;
 use std::alloc::Global;
 use std::io::{Read, Write};
+use std::net::Net;
 use std::rt::Files;
 
 /// Runs `check` or `explain`, where the words name it; else `answer`, with the options that were given.
-pub fn run_alone<R: Input + Files + AllocGlobal, W: Write>(
+pub fn run_alone<R: Input + Eprint + Files + Net + AllocGlobal, W: Write>(
     rt: &R,
     named: Option<(&str, &ArgMatches<'_>)>,
     writer: &mut W,
@@ -63,17 +65,20 @@ fn answer_from<R: Read, W: Write>(
     Ok(())
 }
 
-// `check`: prints what was understood of a configuration, and its warnings.
-fn check<R: Input + Files + AllocGlobal, W: Write>(
+// `check`: prints what was understood of a configuration, and its warnings; then what a node that runs would do with its sites.
+fn check<R: Input + Eprint + Files + Net + AllocGlobal, W: Write>(
     rt: &R,
     words: &ArgMatches<'_>,
     writer: &mut W,
 ) -> Result<(), Failure> {
-    let has_warnings = check_config(rt, word(words, CONFIG), writer)?;
-    if has_warnings && is_given(words, STRICT) {
-        return Err(Failure::from(ProgramFault::Warnings));
+    let path = word(words, CONFIG);
+    let checked = read_checked(rt, path)?;
+    let has_warnings = print_findings(rt.alloc(), path, &checked, writer)?;
+    accept(rt.alloc(), &checked, is_given(words, STRICT), has_warnings)?;
+    match words.get_str(AGAINST) {
+        Some(folder) => compare_sites(rt, folder, &checked, writer),
+        None => Ok(()),
     }
-    Ok(())
 }
 
 // `explain`: explains each number of a line; with none, all numbers.

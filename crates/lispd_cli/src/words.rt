@@ -5,8 +5,8 @@ ghost use Rattle.lispd_cli.specs.Words.{word_in, is_given_in, option_in, turns_o
 ghost use Rattle.lisp_texts.specs.Number.{number_of};
 
 use crate::command_line::{
-    BUDGET, CHECK, CONFIG, CONTROL, DATABASE, GROUP, KNOWN, LIST, NAME, QUIET, REMOVE, STORE,
-    TURNS, WORDS,
+    BUDGET, CHECK, CONFIG, CONTROL, DATABASE, GROUP, KNOWN, LIST, NAME, QUESTION, QUIET, RELOAD,
+    REMOVE, STORE, TELL, TURNS, WORDS,
 };
 use crate::fault::ProgramFault;
 use clap::ArgMatches;
@@ -49,14 +49,26 @@ pub fn is_given(words: &ArgMatches<'_>, name: &str) -> bool
     }
 }
 
-/// Whether a fault is told in words on any standard error: a fault of `check` is, and each one where `--words` was given,
-/// before the subcommand or behind it.
+/// Whether a fault is told in words on any standard error: a fault of `check` is, and of `tell` with `reload`, which checks as well; and
+/// each one where `--words` was given, before the subcommand or behind it.
 pub fn tells_words(matches: &ArgMatches<'_>) -> bool {
     let is_told = match matches.subcommand() {
-        Some((name, words)) => name == CHECK || is_given(words, WORDS),
+        Some((name, words)) => checks(name, words) || is_given(words, WORDS),
         None => false,
     };
     is_told || is_given(matches, WORDS)
+}
+
+// Whether a subcommand checks a configuration.
+fn checks(name: &str, words: &ArgMatches<'_>) -> bool {
+    name == CHECK || (name == TELL && tells_reload(words))
+}
+
+fn tells_reload(words: &ArgMatches<'_>) -> bool {
+    match words.get_strs(QUESTION) {
+        Some([first, ..]) => *first == RELOAD,
+        _ => false,
+    }
 }
 
 /// The words of `server` and `router`.

@@ -1,5 +1,9 @@
-use Rattle.std.proofs.Common.{sym, ◌∙◌}
+use Rattle.std.proofs.Common.{refl}
+use Rattle.lisp_control.proofs.Asking.{differs}
 use Rattle.lisp_control.proofs.line.question_in.Goals as goal
 
-pub returns-in-None : goal.returns-in-None
-returns-in-None c = rw (sym c.own_question.ensures ∙ c.in-None.is, ← c.parted.ensures.word, ← c.parted.ensures.rest) c.question_by_word.ensures
+pub returns-in_default-clause-question : goal.returns-in_default-clause-question
+returns-in_default-clause-question c = (let other = c.in_default in rw (differs _ c.args.line.now other.not-compare, differs _ c.args.line.now other.not-reload) c.question_of_line.ensures)
+
+pub returns-in_default-clause-left : goal.returns-in_default-clause-left
+returns-in_default-clause-left c = (let other = c.in_default in rw (differs _ c.args.line.now other.not-compare, differs _ c.args.line.now other.not-reload) refl)

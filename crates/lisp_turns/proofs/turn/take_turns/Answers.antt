@@ -6,7 +6,7 @@ use Rattle.lisp_turns.proofs.turn.take_turns.Goals as goal
 pub returns-then-not-turn-clause-turns : goal.returns-then-not-turn-clause-turns
 returns-then-not-turn-clause-turns g c =
     rw (sym c.loop-number.invariant.place, sym c.loop-number.invariant.places)
-    (loses _ _ _ _ _ _ _ _ _ _ _ _ (omega (arith, c.loop-number-test.true)) c.loop-number.invariant.took c.loop-number.invariant.uncut (rw c.if-not-turn.true at c.turn.ensures.turn))
+    (loses _ _ _ _ _ _ _ _ _ _ _ _ _ (omega (arith, c.loop-number-test.true)) c.loop-number.invariant.took c.loop-number.invariant.uncut (rw c.if-not-turn.true at c.turn.ensures.turn))
 
 pub returns-then-not-turn-clause-part : goal.returns-then-not-turn-clause-part
 returns-then-not-turn-clause-part g c = loses_as_part (returns-then-not-turn-clause-turns g c)

@@ -1,0 +1,18 @@
+use Rattle.std.proofs.Common.{Global}
+use Rattle.lisp_turns.specs.Node.{Router}
+use Rattle.lisp_udp.proofs.LifeBegins.{begins_over, runs_over, takes_turns}
+use Rattle.lisp_udp.proofs.life.route_over.Goals as goal
+
+pub returns-clause-part : goal.returns-clause-part
+returns-clause-part g c =
+    let store = g.S.NonceStore.seen c.args.store in
+    let sites = c.args.config.now.sites in
+    let begins = begins_over g.O.Outside.seen c.args.config.now sites c.args.number store c.moment-now.result _ Router c.start_router-router.result c.args.outside c.moment-now.new.outside c.moment-now.ensures c.start_router-router.ensures in
+    runs_over g.O.Outside.seen c.args.config.now sites c.args.number store c.moment-now.result c.args.outside c.moment-now.new.outside c.run_at.result c.moment-now.ensures (c.run_at.ensures.part sites store begins)
+
+pub returns-clause-turns : goal.returns-clause-turns
+returns-clause-turns g c =
+    let store = g.S.NonceStore.seen c.args.store in
+    let sites = c.args.config.now.sites in
+    let begins = begins_over g.O.Outside.seen c.args.config.now sites c.args.number store c.moment-now.result _ Router c.start_router-router.result c.args.outside c.moment-now.new.outside c.moment-now.ensures c.start_router-router.ensures in
+    takes_turns g.O.Outside.seen c.args.config.now sites c.args.number store c.moment-now.result Router Global c.args.places c.args.answering c.args.turns c.args.outside c.moment-now.new.outside c.run_at.result c.moment-now.ensures (c.run_at.ensures.turns sites store begins)
