@@ -349,9 +349,12 @@ def wrong_words(here):
     for words, number in ((["disallowed", RECORD], 82), (["hold", "s1"], 81), (["acks"], 82), (["ask", "10.1"], 84), (["tick", "5"], 81), (["resend", "r1"], 80),
                           ([], 80), (["notice", "r1"], 80), (["records"], 80), (["counts", "s1"], 80), (["hold", "--prometheus"], 81), (["reload", here.config], 80), (["compare"], 80)):
         check(f"ask {words}", ask(here, "s1", *words), wrong(number))
-    for words, number in ((["hold"], 80), (["notice", "r9"], 82), (["notice", "r1", "doubt"], 80), (["change", RECORD], 82), ([], 80),
-                          (["reload"], 81), (["reload", here.config, "s1"], 81)):
+    for words, number in ((["hold"], 80), (["notice", "r9"], 82), (["notice", "r1", "doubt"], 80), (["change", RECORD], 82), ([], 80)):
         check(f"tell {words}", tell(here, "s1", *words), wrong(number))
+    for words in (["reload"], ["reload", here.config, "s1"]):
+        # (words come behind the fault, as those of `check` do)
+        status, text, wrongs = tell(here, "s1", *words)
+        check(f"tell {words}", (status, text, wrongs.partition("\n")[0]), (2, "", "lispd: fault 81"))
     check("no folder", ran("ask", f"{here.folder}/none", "hold"), UNANSWERED)
     check("it goes on", ask(here, "s1", "hold"), NOTHING_HELD)
     killed(process)
