@@ -73,11 +73,7 @@ impl<A: Allocator> Sites<A> {
         ensures equal { IfOk result (λ s. s ≡ self.now) }
         ensures memory { OnErr result B.may_refuse }
     {
-        let mut copies = Sites::new(alloc);
-        for site in self.as_slice() {
-            copies.push(site.copy(alloc)?)?;
-        }
-        Ok(copies)
+        Sites::new(alloc).followed_by(alloc, self)
     }
 }
 
@@ -96,6 +92,22 @@ impl<A: Memory> Sites<A> {
 }
 
 impl<A: Memory + Copy> Sites<A> {
+    /// These sites, and copies of others behind them. Where memory runs out all are gone.
+    pub fn followed_by<B: Allocator>(
+        self,
+        alloc: A,
+        others: &Sites<B>,
+    ) -> Result<Sites<A>, AllocError>
+        ensures both { IfOk result (λ s. s ≡ self ++ others.now) }
+        ensures memory { OnErr result A.may_refuse }
+    {
+        let mut both = self;
+        for site in others.as_slice() {
+            both.push(site.copy(alloc)?)?;
+        }
+        Ok(both)
+    }
+
     /// One site with one key and one prefix, in memory of `alloc`.
     pub fn single(
         alloc: A,
