@@ -1,8 +1,13 @@
 -- What is warned of secrets.
 use Rattle.std.specs.Prelude.{◌≡◌, ℕ, ◌+◌, ◌-◌, ◌^◌, nat_lt, ◌==◌, ◌&&◌, min, Bool, List, [], ◌∷◌, ◌++◌, codes, length, Option, Some, None, Result, OnOk, Vec, if◌then◌else◌}
+use Rattle.std.specs.BTreeMap.{BTreeMap, get_by}
+use Rattle.std.specs.Cmp.Lexicographic.{slice_cmp}
 use Rattle.std.specs.Fmt.{decimal}
 use Rattle.std.specs.List.{find, flat_map}
+use Rattle.std.specs.Option.{option_map, option_or}
+use Rattle.std.specs.Ordering.{nat_cmp}
 use Rattle.std.specs.Str.{bytes_eq}
+use denote.Ref.{Bor}
 use Rattle.lisp_check.specs.Words.{site_words}
 use Rattle.lisp_check.specs.declared.secret.KeyPlace.{KeyPlace}
 use Rattle.lisp_check.specs.declared.secret.SecretWarning.{SecretWarning}
@@ -30,6 +35,22 @@ other_place place None = None
 
 abbrev pub first_like : List KeySecretValue → KeySecretValue → Option KeyPlace
 first_like secrets s = other_place s.place (find (is_like s) secrets)
+
+-- a place, unless it is that of a key
+abbrev pub unless_own : KeyPlace → Option KeyPlace → Option KeyPlace
+unless_own place (Some first) = if is_place place first then None else Some first
+unless_own place None = None
+
+-- what a map has for a secret; and that for each secret it has the place of the first key with it
+abbrev pub place_for : BTreeMap (Bor (List ℕ)) KeyPlace → List ℕ → Option KeyPlace
+place_for firsts secret = get_by (λ k. slice_cmp nat_cmp secret k.now) firsts
+
+unfoldable pub AreFirsts : BTreeMap (Bor (List ℕ)) KeyPlace → List KeySecretValue → Type 0
+AreFirsts firsts secrets = (secret : List ℕ) → place_for firsts secret ≡ option_map (λ k. k.place) (find (λ k. bytes_eq k.secret secret) secrets)
+
+-- a map has the place of a key too, where it had none for its secret
+abbrev pub AddsFirst : BTreeMap (Bor (List ℕ)) KeyPlace → BTreeMap (Bor (List ℕ)) KeyPlace → KeySecretValue → Type 0
+AddsFirst old new s = (secret : List ℕ) → place_for new secret ≡ option_or (place_for old secret) (if bytes_eq s.secret secret then Some s.place else None)
 
 -- what is warned of a secret among others, and of all
 abbrev pub short_of : KeySecretValue → List SecretWarning

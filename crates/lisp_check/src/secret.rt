@@ -1,17 +1,16 @@
 //! Secrets that are short, or alike.
 
-ghost use Rattle.std.specs.Prelude.{◌≡◌, IfOk};
-ghost use Rattle.std.specs.List.{find};
-ghost use Rattle.std.specs.Option.{option_map};
+ghost use Rattle.std.specs.Prelude.{◌≡◌, ◌++◌, List, IfOk, OnOk};
 ghost use Rattle.lisp_check.specs.Words.{GivesText};
-ghost use Rattle.lisp_check.specs.Secret.{AddsSecret, is_short, is_like, is_place, other_place, first_like, short_of, same_of, of_secret, of_secrets, secret_text};
+ghost use Rattle.lisp_check.specs.Secret.{KeySecretValue, AreFirsts, AddsFirst, AddsSecret, is_short, is_place, unless_own, first_like, short_of, same_of, of_secret, of_secrets, secret_text};
 
 use crate::document::{Document, elements};
 use crate::words::SiteNumber;
-use lisp_memory::{FallibleString, FallibleVec};
+use lisp_memory::{FallibleMap, FallibleString, FallibleVec};
 use lisp_records::Bytes;
 use lisp_texts::secret_from_text;
 use std::alloc::{AllocError, Global};
+use std::collections::BTreeMap;
 use std::fmt::{self, Display, Formatter, Write};
 use std::marker::Model;
 use toml::Value;
@@ -95,30 +94,58 @@ fn add_secret(
 }
 
 /// What may not be meant of secrets: one after another, of each first that it is short.
-#[tactic(auto, using(crate::proofs::SecretWarnings::more_secrets))]
 pub fn secret_warnings(
     alloc: Global,
     secrets: &[KeySecret],
 ) -> Result<Vec<SecretWarning>, AllocError>
     ensures exact { IfOk result (λ warnings. warnings.items ≡ of_secrets secrets.now) }
 {
+    let firsts = first_places(alloc, secrets)?;
     let mut warnings = Vec::new(alloc);
     for secret in secrets {
-        warn_of_secret(&mut warnings, secrets, secret)?;
+        warn_of_secret(&mut warnings, &firsts, secret)?;
     }
     Ok(warnings)
 }
 
-#[tactic(auto, using(crate::proofs::SecretWarnings::both))]
+// The place of the first key that has it, by each secret.
+fn first_places<'a>(
+    alloc: Global,
+    secrets: &'a [KeySecret],
+) -> Result<BTreeMap<&'a [u8], KeyPlace>, AllocError>
+    ensures { IfOk result (λ firsts. AreFirsts firsts secrets.now) }
+{
+    let mut firsts = BTreeMap::new(alloc);
+    for secret in secrets {
+        add_first(&mut firsts, secret)?;
+    }
+    Ok(firsts)
+}
+
+// Adds the place of a secret, unless an earlier key has the secret.
+fn add_first<'a>(
+    firsts: &mut BTreeMap<&'a [u8], KeyPlace>,
+    secret: &'a KeySecret,
+) -> Result<(), AllocError>
+    ensures { OnOk result (AddsFirst firsts.old firsts.new secret.now) }
+{
+    let bytes = secret.secret.as_slice();
+    if !firsts.contains_key(bytes) {
+        firsts.try_insert(bytes, secret.place)?;
+    }
+    Ok(())
+}
+
 fn warn_of_secret(
     warnings: &mut Vec<SecretWarning>,
-    secrets: &[KeySecret],
+    firsts: &BTreeMap<&[u8], KeyPlace>,
     secret: &KeySecret,
 ) -> Result<(), AllocError>
-    ensures { AddsSecret result warnings.old warnings.new (of_secret secrets.now secret.now) }
+    ensures { OnOk result ((secrets : List KeySecretValue) → AreFirsts firsts.now secrets
+        → warnings.new.items ≡ warnings.old.items ++ of_secret secrets secret.now) }
 {
     warn_of_length(warnings, secret)?;
-    warn_of_like(warnings, secret.place, first_like(secrets, secret))
+    warn_of_like(warnings, secret.place, first_like(firsts, secret))
 }
 
 fn warn_of_length(warnings: &mut Vec<SecretWarning>, secret: &KeySecret) -> Result<(), AllocError>
@@ -151,37 +178,25 @@ fn is_short(secret: &KeySecret) -> bool
 }
 
 // The first key with the secret of this one; `None` where it is this one.
-fn first_like(secrets: &[KeySecret], secret: &KeySecret) -> Option<KeyPlace>
-    ensures { result ≡ first_like secrets.now secret.now }
+fn first_like(firsts: &BTreeMap<&[u8], KeyPlace>, secret: &KeySecret) -> Option<KeyPlace>
+    ensures { (secrets : List KeySecretValue) → AreFirsts firsts.now secrets
+        → result ≡ first_like secrets secret.now }
 {
-    other_place(secret.place, first_with(secrets, secret))
-}
-
-// The first key with the secret.
-fn first_with<'a>(secrets: &'a [KeySecret], secret: &KeySecret) -> Option<&'a KeySecret>
-    ensures { option_map (λ k. k.now) result ≡ find (is_like secret.now) secrets.now }
-{
-    secrets.iter().find(|other| is_like(secret, other))
+    unless_own(secret.place, firsts.get(secret.secret.as_slice()).copied())
 }
 
 // The place of a key, unless it is this one.
-fn other_place(place: KeyPlace, first: Option<&KeySecret>) -> Option<KeyPlace>
-    ensures { result ≡ other_place place (option_map (λ k. k.now) first.entry) }
+fn unless_own(place: KeyPlace, first: Option<KeyPlace>) -> Option<KeyPlace>
+    ensures { result ≡ unless_own place first }
 {
     match first {
-        Some(first) => if is_place(place, first.place) {
+        Some(first) => if is_place(place, first) {
             None
         } else {
-            Some(first.place)
+            Some(first)
         },
         None => None,
     }
-}
-
-fn is_like(secret: &KeySecret, other: &KeySecret) -> bool
-    ensures { result ≡ is_like secret.now other.now }
-{
-    other.secret.as_slice() == secret.secret.as_slice()
 }
 
 fn is_place(place: KeyPlace, other: KeyPlace) -> bool
