@@ -1,7 +1,7 @@
 -- The sites that a connection gathers, and what taking them would do.
-use Rattle.std.specs.Prelude.{◌≡◌, ℕ, Bool, true, false, IsTrue, List, [], ◌∷◌, ◌++◌, length, codes, Option, Some, None, Result, Ok, Err, if◌then◌else◌}
+use Rattle.std.specs.Prelude.{◌≡◌, ◌⊎◌, ℕ, Bool, true, false, IsTrue, List, [], ◌∷◌, ◌++◌, length, codes, Option, Some, None, Result, Ok, Err, if◌then◌else◌}
 use Rattle.std.specs.Fmt.{decimal}
-use Rattle.std.specs.List.{flat_map}
+use Rattle.std.specs.List.{flat_map, list_any}
 use Rattle.std.specs.Option.{is_some}
 use Rattle.std.specs.Result.{result_ok}
 use Rattle.std.specs.Str.{is_utf8}
@@ -31,21 +31,40 @@ GivesSites (Ok sites) read = read ≡ Some sites
 GivesSites (Err ungathered.Sites) read = read ≡ None
 GivesSites (Err ungathered.OutOfMemory) read = Unit {0}
 
--- the sites that bytes say, where none were gathered before; none where there are none to gather
+-- one of the sites has the Site-ID of one gathered before
+abbrev pub shares_site : List SiteValue → List SiteValue → Bool
+shares_site before sites = list_any (λ s. has_site before s.id) sites
+
+abbrev pub shares_with : Option (List SiteValue) → List SiteValue → Bool
+shares_with None sites = false
+shares_with (Some before) sites = shares_site before sites
+
+-- the sites behind those gathered before
+abbrev pub all_of : Option (List SiteValue) → List SiteValue → List SiteValue
+all_of None sites = sites
+all_of (Some before) sites = before ++ sites
+
+abbrev pub gathered_behind : Option (List SiteValue) → List SiteValue → Option (List SiteValue)
+gathered_behind old sites = if shares_with old sites then None else Some (all_of old sites)
+
+-- those that bytes say, behind those gathered before; none where there are none to gather
+abbrev pub gathered_read : Option (List SiteValue) → Option (List SiteValue) → Option (List SiteValue)
+gathered_read old None = None
+gathered_read old (Some sites) = gathered_behind old sites
+
 abbrev pub gathered_with : Option (List SiteValue) → List ℕ → Option (List SiteValue)
-gathered_with None bytes = sites_of_bytes bytes
-gathered_with (Some before) bytes = None
+gathered_with old bytes = gathered_read old (sites_of_bytes bytes)
 
 -- how many are gathered
 abbrev pub gathered_count : Option (List SiteValue) → ℕ
 gathered_count None = 0
 gathered_count (Some sites) = length sites
 
--- what becomes of the gathered sites with them: all are gathered, or none
+-- what becomes of the gathered sites with them: all are gathered, or none of them. Out of memory, none are gathered any more, or nothing changes
 abbrev pub Gathers : Option (List SiteValue) → Option (List SiteValue) → List ℕ → Result ℕ Ungathered → Type 0
 Gathers old new bytes (Ok count) = IsTrue (is_some new) × (new ≡ gathered_with old bytes) × (count ≡ gathered_count new)
 Gathers old new bytes (Err ungathered.Sites) = (gathered_with old bytes ≡ None) × (new ≡ old)
-Gathers old new bytes (Err ungathered.OutOfMemory) = new ≡ old
+Gathers old new bytes (Err ungathered.OutOfMemory) = (new ≡ old) ⊎ (new ≡ None)
 
 -- the line that answers them: how many sites a node has gathered
 abbrev pub gathered_text : ConfigValue → ℕ → ℕ → List ℕ

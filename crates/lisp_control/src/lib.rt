@@ -12,8 +12,8 @@
 //!   `--force`.
 //! - What a node does on an order isn't written into the configuration: that is the operator's file.
 //! - A Map-Server is told other sites by a connection that brings their text first (`sites N`, then the bytes) and then says what is to be done
-//!   with them. So `reload` is a line of its own here, and `reload --- ..`, as a schedule has it, is no order (80).
-//! - Sites are gathered whole or not at all. `compare` and `reload` take the gathered ones, and leave none.
+//!   with them. A long text comes in several parts, each with the sites that it says, so that no turn of the node reads much. So `reload` is a line of its own here, and `reload --- ..`, as a schedule has it, is no order (80).
+//! - The sites of a part are gathered all or not at all, behind those before. `compare` and `reload` take the gathered ones, and leave none.
 //! - The moment of the question serves all parts of an answer that comes by parts, so that the ages in it are of one moment: a router
 //!   that is heard meanwhile has the age 0.
 //! - `routers` counts all rows before its first line, since a router's line has its rows. Its lines come by parts too: how many they are
