@@ -35,6 +35,8 @@ RELOADS, SEED = 20, 8
 MOST_SYNCS = 60
 # How many bytes may follow `sites`.
 MOST_BYTES = 4_194_304
+# From how many bytes on a part of a long file ends before the next site.
+ENOUGH = 49_152
 CLOSING = "end\n"
 UNANSWERED = (1, "", "lispd: fault 99")
 # A site as it stands in a configuration: its number, its secrets by their Key IDs, its prefixes, and lines with its limits.
@@ -553,8 +555,18 @@ def forms(sites, nodes):
             "line ends of Windows": plainly.replace("\n", "\r\n"), "an array": inline(sites) + nodes}
 
 
+def in_parts(text, parts):
+    """These are the lines of a text's sites, in parts of whole sites, none of which is long; or the text itself, where its sites are one array."""
+    if text.startswith("site = ["):
+        return parts == [text]
+    of_sites = re.sub(r"(?ms)^\[\[(?:server|router)\]\].*?(?=^\[\[site\]\]|\Z)", "", text)
+    longest = max(map(len, re.split(r"(?m)^(?=\[\[site\]\])", of_sites)))
+    return ("".join(parts) == of_sites and all(part.startswith("[[site]]") for part in parts)
+            and all(ENOUGH <= len(part) < ENOUGH + longest for part in parts[:-1]) and len(parts) > 5)
+
+
 def long_files(here):
-    """A long file is told as it is, twice: to be compared, and to be taken."""
+    """A long file is told in parts, twice: to be compared, and to be taken."""
     write(here, [a_site(1)])
     process = up(here)
     sites = many(2500)
@@ -564,12 +576,14 @@ def long_files(here):
         for name, text in texts.items():
             put(here, text)
             check(f"{name}: what it would do", ran("check", here.config, "--against", f"{here.folder}/relay")[1].endswith(found), True)
-            check(f"{name}: what is told", relay.taken() == [(["nodes"], []), (["sites", "compare"], [text])], True)
+            nodes, (lines, parts) = relay.taken()
+            check(f"{name}: what is said", (nodes, lines), ((["nodes"], []), ["sites"] * len(parts) + ["compare"]))
+            check(f"{name}: what is told", in_parts(text, parts), True)
         put(here, texts["tables"])
         status, text, wrongs = tell(here, folder="relay")
         check("it is told", (status, text == f"{found}reloaded s1 sites {len(sites)} kept\n", wrongs), (0, True, ""))
         told = [parts for lines, parts in relay.taken() if set(lines) & {"compare", "reload"}]
-        check("the same text twice", told == [[texts["tables"]]] * 2, True)
+        check("the same parts twice", (len(told), in_parts(texts["tables"], told[0]), told[0] == told[-1]), (2, True, True))
     line_of(process, f"reloaded s1 sites {len(sites)} kept")
     taken_apart(here, sites)
     killed(process)
@@ -608,6 +622,8 @@ def what_is_said_at_the_socket(here):
     for all_sites in ([*sites, *more], [*more, *sites]):
         check("compared", conversation(here, tables(all_sites), last="compare"),
               (["gathered s1 3\n"], f"compared s1 sites 3 kept\ncomes {2:016x}\ncomes {3:016x}\n{CLOSING}"))
+    check("in parts", conversation(here, tables(more), nodes_of(here), tables(sites), last="compare"),
+          (["gathered s1 2\n", "gathered s1 2\n", "gathered s1 3\n"], f"compared s1 sites 3 kept\ncomes {2:016x}\ncomes {3:016x}\n{CLOSING}"))
     check("others alone", conversation(here, tables(more), last="compare")[1],
           f"compared s1 sites 2 restarted\ncomes {2:016x}\ncomes {3:016x}\ngoes {1:016x}\n{CLOSING}")
     check("no sites", conversation(here, nodes_of(here), last="compare"),
@@ -643,10 +659,11 @@ def what_is_wrong_at_the_socket(here):
         with talking(here) as (it, lines):
             check(f"{name}: a fault", (said(it, lines, part(text)), rest(lines)), ("fault 84\n", CLOSING))
         untouched(here, name, sites, held)
-    with talking(here) as (it, lines):
-        check("before others", said(it, lines, part(good)), "gathered s1 1\n")
-        check("others", (said(it, lines, part(other)), rest(lines)), ("fault 84\n", CLOSING))
-    untouched(here, "others", sites, held)
+    for name, text in (("a site of another part", good), ("a bad part behind another", other.replace('secret = "', 'secret = "x'))):
+        with talking(here) as (it, lines):
+            check(f"{name}: before", said(it, lines, part(good)), "gathered s1 1\n")
+            check(name, (said(it, lines, part(text)), rest(lines)), ("fault 84\n", CLOSING))
+        untouched(here, name, sites, held)
     for line in ("sites", "sites 0", f"sites {MOST_BYTES + 1}", "sites -1", "sites x", "sites 5 5", "sites 99999999999999999999", "sites 007 x",
                  "gathered", "compare now", "reload now", "reload --- site = []", "nodes s1"):
         text = conversation(here, last=line)[1]

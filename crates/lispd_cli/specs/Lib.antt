@@ -6,3 +6,4 @@ pub mod Asking
 pub mod Check
 pub mod PrintedLine
 pub mod Reloading
+pub mod Parts

@@ -27,6 +27,7 @@ mod help;
 mod line_words;
 mod option;
 mod options;
+mod parts;
 mod printed_line;
 mod question;
 mod reloading;

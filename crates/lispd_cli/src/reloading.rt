@@ -14,6 +14,7 @@ use crate::check::{Checked, accept, read_checked, tell_warnings};
 use crate::command_line::{FOLDER, QUESTION, STRICT};
 use crate::failure::Failure;
 use crate::fault::ProgramFault;
+use crate::parts::parts_of;
 use crate::words::{is_given, word};
 use clap::ArgMatches;
 use lisp_answer::AnswerFault;
@@ -106,7 +107,7 @@ fn tell_sites<R: Eprint + Files + Net + AllocGlobal, W: Write>(
     writer: &mut W,
 ) -> Result<(), ProgramFault> {
     let path = compared(rt, folder, checked, writer)?;
-    let answer = converse(rt, path.as_str(), checked.text(), "reload")?;
+    let answer = converse(rt, path.as_str(), checked, "reload")?;
     print_answer(Errand::Tell, answer.as_str(), writer)
 }
 
@@ -120,7 +121,7 @@ fn compared<R: Eprint + Files + Net + AllocGlobal, W: Write>(
     let alloc = rt.alloc();
     let path = control_path(alloc, folder)?;
     check_nodes(rt, path.as_str(), checked.config())?;
-    let answer = converse(rt, path.as_str(), checked.text(), "compare")?;
+    let answer = converse(rt, path.as_str(), checked, "compare")?;
     print_answer(Errand::Tell, answer.as_str(), writer)?;
     if restarts(answer.as_str()) {
         print_leaving(rt, path.as_str(), writer)?;
@@ -177,14 +178,15 @@ fn node_or_none(line: &str) -> &str {
     if line == "end" { "no more nodes" } else { line }
 }
 
-// Sends a node the text of sites, then a line; what it answers to that, or to the sites if it didn't gather them.
+// Sends a node the sites of a configuration, then a line; what it answers to that, or to the sites if it didn't gather them.
 fn converse<R: Files + Net + AllocGlobal>(
     rt: &R,
     path: &str,
-    sites: &str,
+    checked: &Checked,
     line: &str,
 ) -> Result<String, ProgramFault> {
-    match connect_and_send(rt, path, sites, line) {
+    let parts = parts_of(rt.alloc(), checked.text(), checked.config().sites())?;
+    match connect_and_send(rt, path, parts.as_slice(), line) {
         Ok(answer) => Ok(answer),
         Err(_) => Err(ProgramFault::Unanswered),
     }
@@ -193,16 +195,18 @@ fn converse<R: Files + Net + AllocGlobal>(
 fn connect_and_send<R: Files + Net + AllocGlobal>(
     rt: &R,
     path: &str,
-    sites: &str,
+    parts: &[String],
     line: &str,
 ) -> io::Result<String> {
     let mut stream = UnixStream::connect(rt, path)?;
     stream.set_read_timeout(Some(Duration::from_secs(PATIENCE)))?;
     stream.set_write_timeout(Some(Duration::from_secs(PATIENCE)))?;
     let mut reader = BufReader::new(rt.alloc(), stream.try_clone()?)?;
-    send_sites(sites, &mut stream)?;
-    if let Some(refusal) = read_refusal(rt.alloc(), &mut reader)? {
-        return Ok(refusal);
+    for part in parts {
+        send_sites(part.as_str(), &mut stream)?;
+        if let Some(refusal) = read_refusal(rt.alloc(), &mut reader)? {
+            return Ok(refusal);
+        }
     }
     writeln!(stream, "{line}")?;
     io::read_to_string(rt.alloc(), reader)
