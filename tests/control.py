@@ -9,6 +9,7 @@ import os
 import platform
 import re
 import shlex
+import shutil
 import socket
 import struct
 import subprocess
@@ -41,11 +42,13 @@ NODE, ASKERS, MEMBER, STRANGER = 64001, 64002, 64003, 64004
 # Sites as they follow site 1, which has no limits, in a configuration: their Site-IDs, and their limits.
 LIMITED = (("00000000000000ff", "most_rows = 9"), ("00000000000000fe", "most_ttl = 1440\nmost_jump = 9"), ("0000000000000002", "most_routers = 1"),
            ("0000000000000100", "most_routers = 9\nmost_rows = 9"), ("ffffffffffffffff", "most_rows = 4294967295"))
-# The metrics of those with a limit on their routers or rows, where the counts of `what_is_held_of_sites` end.
+# The metrics of sites, and of r1, where the counts of `what_is_held_of_sites` end.
 HELD = """\
-# HELP lisp_site_rows Live rows of each site that has a limit on its rows or routers.
+# HELP lisp_site_rows Live rows of each site.
 # TYPE lisp_site_rows gauge
+lisp_site_rows{node="s1",site="0000000000000001"} 5
 lisp_site_rows{node="s1",site="00000000000000ff"} 5
+lisp_site_rows{node="s1",site="00000000000000fe"} 4
 lisp_site_rows{node="s1",site="0000000000000002"} 0
 lisp_site_rows{node="s1",site="0000000000000100"} 1
 lisp_site_rows{node="s1",site="ffffffffffffffff"} 2
@@ -57,6 +60,12 @@ lisp_site_routers{node="s1",site="0000000000000100"} 1
 lisp_site_routers{node="s1",site="ffffffffffffffff"} 1
 # HELP lisp_site_refusals_total Map-Registers that a limit of a site refused since the start of the node, by their number.
 # TYPE lisp_site_refusals_total counter
+# HELP lisp_router_age_seconds How long ago the last accepted Map-Register of the router came.
+# TYPE lisp_router_age_seconds gauge
+lisp_router_age_seconds{node="s1",router="r1"} AGE
+# HELP lisp_router_last_nonce The nonce of the last accepted Map-Register of the router; above 2^53 Prometheus rounds it.
+# TYPE lisp_router_last_nonce gauge
+lisp_router_last_nonce{node="s1",router="r1"} 1
 """
 
 
@@ -110,7 +119,8 @@ def counts(here, name):
 def what_is_counted(here):
     """Which routers it heard, how many lines of each kind it printed, and what it has, in lines and for Prometheus."""
     process = up(here, "server", "s1", here.s1, env=with_slow_syncs(SLOW_MS * 1000))
-    check("nobody was heard", ask(here, "s1", "routers"), (0, "routers s1 0\n", ""))
+    check("nobody was heard", ask(here, "s1", "routers"), (0, "routers s1 2\nrouter r1 never\nrouter r2 never\n", ""))
+    check("nobody has metrics", "lisp_router_age_seconds{" in ask(here, "s1", "counts", "--prometheus")[1], False)
     check("nothing is counted", counts(here, "s1"), {"rows": "0", "sites": "0", "standing_notices": "0", "replays": "0", "longest_save_ms": "0",
                                                               "requests": "0", "slowest_reply_us": "0"})
     with peer(here.r1) as it:
@@ -131,17 +141,23 @@ def what_is_counted(here):
     status, text, wrongs = ask(here, "s1", "routers")
     ages = re.findall(r" age (\d+)", text)
     check("its router, and its replay", (status, re.sub(r" age \d+", " age", text), wrongs),
-          (0, f"routers s1 2\nrouter r1 from {here.r1} key 1 nonce 8 age rows 1\nreplays s1 from {here.r1} times 1 saved 8 age\n", ""))
+          (0, f"routers s1 3\nrouter r1 from {here.r1} key 1 nonce 8 age rows 1\nrouter r2 never\n"
+              f"replays s1 from {here.r1} times 1 saved 8 age\n", ""))
     check("their ages", all(0 <= int(age) < LIMIT * 1000 for age in ages), True)
     status, text, wrongs = ask(here, "s1", "counts", "--prometheus")
     lines = [line for line in text.splitlines() if line[0] != "#" and "resent" not in line]
-    save = lines.pop(8)
+    save, age = lines.pop(8), lines.pop(-2)
     check("metrics", (status, wrongs, lines), (0, "", [
         'lisp_lines_total{node="s1",line="accepted"} 2', 'lisp_lines_total{node="s1",line="notice"} 1',
         'lisp_refusals_total{node="s1",number="50"} 1', 'lisp_refusals_total{node="s1",number="57"} 1',
         'lisp_rows{node="s1"} 1', 'lisp_sites{node="s1"} 1', 'lisp_standing_notices{node="s1"} 1',
         'lisp_replayed_sources{node="s1"} 0', 'lisp_map_requests_total{node="s1"} 0',
-        'lisp_slowest_reply_seconds{node="s1"} 0e-6']))
+        'lisp_slowest_reply_seconds{node="s1"} 0e-6', 'lisp_site_rows{node="s1",site="0000000000000001"} 1',
+        'lisp_router_last_nonce{node="s1",router="r1"} 8']))
+    found = re.fullmatch(r'lisp_router_age_seconds\{node="s1",router="r1"\} (\d+)e-3', age)
+    check("the age of a router", found is not None and int(found[1]) < LIMIT * 1000, True)
+    if shutil.which("promtool"):
+        check("promtool takes them", subprocess.run(["promtool", "check", "metrics"], input=text, capture_output=True, text=True).returncode, 0)
     check("the longest save", re.fullmatch(r'lisp_longest_save_seconds\{node="s1"\} \d+e-3', save) is not None, True)
     killed(process)
 
@@ -177,7 +193,8 @@ def what_is_held_of_sites(here):
                "0000000000000100 rows 1", "0000000000000100 routers 1", "ffffffffffffffff rows 2", "ffffffffffffffff routers 1"])
         send(2, 0xFF, 10, 1, 1, ttl=0)
         status, text, wrongs = ask(here, "s1", "counts", "--prometheus")
-        check("as metrics", (status, wrongs, text[text.index("# HELP lisp_site_rows "):]), (0, "", HELD))
+        held = re.sub(r"(?<=\} )\d+e-3$", "AGE", text[text.index("# HELP lisp_site_rows "):], flags=re.M)
+        check("as metrics", (status, wrongs, held), (0, "", HELD))
         check("before them", re.search(r'\nlisp_slowest_reply_seconds\{node="s1"\} 0e-6\n# HELP lisp_site_rows ', text) is not None, True)
         send(3, 0xFF, 10, 1, 2, ttl=0)
         check("a router without rows", held_of_sites(here)[:2], ["00000000000000ff rows 4", "00000000000000ff routers 2"])
@@ -223,7 +240,7 @@ def who_is_refused_as_replaying(here):
         check("three minutes of it", 6 <= time.monotonic() - begun < LIMIT, True)
         check_replays("one is for three minutes", 1, [f"replays s1 from {here.r1} times {times} saved 7"])
         check("its metric", until(lambda: '\nlisp_replayed_sources{node="s1"} 1\n' in ask(here, "s1", "counts", "--prometheus")[1]), True)
-        check("how many lines follow", until(lambda: ask(here, "s1", "routers")[1].startswith("routers s1 2\nrouter r1 ")), True)
+        check("how many lines follow", until(lambda: ask(here, "s1", "routers")[1].startswith("routers s1 3\nrouter r1 from ")), True)
         check("its answer", nonce_in(here.answer(it, map_register(8))), 8)
         check_replays("it is over", 0, [])
         begun = time.monotonic()
@@ -459,7 +476,7 @@ def a_list_by_parts(here):
             found = check_list(here, f"{255 + rows} rows", 255 + rows)
             check("which they are", found, {f"10.1.0.{host}/32" for host in range(255)} | {f"10.1.1.{host}/32" for host in range(rows)})
         check("its row's line", "row r1 10.1.1.44/32=1440" in ask(here, "s1", "hold")[1], True)
-        check("its router", re.sub(r" age \d+", "", ask(here, "s1", "routers")[1]), f"routers s1 1\nrouter r1 from {here.r1} key 1 nonce 4 rows 300\n")
+        check("its router", re.sub(r" age \d+", "", ask(here, "s1", "routers")[1]), f"routers s1 2\nrouter r1 from {here.r1} key 1 nonce 4 rows 300\nrouter r2 never\n")
         found = counts(here, "s1")
         check("what is counted", (found["rows"], found["sites"]), ("300", "1"))
         check("withdrawn", nonce_in(here.answer(it, map_register(5, records=host_records(0, 255, ttl=0)))), 5)
@@ -469,7 +486,8 @@ def a_list_by_parts(here):
 
 
 def routers_by_parts(here):
-    """As many routers as a part has come at once, by xTR-ID; more come by parts, each once, and then the runs of replays."""
+    """As many routers as a part has come at once, by xTR-ID; more come by parts, each once, and then those that were never heard, and the runs of
+    replays."""
     process = up(here, "server", "s1", here.s1)
     with peer(here.r1) as it:
         def send(router):
@@ -480,22 +498,22 @@ def routers_by_parts(here):
             lines = re.sub(r" age \d+", "", text).splitlines()
             check(name, (status, lines[0], wrongs), (0, first, ""))
             wanted = [f"router other from {here.r1} key 1 nonce {router} rows 1" for router in routers]
-            check(f"{name}, each once", lines[1:], [*wanted, *last])
+            check(f"{name}, each once", lines[1:], [*wanted, "router r1 never", "router r2 never", *last])
 
         for router in range(2, 514, 2):
             send(router)
-        check_routers("256 routers", "routers s1 256", range(2, 514, 2))
+        check_routers("256 routers", "routers s1 258", range(2, 514, 2))
         for router in (514, 1, 513):
             send(router)
         routers = [1, *range(2, 514, 2), 513, 514]
-        check_routers("three more", "routers s1 by parts", routers, "listed s1 259")
+        check_routers("three more", "routers s1 by parts", routers, "listed s1 261")
         for router in range(3, 511, 2):
             send(router)
-        check_routers("513 routers", "routers s1 by parts", [*range(1, 511), 512, 513, 514], "listed s1 513")
+        check_routers("513 routers", "routers s1 by parts", [*range(1, 511), 512, 513, 514], "listed s1 515")
         it.sendto(map_register(2, xtr=1002), (here.s1, PORT))
         check("a replay", until(lambda: "replays " in ask(here, "s1", "routers")[1]), True)
         check_routers("513 routers and a run", "routers s1 by parts", [*range(1, 511), 512, 513, 514],
-                      f"replays s1 from {here.r1} times 1 saved 2", "listed s1 514")
+                      f"replays s1 from {here.r1} times 1 saved 2", "listed s1 516")
     killed(process)
 
 

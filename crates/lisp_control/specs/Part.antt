@@ -19,6 +19,7 @@ use Rattle.lisp_lines.specs.declared.walk.Walk.{Walk}
 use Rattle.lisp_statistics.specs.Gathering.{Counted, Gathers, StaysExact}
 use Rattle.lisp_statistics.specs.Replays.{replay_count}
 use Rattle.lisp_statistics.specs.RouterList.{ListsRouters, is_long_list, list_start, listed_text, routers_by_parts}
+use Rattle.lisp_statistics.specs.RouterMetrics.{router_metrics_text}
 use Rattle.lisp_statistics.specs.Routers.{routers_counted_text}
 use Rattle.lisp_statistics.specs.SiteCounts.{site_counts_text}
 use Rattle.lisp_statistics.specs.SiteRefusals.{site_refusals_text}
@@ -71,7 +72,7 @@ pub record CountsPart (core : ServerState) (progress : Progress) (now : ℕ) (Go
   pub exact : StaysExact core.rows old new is_end
   pub told : MatchBool is_end (GoesOn new text rest) ((text ≡ []) × (rest ≡ Some (progresses.Counts new)))
 
--- the routers that it heard, with their rows; and its runs of replays
+-- the routers that it heard, with their rows, and those that it never heard; and its runs of replays
 abbrev pub told_routers : {A : Type 0} → ConfigValue → ℕ → Statistics A → List Replay → ℕ → Gathering Global → List ℕ
 told_routers c number s runs now rows = routers_counted_text c number now rows.routers s.heard.entries runs
 
@@ -80,7 +81,7 @@ abbrev pub BeginsRouters : {A : Type 0} → ConfigValue → ℕ → Statistics A
 BeginsRouters c number s runs now rows text rest =
     MatchBool (is_long_list s.heard.entries runs) ((text ≡ routers_by_parts (node_name c number)) × (rest ≡ Some (progresses.Routers (list_start rows)))) ((text ≡ told_routers c number s runs now rows) × (rest ≡ None))
 
--- the next of them come, and with the last ones the runs, and the line that says how many lines came
+-- the next of them come, and with the last ones the routers that were never heard, the runs, and the line that says how many lines came
 abbrev pub GoesOnRouters : {A : Type 0} → ConfigValue → ℕ → Statistics A → List Replay → RouterList Global → List ℕ → Option Progress → Type 0
 GoesOnRouters c number s runs old text rest = (new : RouterList Global) × (is_end : Bool) × ListsRouters c number (listed_text c old.rows) s.heard.entries runs old new text is_end
     × (rest ≡ (if is_end then None else Some (progresses.Routers new)))
@@ -89,10 +90,11 @@ abbrev pub HeardPart : {A : Type 0} → ConfigValue → ℕ → ServerState → 
 HeardPart c number core s runs (progresses.Routers list) now text rest = GoesOnRouters c number s runs list text rest
 HeardPart c number core s runs progress now text rest = CountsPart core progress now (BeginsRouters c number s runs now) text rest
 
--- what is counted of it, what it has, and what it holds of the sites that have a limit on that
+-- what is counted of it, what it has, what it holds of sites, what the limits of sites refused, and the metrics of its routers
 abbrev pub told_server : {A : Type 0} → ConfigValue → ℕ → ServerState → Statistics A → List Replay → Format → ℕ → Gathering Global → List ℕ
 told_server c number core s runs format now rows = told_counts c number s format (server_gauges rows core (replay_count now runs) s)
     ++ site_counts_text format (node_name c number) core.sites rows.routers.entries ++ site_refusals_text format (node_name c number) s.by_site.entries
+    ++ router_metrics_text format c number now s.heard
 
 abbrev pub TellsCounts : {A : Type 0} → ConfigValue → ℕ → ServerState → Statistics A → List Replay → Format → ℕ → Gathering Global → List ℕ → Option Progress → Type 0
 TellsCounts c number core s runs format now rows text rest = (text ≡ told_server c number core s runs format now rows) × (rest ≡ None)

@@ -17,8 +17,8 @@ use lisp_script::ScriptWhat;
 use lisp_server::Server;
 use lisp_sites::Config;
 use lisp_statistics::{
-    Figure, Format, Gathering, Gauge, Statistics, count_replays, counts_text, put_site_counts,
-    put_site_refusals,
+    Figure, Format, Gathering, Gauge, Statistics, count_replays, counts_text, put_router_metrics,
+    put_site_counts, put_site_refusals,
 };
 use std::alloc::{AllocError, Global};
 
@@ -89,7 +89,8 @@ fn router_counts(
 
 /// What is counted of the Map-Server with a number, and what it has at a moment, in ms, by its core, its rows as they
 /// were counted, and the runs of Map-Registers that it refuses as replays; then what is held of each of its sites that has
-/// a limit on its routers or rows, and how many Map-Registers the limits of each site refused.
+/// a limit on its routers or rows, and how many Map-Registers the limits of each site refused. Metrics also have the rows
+/// of its other sites, and the configured routers that register with it and were heard.
 pub(crate) fn server_counts(
     alloc: Global,
     config: &Config,
@@ -117,6 +118,7 @@ pub(crate) fn server_counts(
     let mut text = counts_text(alloc, config, number, format, statistics, &gauges)?;
     put_site_counts(&mut text, config, number, core.sites(), format, rows)?;
     put_site_refusals(&mut text, config, number, format, statistics)?;
+    put_router_metrics(&mut text, config, number, format, statistics, now)?;
     Ok(text)
 }
 

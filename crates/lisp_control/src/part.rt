@@ -53,7 +53,7 @@ pub struct Part {
 /// has some. Where a Map-Server holds more than 256 rows, `hold` is a line that says that they come by parts,
 /// then parts of 256 rows, then a line that says how many came. `routers` and `counts` are made once all rows
 /// are counted, 512 in a part; where the routers that were heard and the runs are more than 256, `routers` comes
-/// by parts as `hold` does. All other answers have one part. A router that is down says so; a question for
+/// by parts as `hold` does, and the last part has all routers that weren't. All other answers have one part. A router that is down says so; a question for
 /// a node of the other kind, and what is an order, is the fault 80.
 pub fn answer_part(
     alloc: Global,

@@ -4,3 +4,4 @@ pub mod Gathered
 pub mod Listed
 pub mod WholeList
 pub mod SiteCounting
+pub mod Silent

@@ -1,19 +1,18 @@
 -- The text of what is held of sites, and which routers are a site's.
-use Rattle.std.proofs.Common.{◌≡◌, ℕ, ◌+◌, ◌-◌, ◌^◌, ◌<◌, Bool, true, false, not, cond, List, [], ◌∷◌, ◌++◌, length, get_or, take, replicate, refl, ap, sym, subst, ◌∙◌, append_assoc, arith}
-use Rattle.std.specs.Prelude.{◌==◌, ◌&&◌, if◌then◌else◌}
+use Rattle.std.proofs.Common.{◌≡◌, ℕ, ◌+◌, ◌-◌, ◌^◌, ◌<◌, true, false, not, cond, List, [], ◌∷◌, ◌++◌, length, replicate, refl, ap, sym, subst, ◌∙◌, append_assoc, arith}
+use Rattle.std.specs.Prelude.{◌==◌, ◌&&◌}
 use Rattle.std.specs.Cmp.{ranks}
 use Rattle.std.specs.Cmp.Lexicographic.{slice_cmp}
 use Rattle.std.specs.Fmt.{char_count, digits, format_spec, padded_integral}
-use Rattle.std.specs.List.{AllByRecursion, flat_map}
+use Rattle.std.specs.List.{AllByRecursion}
 use Rattle.std.specs.Ordering.{MatchOrdering, is_le, is_lt, nat_cmp, ordering_then}
 use Rattle.std.specs.declared.cmp.Ordering.{Ordering}
 use Rattle.std.specs.declared.cmp.Ordering.TheVariants.{Less, Equal, Greater}
 use Rattle.std.proofs.lemmas.Bool.{eq-eqb, ne_eqb}
 use Rattle.std.proofs.lemmas.List.{append-nil}
-use Rattle.lisp_policy.specs.Site.{SiteValue}
 use Rattle.lisp_records.specs.declared.router.RouterId.{RouterId}
 use Rattle.lisp_records.specs.Router.{router_cmp}
-use Rattle.lisp_statistics.proofs.Counting.{joined, one_more_at}
+use Rattle.lisp_statistics.proofs.Counting.{joined}
 use Rattle.lisp_statistics.specs.SiteCounts.{IsXtr, RoutersOfSite, first_router, last_router, site_id_text}
 
 -- what `{:016x}` writes
@@ -27,16 +26,9 @@ pub ruleset written = (site_digits, append_assoc)
 
 -- ---- the text of sites
 
--- with one more site
-pub one_more_site : (shown : SiteValue → List ℕ) (head : List ℕ) (sites : List SiteValue) (i : ℕ) (site : SiteValue) (before after : List ℕ) → i < length sites → site ≡ get_or sites i site → before ≡ head ++ flat_map shown (take i sites) → after ≡ before ++ shown site
-    → after ≡ head ++ flat_map shown (take (i + 1) sites)
-one_more_site shown head sites i site before after within here so_far more =
-    one_more_at shown head sites i site before after within so_far (more ∙ ap (λ (s : SiteValue). before ++ shown s) here)
-
--- both families, where some site has such a limit
-pub both_families : (old mid new rows routers : List ℕ) (some : Bool) → some ≡ true → mid ≡ old ++ rows → new ≡ mid ++ routers → new ≡ old ++ (if some then rows ++ routers else [])
-both_families old mid new rows routers some is first second =
-    second ∙ ap (λ (t : List ℕ). t ++ routers) first ∙ joined old rows routers ∙ ap (λ (b : Bool). old ++ (if b then rows ++ routers else [])) (sym is)
+-- one text behind another
+pub both_families : (old mid new rows routers : List ℕ) → mid ≡ old ++ rows → new ≡ mid ++ routers → new ≡ old ++ (rows ++ routers)
+both_families old mid new rows routers first second = second ∙ ap (λ (t : List ℕ). t ++ routers) first ∙ joined old rows routers
 
 -- ---- the routers of a site
 

@@ -15,7 +15,8 @@ use Rattle.lisp_policy.specs.Configuration.{ConfigValue}
 use Rattle.lisp_lines.specs.Name.{node_name}
 use Rattle.lisp_lines.specs.Walk.{up_to_most}
 use Rattle.lisp_log.specs.declared.replays.Replay.{Replay}
-use Rattle.lisp_statistics.specs.Replays.{run_text}
+use Rattle.lisp_statistics.specs.Never.{never_count}
+use Rattle.lisp_statistics.specs.Routers.{unheard_text}
 use Rattle.lisp_statistics.specs.declared.hearing.Hearing.{Hearing}
 use Rattle.lisp_statistics.specs.declared.router_list.RouterList.{RouterList}
 use Rattle.lisp_statistics.specs.RouterList.{ArePartsOf, ListPart, PartsListAll, list_end, list_start, listed_line, routers_left}
@@ -50,20 +51,20 @@ all_names (r ∷ rs) = ap (λ (ks : List RouterId). r ∷ ks) (all_names rs)
 more_again : (lines a b : ℕ) → up_to_most (up_to_most (lines + a) + b) ≡ up_to_most (lines + (a + b))
 more_again lines a b = omega arith
 
-from_none : (a runs : ℕ) → up_to_most (up_to_most (0 + a) + runs) ≡ up_to_most (a + runs)
-from_none a runs = omega arith
+from_none : (a never runs : ℕ) → up_to_most (up_to_most (0 + a) + never + runs) ≡ up_to_most (a + never + runs)
+from_none a never runs = omega arith
 
 abbrev texts : List ListPart → List ℕ
 texts parts = flat_map (λ (part : ListPart). part.text) parts
 
-abbrev ending : ConfigValue → ℕ → List Replay → ℕ → ℕ → List ℕ
-ending c number runs now lines = flat_map (run_text (node_name c number) now) runs ++ listed_line (node_name c number) (up_to_most (lines + length runs))
+abbrev ending : ConfigValue → ℕ → List RouterId → List Replay → ℕ → ℕ → List ℕ
+ending c number routers runs now lines = unheard_text c number now routers runs ++ listed_line (node_name c number) (up_to_most (lines + never_count c number routers + length runs))
 
 -- what the parts that are left list
 record Left {A : Type 0} (c : ConfigValue) (number : ℕ) (shown : Heard → List ℕ) (routers : List RouterId) (runs : List Replay) (old : RouterList A) (parts : List ListPart) : Type 0 where
   heard : List Heard
   each : keys_of heard ≡ names_from old.left routers
-  text : texts parts ≡ flat_map shown heard ++ ending c number runs old.rows.walk.moment (up_to_most (old.lines + length heard))
+  text : texts parts ≡ flat_map shown heard ++ ending c number routers runs old.rows.walk.moment (up_to_most (old.lines + length heard))
 
 module _ {A : Type 0} (c : ConfigValue) (number : ℕ) (shown : Heard → List ℕ) (routers : List RouterId) (runs : List Replay) where
   parts_left : (old : RouterList A) (parts : List ListPart) → ArePartsOf c number shown routers runs old parts → Left c number shown routers runs old parts
@@ -88,8 +89,8 @@ module _ {A : Type 0} (c : ConfigValue) (number : ℕ) (shown : Heard → List �
       names : names_from old.left routers ≡ keys_of taken ++ names_from new.left routers
       names = sym (left_names old) ∙ ap keys_of are.3.1.left ∙ joined_keys taken (routers_left new part.heard) ∙ ap (λ (ks : List RouterId). keys_of taken ++ ks) (left_names new)
 
-      told : (b : Bool) → are.2 ≡ b → part.text ≡ lines ++ (if b then list_end (node_name c number) new runs else [])
-      told b its = are.3.2 ∙ ap (λ (b : Bool). lines ++ (if b then list_end (node_name c number) new runs else [])) its
+      told : (b : Bool) → are.2 ≡ b → part.text ≡ lines ++ (if b then list_end c number routers new runs else [])
+      told b its = are.3.2 ∙ (λ i. lines ++ (if its i then list_end c number (are.0 i) new runs else []))
 
       rest : (b : Bool) → are.2 ≡ b → MatchBool b (parts ≡ []) (ArePartsOf c number shown routers runs new parts)
       rest b its = subst (λ (b : Bool). MatchBool b (parts ≡ []) (ArePartsOf c number shown routers runs new parts)) its are.4
@@ -98,18 +99,18 @@ module _ {A : Type 0} (c : ConfigValue) (number : ℕ) (shown : Heard → List �
       by true its further = record {
         heard = taken;
         each = sym (names ∙ ap (λ (ks : List RouterId). keys_of taken ++ ks) (sym (left_names new) ∙ ap keys_of (are.3.1.end its)) ∙ append-nil (keys_of taken));
-        text = ap (λ (ps : List ListPart). part.text ++ texts ps) (rest true its) ∙ append-nil part.text ∙ told true its ∙ ap (λ (l : RouterList A). lines ++ ending c number runs l.rows.walk.moment l.lines) goes_on;
+        text = ap (λ (ps : List ListPart). part.text ++ texts ps) (rest true its) ∙ append-nil part.text ∙ told true its ∙ ap (λ (l : RouterList A). lines ++ ending c number routers runs l.rows.walk.moment l.lines) goes_on;
       }
       by false its further =
           let more = further (rest false its) in
           let all = flat_map shown more.heard in
-          let last : ℕ → List ℕ = ending c number runs old.rows.walk.moment in
+          let last : ℕ → List ℕ = ending c number routers runs old.rows.walk.moment in
           let count = up_to_most (up_to_most (old.lines + length taken) + length more.heard) in record {
             heard = taken ++ more.heard;
             each = joined_keys taken more.heard ∙ ap (λ (ks : List RouterId). keys_of taken ++ ks) more.each ∙ sym names;
             text =
                 ap (λ (t : List ℕ). t ++ texts parts) (told false its ∙ append-nil lines)
-                ∙ ap (λ (t : List ℕ). lines ++ t) (more.text ∙ ap (λ (l : RouterList A). all ++ ending c number runs l.rows.walk.moment (up_to_most (l.lines + length more.heard))) goes_on)
+                ∙ ap (λ (t : List ℕ). lines ++ t) (more.text ∙ ap (λ (l : RouterList A). all ++ ending c number routers runs l.rows.walk.moment (up_to_most (l.lines + length more.heard))) goes_on)
                 ∙ sym (append_assoc lines all (last count)) ∙ ap (λ (t : List ℕ). t ++ last count) (sym (joined_lines shown taken more.heard))
                 ∙ ap (λ (n : ℕ). flat_map shown (taken ++ more.heard) ++ last n) (more_again old.lines (length taken) (length more.heard) ∙ ap (λ (n : ℕ). up_to_most (old.lines + n)) (sym (length-append taken more.heard)));
           }
@@ -118,10 +119,11 @@ pub parts_list_all : (A : Type 0) → PartsListAll A
 parts_list_all A c number shown routers runs rows parts are =
     let all = parts_left c number shown routers runs (list_start rows) parts are in
     let lines = flat_map shown all.heard in
-    let ended = flat_map (run_text (node_name c number) rows.walk.moment) runs in
+    let ended = unheard_text c number rows.walk.moment routers runs in
+    let never = never_count c number routers in
     let each : keys_of all.heard ≡ routers = all.each ∙ all_names routers in record {
       heard = all.heard;
       each = each;
-      text = all.text ∙ sym (append_assoc lines ended (listed_line (node_name c number) (up_to_most (up_to_most (0 + length all.heard) + length runs)))) ∙ ap (λ (n : ℕ). lines ++ ended ++ listed_line (node_name c number) n)
-          (from_none (length all.heard) (length runs) ∙ ap (λ (n : ℕ). up_to_most (n + length runs)) (sym (length-keys_of all.heard) ∙ ap length each));
+      text = all.text ∙ sym (append_assoc lines ended (listed_line (node_name c number) (up_to_most (up_to_most (0 + length all.heard) + never + length runs)))) ∙ ap (λ (n : ℕ). lines ++ ended ++ listed_line (node_name c number) n)
+          (from_none (length all.heard) never (length runs) ∙ ap (λ (n : ℕ). up_to_most (n + never + length runs)) (sym (length-keys_of all.heard) ∙ ap length each));
     }

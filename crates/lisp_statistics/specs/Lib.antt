@@ -4,9 +4,11 @@ pub mod Statistics
 pub mod Gauge
 pub mod Counts
 pub mod Replays
+pub mod Never
 pub mod Routers
 pub mod Sites
 pub mod Gathering
 pub mod RouterList
 pub mod SiteCounts
 pub mod SiteRefusals
+pub mod RouterMetrics

@@ -12,8 +12,8 @@ use Rattle.lisp_policy.specs.Configuration.{ConfigValue}
 use Rattle.lisp_lines.specs.Name.{node_name}
 use Rattle.lisp_lines.specs.Walk.{up_to_most}
 use Rattle.lisp_log.specs.declared.replays.Replay.{Replay}
-use Rattle.lisp_statistics.specs.Replays.{run_text}
-use Rattle.lisp_statistics.specs.Routers.{counted_text}
+use Rattle.lisp_statistics.specs.Never.{never_count}
+use Rattle.lisp_statistics.specs.Routers.{counted_text, unheard_text}
 use Rattle.lisp_statistics.specs.declared.gathering.Gathering.{Gathering}
 use Rattle.lisp_statistics.specs.declared.hearing.Hearing.{Hearing}
 use Rattle.lisp_statistics.specs.declared.router_list.RouterList.{RouterList}
@@ -22,7 +22,7 @@ use Rattle.lisp_statistics.specs.declared.router_list.RouterList.{RouterList}
 abbrev pub most_routers : ℕ
 most_routers = 256
 
--- the routers and the runs of replays have more lines than a part
+-- the routers that were heard and the runs of replays have more lines than a part
 abbrev pub is_long_list : List (RouterId × Hearing) → List Replay → Bool
 is_long_list heard runs = nat_lt most_routers (length heard + length runs)
 
@@ -75,14 +75,15 @@ PutsRouter shown heard old new before after false = ListsOne heard old new None 
 abbrev pub PutsRouters : {A : Type 0} → (RouterId × Hearing → List ℕ) → List (RouterId × Hearing) → RouterList A → RouterList A → List ℕ → List ℕ → Bool → Type 0
 PutsRouters shown heard old new before after is_end = (taken : List (RouterId × Hearing)) × ListsNext heard old new is_end taken × (after ≡ before ++ flat_map shown taken)
 
--- the lines of the runs of replays, and how many lines came
-abbrev pub list_end : {A : Type 0} → List ℕ → RouterList A → List Replay → List ℕ
-list_end server list runs = flat_map (run_text server list.rows.walk.moment) runs ++ listed_line server (up_to_most (list.lines + length runs))
+-- the lines of the routers that were never heard, and of the runs of replays, and how many lines came
+abbrev pub list_end : {A : Type 0} → ConfigValue → ℕ → List RouterId → RouterList A → List Replay → List ℕ
+list_end c number heard list runs = unheard_text c number list.rows.walk.moment heard runs
+    ++ listed_line (node_name c number) (up_to_most (list.lines + never_count c number heard + length runs))
 
 -- a part: the lines of the next routers, and the end after the last one
 abbrev pub ListsRouters : {A : Type 0} → ConfigValue → ℕ → (RouterId × Hearing → List ℕ) → List (RouterId × Hearing) → List Replay → RouterList A → RouterList A → List ℕ → Bool → Type 0
 ListsRouters c number shown heard runs old new text is_end = (taken : List (RouterId × Hearing)) × ListsNext heard old new is_end taken
-    × (text ≡ flat_map shown taken ++ (if is_end then list_end (node_name c number) new runs else []))
+    × (text ≡ flat_map shown taken ++ (if is_end then list_end c number (keys_of heard) new runs else []))
 
 -- ---- all parts, where no router is heard for the first time meanwhile
 
@@ -97,11 +98,13 @@ ArePartsOf c number shown routers runs old [] = ⊥
 ArePartsOf {A} c number shown routers runs old (part ∷ parts) = (keys_of part.heard ≡ routers) × (new : RouterList A) × (is_end : Bool) × ListsRouters c number shown part.heard runs old new part.text is_end
     × MatchBool is_end (parts ≡ []) (ArePartsOf c number shown routers runs new parts)
 
--- together they have a line of each of these routers, in their order, those of the runs, and how many these are
+-- together they have a line of each of these routers, in their order, those of the routers that were never heard and of the runs, and how many
+-- these are
 pub record ListsAll (c : ConfigValue) (number now : ℕ) (shown : RouterId × Hearing → List ℕ) (routers : List RouterId) (runs : List Replay) (parts : List ListPart) : Type 0 where
   pub heard : List (RouterId × Hearing)
   pub each : keys_of heard ≡ routers
-  pub text : flat_map (λ (part : ListPart). part.text) parts ≡ flat_map shown heard ++ flat_map (run_text (node_name c number) now) runs ++ listed_line (node_name c number) (up_to_most (length routers + length runs))
+  pub text : flat_map (λ (part : ListPart). part.text) parts ≡ flat_map shown heard ++ unheard_text c number now routers runs
+      ++ listed_line (node_name c number) (up_to_most (length routers + never_count c number routers + length runs))
 
 abbrev pub PartsListAll : Type 0 → Type 0
 PartsListAll A = (c : ConfigValue) (number : ℕ) (shown : RouterId × Hearing → List ℕ) (routers : List RouterId) (runs : List Replay) (rows : Gathering A) (parts : List ListPart)

@@ -1,8 +1,8 @@
--- What is held of the sites that have a limit on it: how many live rows, and how many routers have them.
-use Rattle.std.specs.Prelude.{◌≡◌, ℕ, ◌-◌, ◌<◌, ◌==◌, Bool, false, ◌||◌, List, [], ◌∷◌, ◌++◌, length, replicate, codes, if◌then◌else◌}
+-- What is held of sites: how many live rows, and how many routers have them.
+use Rattle.std.specs.Prelude.{◌≡◌, ℕ, ◌-◌, ◌<◌, ◌==◌, Bool, true, false, ◌||◌, List, [], ◌∷◌, ◌++◌, length, replicate, codes, if◌then◌else◌}
 use Rattle.std.specs.BTreeMap.Range.{entries_between}
 use Rattle.std.specs.Fmt.{decimal, digits}
-use Rattle.std.specs.List.{AllByRecursion, filter, flat_map, list_any, sum_by}
+use Rattle.std.specs.List.{AllByRecursion, filter, flat_map, sum_by}
 use Rattle.std.specs.Option.{is_some}
 use Rattle.std.specs.declared.ops.Bound.TheVariants.{Included}
 use Rattle.lisp_policy.specs.Site.{SiteValue}
@@ -72,26 +72,29 @@ held_text shapes.Lines name site held = site_lines name site held
 held_text shapes.Rows name site held = site_sample (codes "lisp_site_rows") name site held.rows
 held_text shapes.Routers name site held = site_sample (codes "lisp_site_routers") name site held.routers
 
--- of a site without such a limit nothing is printed
-abbrev pub limited_text : SiteShape → List ℕ → List (RouterId × ℕ) → SiteValue → List ℕ
-limited_text shape name counts site = if is_limited site then held_text shape name site.id (held_of counts site.id) else []
+-- of a site without such a limit nothing is printed but the sample of its rows
+abbrev pub is_told : SiteShape → SiteValue → Bool
+is_told shapes.Rows site = true
+is_told _ site = is_limited site
+
+abbrev pub site_text : SiteShape → List ℕ → List (RouterId × ℕ) → SiteValue → List ℕ
+site_text shape name counts site = if is_told shape site then held_text shape name site.id (held_of counts site.id) else []
 
 -- ---- the text of all sites, in their order
 
 -- what helps to read the samples, and their type
 abbrev pub rows_head : List ℕ
-rows_head = codes "# HELP lisp_site_rows Live rows of each site that has a limit on its rows or routers.\n# TYPE lisp_site_rows gauge\n"
+rows_head = codes "# HELP lisp_site_rows Live rows of each site.\n# TYPE lisp_site_rows gauge\n"
 
 abbrev pub site_routers_head : List ℕ
 site_routers_head = codes "# HELP lisp_site_routers Routers with live rows of each site that has a limit on its rows or routers.\n# TYPE lisp_site_routers gauge\n"
 
 abbrev pub site_family : List ℕ → SiteShape → List ℕ → List SiteValue → List (RouterId × ℕ) → List ℕ
-site_family head shape name sites counts = head ++ flat_map (limited_text shape name counts) sites
+site_family head shape name sites counts = head ++ flat_map (site_text shape name counts) sites
 
--- where no site has such a limit there are no heads either
 abbrev pub site_families : List ℕ → List SiteValue → List (RouterId × ℕ) → List ℕ
-site_families name sites counts = if list_any is_limited sites then site_family rows_head shapes.Rows name sites counts ++ site_family site_routers_head shapes.Routers name sites counts else []
+site_families name sites counts = site_family rows_head shapes.Rows name sites counts ++ site_family site_routers_head shapes.Routers name sites counts
 
 abbrev pub site_counts_text : Format → List ℕ → List SiteValue → List (RouterId × ℕ) → List ℕ
-site_counts_text formats.Lines name sites counts = flat_map (limited_text shapes.Lines name counts) sites
+site_counts_text formats.Lines name sites counts = flat_map (site_text shapes.Lines name counts) sites
 site_counts_text formats.Prometheus name sites counts = site_families name sites counts

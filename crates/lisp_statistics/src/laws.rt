@@ -26,7 +26,8 @@ pub fn kinds_by_word()
 {}
 
 /// Where no router is heard for the first time while they are listed by parts, the parts together have one line for each router that
-/// was heard, by Site-ID, then xTR-ID, then those of the runs of replays, then the number of all these lines.
+/// was heard, by Site-ID, then xTR-ID, then those of the routers that weren't heard and of the runs of replays, then the number of all these
+/// lines.
 pub fn parts_list_all()
     ensures { PartsListAll Global }
 {}

@@ -11,10 +11,12 @@
 //! - Prometheus gets the longest save in seconds as `12e-3`: its format takes that, and the ms stay whole numbers. So it is with the
 //!   slowest answer, in us: an answer in less than 1 ms is the rule.
 //! - Map-Requests are counted as they come, and not by their lines: one may ask for several EID-Prefixes, or be dropped without a line.
-//! - What is held of a site is reported where it has a limit on its routers or rows: there may be thousands of sites, and the answer is one
-//!   part. It is taken from the counts by router, where the first router of a site is found by halving.
+//! - In lines, what is held of a site is reported where it has a limit on its routers or rows: there may be thousands of sites, and the
+//!   answer is one part. Metrics have the rows of each: no operator reads these. It is taken from the counts by router, where the first router of a site is found by halving.
 //! - A refusal by a limit comes after the tag's check, so only sites that the Map-Server had have counts of them: six numbers at most.
 //! - What is held of sites is told of those that the Map-Server has now: it may have taken others since its start.
+//! - Routers that were never heard come in the last part, however many they are: a configuration has at most 1 MiB.
+//! - The nonce of a router is a gauge, and Prometheus rounds what is above 2^53: it shows whether a router's nonces go on.
 //! - Other sites are one kind of line, whether the Map-Server went on with what it holds or started anew: their first word is the same.
 #![tactic(auto)]
 
@@ -30,8 +32,10 @@ mod gauge;
 // The text of both.
 mod counts;
 pub mod laws;
+mod never;
 mod replays;
 mod router_list;
+mod router_metrics;
 mod routers;
 mod site_counts;
 mod site_refusals;
@@ -43,6 +47,7 @@ pub use hearing::Hearing;
 pub use kind::LineKind;
 pub use replays::count_replays;
 pub use router_list::{RouterList, RoutersPart, is_long_list, next_routers, routers_by_parts};
+pub use router_metrics::put_router_metrics;
 pub use routers::routers_text;
 pub use site_counts::put_site_counts;
 pub use site_refusals::{SiteRefusal, put_site_refusals};

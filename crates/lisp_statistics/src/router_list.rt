@@ -1,6 +1,7 @@
 //! The routers that a Map-Server heard, where they come by parts.
 
 ghost use Rattle.std.specs.Prelude.{◌≡◌, List, IfOk, OnErr};
+ghost use Rattle.std.specs.Map.{keys_of};
 ghost use Rattle.std.specs.Map.Iter.{deref_pair};
 ghost use Rattle.std.specs.Option.{option_map};
 ghost use Rattle.std.specs.String.{string_bytes};
@@ -12,8 +13,8 @@ ghost use Rattle.lisp_statistics.specs.Routers.{CountsRows, heard_text};
 
 use crate::gathering::Gathering;
 use crate::hearing::Hearing;
-use crate::replays::put_replays;
-use crate::routers::put_counted;
+use crate::never::count_never;
+use crate::routers::{add_lines, put_counted, put_unheard};
 use crate::statistics::Statistics;
 use lisp_lines::node_name;
 use lisp_log::Replay;
@@ -95,8 +96,8 @@ pub fn routers_by_parts<A: Memory, E: Allocator>(
 }
 
 /// The lines of the next routers that the Map-Server with a number heard, at most 256, as `routers_text` has them at the moment of which
-/// its rows were counted. After the last router the lines of the runs of Map-Registers that it refuses as replays, and one that says how
-/// many lines came.
+/// its rows were counted. After the last router the lines of the configured routers that register with it and weren't heard, those of the
+/// runs of Map-Registers that it refuses as replays, and one that says how many lines came.
 pub fn next_routers<A: Memory + Copy, B: Memory + Copy, C: Memory + Copy, E: Allocator>(
     alloc: A,
     config: &Config<E>,
@@ -116,9 +117,10 @@ pub fn next_routers<A: Memory + Copy, B: Memory + Copy, C: Memory + Copy, E: All
     ensures memory { OnErr result A.may_refuse }
 {
     let mut text = String::new(alloc);
-    let is_last = put_next_routers(alloc, &mut text, config, &statistics.heard, list)?;
+    let heard = &statistics.heard;
+    let is_last = put_next_routers(alloc, &mut text, config, heard, list)?;
     if is_last {
-        put_end(alloc, &mut text, config, number, runs, list)?;
+        put_end(alloc, &mut text, config, number, heard, runs, list)?;
     }
     Ok(RoutersPart { text, is_last })
 }
@@ -170,22 +172,26 @@ fn put_next<A: Memory + Copy, B: Memory + Copy, C: Memory + Copy, E: Allocator>(
     }
 }
 
-// Appends the lines of the runs of replays, and one that says how many lines came. Out of memory, it may leave a part of them.
+// Appends the lines of the routers that weren't heard, and of the runs of replays, and one that says how many lines came. Out of memory, it
+// may leave a part of them.
 #[tactic(auto, using(crate::proofs::Counting::steps))]
-fn put_end<A: Memory + Copy, C: Memory + Copy, E: Allocator>(
+fn put_end<A: Memory + Copy, B: Memory + Copy, C: Memory + Copy, E: Allocator>(
     alloc: A,
     text: &mut String<A>,
     config: &Config<E>,
     number: usize,
+    heard: &BTreeMap<RouterId, Hearing, B>,
     runs: &[Replay],
     list: &RouterList<C>,
 ) -> Result<(), AllocError>
     ensures text { Adds result text.old text.new
-        (list_end (node_name config.now number) list.now runs.now) }
+        (list_end config.now number (keys_of heard.now.entries) list.now runs.now) }
     ensures memory { OnErr result A.may_refuse }
 {
+    let now = list.rows.walk.moment();
+    put_unheard(alloc, text, config, number, heard, runs, now)?;
     let name = node_name(config, number);
-    put_replays(alloc, text, name, runs, list.rows.walk.moment())?;
-    let lines = list.lines.saturating_add(runs.len() as u64);
+    let never = count_never(config, number, heard);
+    let lines = add_lines(list.lines, never, runs.len());
     text.try_write(format_args!("listed {name} {lines}\n"))
 }

@@ -1,10 +1,10 @@
-//! What is held of the sites that have a limit on it.
+//! What is held of sites.
 
 ghost use Rattle.std.specs.Prelude.{◌≡◌, OnErr};
-ghost use Rattle.std.specs.List.{flat_map, list_any};
+ghost use Rattle.std.specs.List.{flat_map};
 ghost use Rattle.lisp_lines.specs.Front.{Adds};
 ghost use Rattle.lisp_lines.specs.Name.{node_name};
-ghost use Rattle.lisp_statistics.specs.SiteCounts.{held_of, held_text, is_limited, limited_text, site_counts_text, site_families, site_family, site_line, site_lines, site_sample};
+ghost use Rattle.lisp_statistics.specs.SiteCounts.{held_of, held_text, is_limited, is_told, site_counts_text, site_families, site_family, site_line, site_lines, site_sample, site_text};
 
 use crate::counts::Format;
 use crate::gathering::Gathering;
@@ -39,7 +39,7 @@ enum SiteShape {
 
 // What stands before the samples of rows.
 const ROWS_HEAD: &str =
-    "# HELP lisp_site_rows Live rows of each site that has a limit on its rows or routers.\n# TYPE lisp_site_rows gauge\n";
+    "# HELP lisp_site_rows Live rows of each site.\n# TYPE lisp_site_rows gauge\n";
 
 // And before those of routers.
 const ROUTERS_HEAD: &str =
@@ -47,7 +47,8 @@ const ROUTERS_HEAD: &str =
 
 /// Appends how many live rows each of these sites has that has a limit on its routers or rows, and how many routers have them, by the rows
 /// of the Map-Server with a number that were counted: in lines `counts NAME site SITE-ID rows COUNT` and
-/// `counts NAME site SITE-ID routers COUNT`, in the order of the sites; or as metrics. Out of memory, it may leave a part of them.
+/// `counts NAME site SITE-ID routers COUNT`, in the order of the sites; or as metrics, which have the rows of the other sites too. Out of
+/// memory, it may leave a part of them.
 pub fn put_site_counts<A: Memory, C: Memory + Copy, E: Allocator, F: Allocator>(
     text: &mut String<A>,
     config: &Config<E>,
@@ -69,7 +70,7 @@ pub fn put_site_counts<A: Memory, C: Memory + Copy, E: Allocator, F: Allocator>(
     }
 }
 
-// Appends the samples of rows, and those of routers, where a site has such a limit. Out of memory, it may leave a part of them.
+// Appends the samples of rows, and those of routers. Out of memory, it may leave a part of them.
 fn put_site_families<A: Memory, C: Memory + Copy, E: Allocator>(
     text: &mut String<A>,
     name: &str,
@@ -80,18 +81,8 @@ fn put_site_families<A: Memory, C: Memory + Copy, E: Allocator>(
         (site_families name.now sites.now counts.now.entries) }
     ensures memory { OnErr result A.may_refuse }
 {
-    if !some_limited(sites) {
-        return Ok(());
-    }
     put_site_family(text, ROWS_HEAD, SiteShape::Rows, name, sites, counts)?;
     put_site_family(text, ROUTERS_HEAD, SiteShape::Routers, name, sites, counts)
-}
-
-// Whether a site has such a limit.
-fn some_limited<E: Allocator>(sites: &[Site<E>]) -> bool
-    ensures { result ≡ list_any is_limited sites.now }
-{
-    sites.iter().any(|site| is_limited(site))
 }
 
 // Appends samples after their head. Out of memory, it may leave a part of them.
@@ -111,7 +102,7 @@ fn put_site_family<A: Memory, C: Memory + Copy, E: Allocator>(
     put_sites(text, shape, name, sites, counts)
 }
 
-// Appends what is held of each site that has such a limit, in a shape. Out of memory, it may leave a part of it.
+// Appends what is held of each site that is told in a shape. Out of memory, it may leave a part of it.
 fn put_sites<A: Memory, C: Memory + Copy, E: Allocator>(
     text: &mut String<A>,
     shape: SiteShape,
@@ -120,17 +111,17 @@ fn put_sites<A: Memory, C: Memory + Copy, E: Allocator>(
     counts: &BTreeMap<RouterId, u64, C>,
 ) -> Result<(), AllocError>
     ensures text { Adds result text.old text.new
-        (flat_map (limited_text shape name.now counts.now.entries) sites.now) }
+        (flat_map (site_text shape name.now counts.now.entries) sites.now) }
     ensures memory { OnErr result A.may_refuse }
 {
     for site in sites {
-        put_limited(text, shape, name, site, counts)?;
+        put_site(text, shape, name, site, counts)?;
     }
     Ok(())
 }
 
-// Appends what is held of a site that has such a limit, in a shape; of another site nothing. Out of memory, it may leave a part of it.
-fn put_limited<A: Memory, C: Memory + Copy, E: Allocator>(
+// Appends what is held of a site, in a shape; nothing where the site isn't told so. Out of memory, it may leave a part of it.
+fn put_site<A: Memory, C: Memory + Copy, E: Allocator>(
     text: &mut String<A>,
     shape: SiteShape,
     name: &str,
@@ -138,13 +129,23 @@ fn put_limited<A: Memory, C: Memory + Copy, E: Allocator>(
     counts: &BTreeMap<RouterId, u64, C>,
 ) -> Result<(), AllocError>
     ensures text { Adds result text.old text.new
-        (limited_text shape name.now counts.now.entries site.now) }
+        (site_text shape name.now counts.now.entries site.now) }
     ensures memory { OnErr result A.may_refuse }
 {
-    if is_limited(site) {
+    if is_told(shape, site) {
         put_held(text, shape, name, site.id(), held_of(counts, site.id()))
     } else {
         Ok(())
+    }
+}
+
+// Whether a site is told in a shape.
+fn is_told<E: Allocator>(shape: SiteShape, site: &Site<E>) -> bool
+    ensures { result ≡ is_told shape site.now }
+{
+    match shape {
+        SiteShape::Rows => true,
+        SiteShape::Lines | SiteShape::Routers => is_limited(site),
     }
 }
 

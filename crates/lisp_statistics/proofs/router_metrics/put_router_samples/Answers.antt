@@ -1,0 +1,22 @@
+use Rattle.std.proofs.Common.{ℕ, ◌++◌, List, ap, sym, ◌∙◌}
+use Rattle.std.specs.List.{flat_map}
+use Rattle.std.specs.String.{string_bytes}
+use Rattle.std.proofs.lemmas.List.{append-nil, take_all}
+use Rattle.lisp_policy.specs.Configuration.{RouterEntryValue}
+use Rattle.lisp_statistics.specs.RouterMetrics.{registered_sample}
+use Rattle.lisp_statistics.proofs.Counting.{one_more_here}
+use Rattle.lisp_statistics.proofs.router_metrics.put_router_samples.Goals as goal
+
+pub loop-router-init : goal.loop-router-init
+loop-router-init g c = sym (append-nil (string_bytes c.args.text.now))
+
+pub loop-router-preserved : goal.loop-router-preserved
+loop-router-preserved g c =
+    let shown : RouterEntryValue → List ℕ = registered_sample c.args.metric c.args.node.now c.args.number c.args.now c.args.heard.now in
+    one_more_here shown (string_bytes c.args.text.now) c.args.routers.now c.loop-router.router-index c.router-item.result _ _
+    c.loop-router-test.true c.router-item.is c.loop-router.invariant c.in_ok-put_registered_sample.ensures.text
+
+pub returns-clause-text : goal.returns-clause-text
+returns-clause-text g c =
+    let shown : RouterEntryValue → List ℕ = registered_sample c.args.metric c.args.node.now c.args.number c.args.now c.args.heard.now in
+    c.loop-router.invariant ∙ ap (λ (rs : List RouterEntryValue). string_bytes c.args.text.now ++ flat_map shown rs) (take_all c.loop-router.router-index c.args.routers.now c.loop-router-test.false)
