@@ -18,9 +18,13 @@ abbrev pub word_text : LineWord → List ℕ
 word_text Kept = codes "kept"
 word_text Forgotten = codes "forgotten"
 
--- `WORD SITE XTR`: Site-ID and xTR-ID in lower case hexadecimal digits
+-- `SITE XTR`: Site-ID and xTR-ID in lower case hexadecimal digits
+abbrev pub identity_text : RouterId → List ℕ
+identity_text r = encode_lower (to_be_bytes w64 r.site) ++ codes " " ++ encode_lower r.xtr
+
+-- `WORD SITE XTR`
 abbrev pub router_words : LineWord → RouterId → List ℕ
-router_words word r = word_text word ++ codes " " ++ encode_lower (to_be_bytes w64 r.site) ++ codes " " ++ encode_lower r.xtr
+router_words word r = word_text word ++ codes " " ++ identity_text r
 
 -- `WORD SITE XTR key K nonce N`: Key ID and nonce in decimal without leading zeros
 abbrev pub line_text : LineWord → AcceptedNonce → List ℕ

@@ -18,7 +18,7 @@ mod list_fault;
 mod unheard_nonces;
 
 pub use accepted_nonce::{AcceptedNonce, accepted_nonces};
-pub use line::{LineWord, nonce_from_line, put_line};
+pub use line::{LineWord, nonce_from_line, put_identity, put_line};
 pub use list::read_list;
 pub use list_fault::ListFault;
 pub use unheard_nonces::unheard;

@@ -9,7 +9,7 @@ ghost use Rattle.lisp_memory.specs.Appending.{StringGrowsBy};
 ghost use Rattle.lisp_store.specs.PairName.{AreBytes};
 ghost use Rattle.lisp_texts.specs.Reading.{cut, number_below};
 ghost use Rattle.lisp_nonce_list.specs.AcceptedNonce.{IsAccepted};
-ghost use Rattle.lisp_nonce_list.specs.Line.{word_text, router_words, line_text, parts_of, nonce_of};
+ghost use Rattle.lisp_nonce_list.specs.Line.{word_text, identity_text, router_words, line_text, parts_of, nonce_of};
 
 use crate::accepted_nonce::AcceptedNonce;
 use lisp_memory::{FallibleString, Memory};
@@ -85,6 +85,15 @@ fn put_router<A: Memory>(
 {
     text.try_write(word_of(word))?;
     text.try_push(' ')?;
+    put_identity(text, router)
+}
+
+/// Appends the Site-ID and the xTR-ID of a router: 16 and 32 lower case hexadecimal digits, with a space between. Out of memory, it
+/// may leave a part of it.
+pub fn put_identity<A: Memory>(text: &mut String<A>, router: &RouterId) -> Result<(), AllocError>
+    ensures text { OnOk result (StringGrowsBy text.old text.new (identity_text router.now)) }
+    ensures memory { OnErr result A.may_refuse }
+{
     put_digits(text, &router.site.to_be_bytes(), &mut [0; 16])?;
     text.try_push(' ')?;
     put_digits(text, &router.xtr, &mut [0; 32])

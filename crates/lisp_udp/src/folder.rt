@@ -8,10 +8,11 @@ use crate::bound_socket;
 use crate::connection::AskedNode;
 use crate::control::ControlSocket;
 use crate::storage::{NodeStore, Storage};
-use lisp_database_store::{Change, Database, Failure, SystemTable};
+use lisp_database_store::{Change, Database, DatabaseStore, Failure, SystemTable};
 use lisp_files::{Ending, Problem};
 use lisp_memory::FallibleString;
 use lisp_nonces::{Pair, StoreFault};
+use lisp_raising::raise;
 use lisp_script::RunFault;
 use lisp_store::{
     FileStore, KeptNonce, SystemFolder, count_pairs, forget_nonce, is_file_there, read_nonces,
@@ -232,6 +233,33 @@ impl LockedFolder {
                     Problem::Forget(error_of(failure)),
                 )),
             },
+        }
+    }
+
+    /// Raises these nonces in the store there, and is done once each is synced. `failure` holds the kind of the last error of the store's
+    /// device. Faults: 93 where one can't be saved; 97.
+    pub(crate) fn raise<T: SystemTable>(
+        &self,
+        rt: &HostRuntime,
+        store: NodeStore<'_, T>,
+        failure: &Cell<Option<ErrorKind>>,
+        nonces: &[KeptNonce],
+        by: u32,
+    ) -> Result<(), Ending> {
+        let raised = match store {
+            NodeStore::Files(mut store) => raise(&mut store, nonces, by),
+            NodeStore::Database { database, .. } => {
+                let mut store = DatabaseStore::over(database, failure);
+                raise(&mut store, nonces, by)
+            }
+        };
+        match raised {
+            Ok(()) => Ok(()),
+            Err(StoreFault::OutOfMemory) => Err(Ending::from(RunFault::MEMORY)),
+            Err(StoreFault::Device | StoreFault::Damaged) => {
+                let error = io::Error::from(failure.get().unwrap_or(ErrorKind::Other));
+                Err(Ending::of_file(rt.alloc(), self.path.as_str(), Problem::Write(error)))
+            }
         }
     }
 

@@ -1,6 +1,7 @@
 //! What the folders of nodes are used for.
 
 use crate::forgetting::{Forgetting, forget};
+use crate::raising::raise_nonces;
 use crate::storage::Storage;
 use crate::subject::{Subject, run_subject};
 use lisp_database_store::SystemTable;
@@ -24,6 +25,13 @@ pub enum FolderUse<'a> {
         /// What is wanted of them.
         forgetting: Forgetting<'a>,
     },
+    /// The nonces that a node keeps, which doesn't run, are raised.
+    Raise {
+        /// Its name.
+        name: &'a str,
+        /// By how much.
+        by: u32,
+    },
 }
 
 /// Uses the folders `dir`/NAME as is asked for. Faults: those of `run_subject`; or, where nothing runs, of the list 93, 87, 89, 95 and 141
@@ -42,5 +50,6 @@ pub fn use_folders<T: SystemTable, W: Write>(
         FolderUse::Forget { name, forgetting } => {
             forget::<T, W>(rt, dir, name, storage, forgetting, writer)
         }
+        FolderUse::Raise { name, by } => raise_nonces::<T, W>(rt, dir, name, storage, by, writer),
     }
 }

@@ -66,8 +66,9 @@ mod network;
 // Any of these.
 mod subject;
 
-// What nodes that don't run keep of others.
+// What nodes that don't run keep: of others, removed; and raised.
 mod forgetting;
+mod raising;
 
 // Any use of the folders.
 mod folder_use;

@@ -1,0 +1,4 @@
+pub mod Words
+pub mod Told
+pub mod Object
+pub mod Views

@@ -1,0 +1,2 @@
+mod Saved
+mod Refused
