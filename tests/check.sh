@@ -25,12 +25,15 @@ stage 'drawn schedules' ./fuzz.py "$program" 1 200
 stage 'replies that are kept' ./replies.py "$program" 1 300
 stage 'messages by which others ask' ./requests.py ../crates/lisp_fields/out/lisp_fields 1 300
 stage 'captures that are read' ./packets.py ../crates/lisp_packets/out/lisp_packets 1 300
+stage 'captures that are told' ./captures.py "$program"
 stage pictures ./draw.py "$program"
 stage 'running nodes' ./running.py "$program"
 stage databases ./databases.py "$program"
 stage groups ./groups.py "$program"
 stage 'routers that are forgotten' ./forgetting.py "$program"
+stage 'copies that are raised' ./raising.py "$program"
 stage 'asked and told' ./control.py "$program"
+stage 'answers as JSON' ./objects.py "$program"
 stage 'other sites' ./reloading.py "$program"
 stage looks ./look.py "$program"
 stage 'Map-Requests that are answered' ./resolving.py "$program"

@@ -17,6 +17,7 @@ HERE = Path(__file__).resolve().parent
 EXAMPLES = HERE.parent / "examples"
 LONGEST = 40
 LIMIT = 20
+CAPTURE = ["read", str(EXAMPLES / "map-register.pcap"), str(EXAMPLES / "worked.toml")]
 # What may be printed for want of memory: a refusal by a core, by its store, or the fault of an event.
 TOLD = re.compile(r"refused \S+ (?:36|48|58|66|(?:35|38|42|56|59|65|68) store 32)|fault 75")
 # A start that was refused.
@@ -182,7 +183,8 @@ with tempfile.TemporaryDirectory() as room, concurrent.futures.ThreadPoolExecuto
     schedules = [it for it in found if short(it)]
     asked = [side.submit(refuse_growth, room, it) for it in schedules]
     asked += [side.submit(refuse_text, room, words)
-              for words in (["check", str(EXAMPLES / "configuration.toml")], ["explain"], ["explain", "57"], ["--help"])]
+              for words in (["check", str(EXAMPLES / "configuration.toml")], ["explain"], ["explain", "57"], ["--help"], CAPTURE,
+                            [*CAPTURE, "--schedule"])]
     drawn = str(EXAMPLES / "schedules" / "05-server-save-kept.schedule")
     asked += [side.submit(refuse_picture, room, words) for words in (["draw", drawn], ["draw", "--text", drawn])]
     asked.append(side.submit(refuse_answer, room))

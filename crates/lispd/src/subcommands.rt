@@ -9,8 +9,9 @@ use lisp_script::PlayFault;
 use lisp_sqlite::{Task, run_task};
 use lisp_udp::{Answering, FolderUse, Forgetting, Storage, Stretch, Subject, use_folders};
 use lispd_cli::{
-    CONFIG, DATABASE, Errand, FILE, Failure, ForgetWords, NodeWords, ProgramFault, STORE, TEXT,
-    ask_node, forget_words, is_given, look_up, node_words, run_alone, word,
+    CONFIG, DATABASE, Errand, FILE, Failure, ForgetWords, NodeWords, ProgramFault, RaiseWords,
+    STORE, TEXT, ask_node, forget_words, is_given, look_up, node_words, raise_words, run_alone,
+    word,
 };
 use std::alloc::Global;
 use std::fs;
@@ -74,7 +75,7 @@ impl<W: Write> Task for RunTask<'_, W> {
     }
 }
 
-// What `server`, `router`, `loop` and `forget` run; `None` for other subcommands.
+// What `server`, `router`, `loop`, `forget` and `raise` run; `None` for other subcommands.
 fn named_run<'a>(named: Option<(&str, &ArgMatches<'a>)>) -> Result<Option<Run<'a>>, ProgramFault> {
     let Some((name, words)) = named else {
         return Ok(None);
@@ -84,6 +85,7 @@ fn named_run<'a>(named: Option<(&str, &ArgMatches<'a>)>) -> Result<Option<Run<'a
         "router" => Ok(Some(node_run(NodeKind::Router, words)?)),
         "loop" => Ok(Some(network_run(words))),
         "forget" => Ok(Some(forget_run(words)?)),
+        "raise" => Ok(Some(raise_run(words)?)),
         _ => Ok(None),
     }
 }
@@ -176,6 +178,20 @@ fn forget_run<'a>(words: &ArgMatches<'a>) -> Result<Run<'a>, ProgramFault> {
         dir,
         storage: storage(has_database, 1),
         wanted: FolderUse::Forget { name, forgetting },
+    })
+}
+
+fn raise_run<'a>(words: &ArgMatches<'a>) -> Result<Run<'a>, ProgramFault> {
+    let RaiseWords {
+        name,
+        dir,
+        has_database,
+        by,
+    } = raise_words(words)?;
+    Ok(Run {
+        dir,
+        storage: storage(has_database, 1),
+        wanted: FolderUse::Raise { name, by },
     })
 }
 

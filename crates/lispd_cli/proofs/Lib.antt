@@ -3,3 +3,4 @@ mod Said
 mod Warned
 mod Filled
 mod Numbers
+mod Taken

@@ -10,11 +10,12 @@ use Rattle.lisp_script.specs.RunFault.{run_status, run_line}
 use Rattle.lisp_script.specs.declared.input_fault.InputFault.{InputFault}
 use Rattle.lisp_script.specs.declared.input_fault.InputFault.TheVariants as input_faults
 use Rattle.lisp_script.specs.declared.play_fault.PlayFault.TheVariants as play_faults
+use Rattle.lispd_cli.specs.CaptureFault.{reading_fault_number, reading_fault_status}
 use Rattle.lispd_cli.specs.declared.failure.Failure.{Failure}
 use Rattle.lispd_cli.specs.declared.fault.SetupFault.{SetupFault}
 use Rattle.lispd_cli.specs.declared.fault.SetupFault.TheVariants as setup_faults
 use Rattle.lispd_cli.specs.declared.fault.ProgramFault.{ProgramFault}
-use Rattle.lispd_cli.specs.declared.fault.ProgramFault.TheVariants.{Words, Setup, Answer, File, Play, Turns, Known, Group, GroupOfFiles, Quiet, Budget, NoList, Run, Explain, Unanswered, Refused, Question, Look, Warnings}
+use Rattle.lispd_cli.specs.declared.fault.ProgramFault.TheVariants.{Words, Setup, Answer, File, Play, Turns, Known, Group, GroupOfFiles, Quiet, Budget, NoList, By, TwoForms, Run, Explain, Unanswered, Refused, Question, Look, Reading, Warnings}
 
 abbrev pub setup_fault_number : SetupFault → ℕ
 setup_fault_number (setup_faults.BadOption _) = 98
@@ -37,12 +38,15 @@ program_fault_number GroupOfFiles = 98
 program_fault_number Quiet = 98
 program_fault_number Budget = 98
 program_fault_number NoList = 98
+program_fault_number TwoForms = 98
+program_fault_number By = 98
 program_fault_number (Run fault) = fault.number
 program_fault_number (Explain fault) = explain_fault_number fault
 program_fault_number Unanswered = 99
 program_fault_number (Refused number) = number
 program_fault_number (Question _) = 98
 program_fault_number (Look fault) = look_fault_number fault
+program_fault_number (Reading fault) = reading_fault_number fault
 program_fault_number Warnings = 25
 
 abbrev pub program_fault_status : ProgramFault → ℕ
@@ -58,12 +62,15 @@ program_fault_status GroupOfFiles = 2
 program_fault_status Quiet = 2
 program_fault_status Budget = 2
 program_fault_status NoList = 2
+program_fault_status TwoForms = 2
+program_fault_status By = 2
 program_fault_status (Run fault) = run_status fault.number
 program_fault_status (Explain fault) = explain_fault_status fault
 program_fault_status Unanswered = 1
 program_fault_status (Refused _) = 3
 program_fault_status (Question _) = 2
 program_fault_status (Look fault) = look_fault_status fault
+program_fault_status (Reading fault) = reading_fault_status fault
 program_fault_status Warnings = 2
 
 -- the faulty line of a script, or of a list

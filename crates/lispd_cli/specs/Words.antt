@@ -1,4 +1,4 @@
--- The words of `server`, `router` and `forget`, as `clap` matched them.
+-- The words of `server`, `router`, `forget` and `raise`, as `clap` matched them.
 use Rattle.std.specs.Prelude.{◌≡◌, ℕ, ◌*◌, ◌^◌, nat_lt, Bool, List, [], codes, Option, Some, None, unwrap_or, if◌then◌else◌}
 use Rattle.std.specs.Option.{option_map}
 use Rattle.clap.specs.Words.{first_value, found_of}
@@ -7,6 +7,7 @@ use Rattle.lisp_texts.specs.Number.{number_of}
 use Rattle.lispd_cli.specs.Options.{flag_of}
 use Rattle.lispd_cli.specs.declared.words.NodeWords.{NodeWords}
 use Rattle.lispd_cli.specs.declared.words.ForgetWords.{ForgetWords}
+use Rattle.lispd_cli.specs.declared.words.RaiseWords.{RaiseWords}
 
 -- a word that is required, by its name
 abbrev pub word_in : ArgMatches → List ℕ → List ℕ
@@ -77,3 +78,15 @@ pub record ReadsForget (words : ArgMatches) (read : ForgetWords) : Type 0 where
   pub database : read.has_database ≡ is_given_in words (codes "database")
   pub list : option_map (λ list. list.now) read.list ≡ option_in words (codes "LIST")
   pub removes : read.removes ≡ is_given_in words (codes "remove")
+
+-- by how much nonces are raised: a decimal number from 1 to 4294967295
+abbrev pub by_below : Option ℕ → Option ℕ
+by_below None = None
+by_below (Some n) = if nat_lt n 1 then None else if nat_lt 4294967295 n then None else Some n
+
+-- each word of `raise` is that which was given
+pub record ReadsRaise (words : ArgMatches) (read : RaiseWords) : Type 0 where
+  pub name : read.name.now ≡ word_in words (codes "NAME")
+  pub dir : read.dir.now ≡ word_in words (codes "store")
+  pub database : read.has_database ≡ is_given_in words (codes "database")
+  pub by : by_below (number_of (word_in words (codes "N"))) ≡ Some read.by

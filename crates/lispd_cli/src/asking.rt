@@ -7,9 +7,10 @@ ghost use Rattle.lispd_cli.specs.declared.fault.ProgramFault.TheVariants.{Answer
 ghost use Rattle.lisp_answer.specs.declared.fault.AnswerFault.TheVariants as answers;
 
 use crate::advice::advice_of;
-use crate::command_line::{FOLDER, FORCE, PROMETHEUS, QUESTION, RELOAD};
+use crate::command_line::{FOLDER, FORCE, JSON, PROMETHEUS, QUESTION, RELOAD};
 use crate::failure::Failure;
 use crate::fault::ProgramFault;
+use crate::objects::print_objects;
 use crate::printed_line::fault_of;
 use crate::reloading::reload_sites;
 use crate::words::{is_given, word};
@@ -48,8 +49,9 @@ pub enum Errand {
 /// Asks the node that runs over a folder, or tells it what to do, and prints its answer. Before it tells a router to register other
 /// records it asks which of them the router's site doesn't allow; it warns of each on standard error, and doesn't tell it then, but
 /// with `--force`. A Map-Server is told the sites of a configuration as `reload_sites` says. Faults: 80 where it is asked an order, or
-/// told a question; 99 where no node answers, or its answer is cut off; those of the line, 80 to 86; what keeps the node from doing what
-/// it is told, 55 where a record isn't allowed, with the status 3; 88 where the answer can't be written; 97.
+/// told a question; 98 where `--json` comes with `--prometheus`; 99 where no node answers, or its answer is cut off; those of the line,
+/// 80 to 86; what keeps the node from doing what it is told, 55 where a record isn't allowed, with the status 3; 88 where the answer
+/// can't be written; 97.
 pub fn ask_node<R: Input + Eprint + Files + Net + AllocGlobal, W: Write>(
     rt: &R,
     errand: Errand,
@@ -79,6 +81,9 @@ fn ask<R: Eprint + Files + Net + AllocGlobal, W: Write>(
     question: &str,
     writer: &mut W,
 ) -> Result<(), ProgramFault> {
+    if is_given(words, JSON) && is_given(words, PROMETHEUS) {
+        return Err(ProgramFault::TwoForms);
+    }
     if errand_of(question) != errand {
         return Err(bad_line(ScriptWhat::Word.number()));
     }
@@ -87,7 +92,11 @@ fn ask<R: Eprint + Files + Net + AllocGlobal, W: Write>(
         check_change(rt, path.as_str(), question)?;
     }
     let answer = answer(rt, path.as_str(), question)?;
-    print_answer(errand, answer.as_str(), writer)
+    if is_given(words, JSON) {
+        print_objects(rt.alloc(), answer.as_str(), writer)
+    } else {
+        print_answer(errand, answer.as_str(), writer)
+    }
 }
 
 /// The socket at which the node of a folder is asked.

@@ -4,8 +4,8 @@ use crate::argument::Argument;
 use crate::help::{
     ABOUT, ANSWER_ABOUT, ANSWER_EXAMPLE, ASK_ABOUT, ASK_FORM, CHECK_ABOUT, CHECK_WARNS, DRAW_ABOUT,
     DRAW_FORM, EXPLAIN_ABOUT, FORGET_ABOUT, FORGET_RISKS, LINE_EXAMPLE, LOOK_ABOUT, LOOK_FORM,
-    LOOP_ABOUT, LOOP_FORM, NODE_RUNS, PLAY_ABOUT, PLAY_FORM, ROUTER_ABOUT, SERVER_ABOUT,
-    SERVER_GROUPS, TELL_ABOUT, TELL_FORM,
+    LOOP_ABOUT, LOOP_FORM, NODE_RUNS, PLAY_ABOUT, PLAY_FORM, RAISE_ABOUT, RAISE_NEEDS, READ_ABOUT,
+    READ_FORM, ROUTER_ABOUT, SERVER_ABOUT, SERVER_GROUPS, TELL_ABOUT, TELL_FORM,
 };
 use crate::option::AnswerOption;
 use clap::Command;
@@ -17,13 +17,16 @@ pub const CHECK: &str = "check";
 /// The subcommand that tells a node what to do.
 pub const TELL: &str = "tell";
 
+/// The subcommand that reads a capture.
+pub const READ: &str = "read";
+
 /// What it tells a Map-Server that is to take the sites of a configuration.
 pub const RELOAD: &str = "reload";
 
-/// The argument of `play`, `draw` and `loop`.
+/// The argument of `play`, `draw`, `loop` and `read`.
 pub const FILE: &str = "FILE";
 
-/// The configuration of `server`, `router`, `loop` and `check`.
+/// The configuration of `server`, `router`, `loop`, `check` and `read`.
 pub const CONFIG: &str = "CONFIG";
 
 /// The name of a node.
@@ -34,6 +37,9 @@ pub const FOLDER: &str = "FOLDER";
 
 /// In the text format of Prometheus.
 pub const PROMETHEUS: &str = "prometheus";
+
+/// As JSON.
+pub const JSON: &str = "json";
 
 /// Without asking what the router's site allows.
 pub const FORCE: &str = "force";
@@ -53,7 +59,7 @@ pub const FROM: &str = "from";
 /// The option for how many Map-Requests it sends at most.
 pub const TRIES: &str = "tries";
 
-/// The number of `explain`, and what stands behind it in a line.
+/// The number of `explain`, and what stands behind it in a line; and by how much `raise` raises.
 pub const NUMBER: &str = "N";
 
 /// The option for the folder of the nonces.
@@ -89,6 +95,9 @@ pub const REMOVE: &str = "remove";
 /// The switch of `check` and `tell` that makes warnings a fault.
 pub const STRICT: &str = "strict";
 
+/// The switch of `read` for a schedule.
+pub const SCHEDULE: &str = "schedule";
+
 /// The option of `check` for the folder of a node that runs.
 pub const AGAINST: &str = "against";
 
@@ -106,7 +115,7 @@ struct Subcommand {
     arguments: &'static [Argument],
 }
 
-/// The subcommands that answer, play and run, in the order of the help. (Two tables, since the prover computes with each as a whole.)
+/// The subcommands that answer, play and run, in the order of the help. (Three tables, since the prover computes with each as a whole.)
 static RUNNING: [Subcommand; 6] = [
     Subcommand {
         name: "answer",
@@ -218,8 +227,8 @@ from 0 to 3600; left out, 60",
     },
 ];
 
-/// Those that ask a node, tell it something, look at what it keeps, and at a configuration or a number; they come after the others.
-static ASKING: [Subcommand; 6] = [
+/// Those that ask a node, tell it something, and look at what it keeps or change it; they come after those.
+static ASKING: [Subcommand; 5] = [
     Subcommand {
         name: "ask",
         about: ASK_ABOUT,
@@ -230,6 +239,10 @@ static ASKING: [Subcommand; 6] = [
             Argument::Switch {
                 name: PROMETHEUS,
                 help: "Print what `counts` tells in the text format of Prometheus",
+            },
+            Argument::Switch {
+                name: JSON,
+                help: "Print each line as a JSON object",
             },
             WORDS_ARGUMENT,
         ],
@@ -317,6 +330,38 @@ Map-Server is reached",
         ],
     },
     Subcommand {
+        name: "raise",
+        about: RAISE_ABOUT,
+        after_help: Some(RAISE_NEEDS),
+        arguments: &[
+            Argument::Word {
+                name: NAME,
+                is_required: true,
+                help: "The node's name, that of its folder",
+            },
+            Argument::Word {
+                name: NUMBER,
+                is_required: true,
+                help: "By how much, from 1 to 4294967295",
+            },
+            Argument::Value {
+                name: STORE,
+                letters: "DIR",
+                is_required: true,
+                help: "The folder of the nonces, in which the node has a folder of its name",
+            },
+            Argument::Switch {
+                name: DATABASE,
+                help: "The nonces are in a SQLite database there, nonces.db",
+            },
+            WORDS_ARGUMENT,
+        ],
+    },
+];
+
+/// Those that read a configuration or a capture, or explain a number; they come last.
+static READING: [Subcommand; 3] = [
+    Subcommand {
         name: CHECK,
         about: CHECK_ABOUT,
         after_help: Some(CHECK_WARNS),
@@ -335,6 +380,28 @@ Map-Server is reached",
                 letters: "FOLDER",
                 is_required: false,
                 help: "Print also what `lispd tell FOLDER reload CONFIG` would do to the Map-Server that runs over that folder, which changes nothing there",
+            },
+            WORDS_ARGUMENT,
+        ],
+    },
+    Subcommand {
+        name: READ,
+        about: READ_ABOUT,
+        after_help: Some(READ_FORM),
+        arguments: &[
+            Argument::Word {
+                name: FILE,
+                is_required: true,
+                help: "The capture, of pcap or pcapng; `-` for standard input",
+            },
+            Argument::Word {
+                name: CONFIG,
+                is_required: false,
+                help: "The configuration whose secrets are tried, TOML; left out, no tag is known",
+            },
+            Argument::Switch {
+                name: SCHEDULE,
+                help: "Print it as a schedule for CONFIG",
             },
             WORDS_ARGUMENT,
         ],
@@ -433,6 +500,9 @@ pub fn command<'a>(alloc: Global) -> Result<Command<'a>, AllocError> {
     for subcommand in subcommands_that_ask() {
         command = command.subcommand(subcommand.to_command(alloc)?)?;
     }
+    for subcommand in subcommands_that_read() {
+        command = command.subcommand(subcommand.to_command(alloc)?)?;
+    }
     Ok(command)
 }
 
@@ -443,6 +513,10 @@ fn subcommands_that_run() -> &'static [Subcommand] {
 
 fn subcommands_that_ask() -> &'static [Subcommand] {
     &ASKING
+}
+
+fn subcommands_that_read() -> &'static [Subcommand] {
+    &READING
 }
 
 impl Subcommand {

@@ -2,6 +2,7 @@
 
 ghost use Rattle.std.specs.Prelude.{◌≡◌, None};
 
+use crate::capture_fault::ReadingFault;
 use crate::fault::ProgramFault;
 use lisp_files::{Ending, FileTrouble, Problem, STANDARD_OUTPUT};
 use lisp_memory::Memory;
@@ -98,6 +99,16 @@ impl From<PlayFault> for Failure {
 
     fn from(fault: PlayFault) -> Failure {
         Failure::from(ProgramFault::Play(fault))
+    }
+}
+
+impl From<ReadingFault> for Failure {
+    ghost use Rattle.lispd_cli.specs.declared.fault.ProgramFault.TheVariants.{Reading};
+
+    ghost from_gives = { λ why failure. failure.fault ≡ Reading why };
+
+    fn from(why: ReadingFault) -> Failure {
+        Failure::from(ProgramFault::from(why))
     }
 }
 

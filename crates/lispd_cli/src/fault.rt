@@ -5,6 +5,7 @@
 ghost use Rattle.std.specs.Prelude.{◌≡◌};
 ghost use Rattle.lispd_cli.specs.Fault.{setup_fault_number, setup_fault_status, program_fault_number, program_fault_status, program_fault_line};
 
+use crate::capture_fault::ReadingFault;
 use crate::option::AnswerOption;
 use crate::question::QuestionFault;
 use lisp_answer::AnswerFault;
@@ -96,6 +97,12 @@ pub enum ProgramFault {
     /// `--remove` comes without a list.
     #[error("--remove is taken only with LIST")]
     NoList,
+    /// By how much `raise` is to raise has another form than it takes.
+    #[error("N takes a whole number from 1 to 4294967295")]
+    By,
+    /// `--json` comes with `--prometheus`.
+    #[error("--json isn't taken with --prometheus")]
+    TwoForms,
     /// A node or network on sockets and files ended before its end.
     #[error("the program stopped")]
     Run(RunFault),
@@ -114,14 +121,17 @@ pub enum ProgramFault {
     /// No positive Map-Reply came.
     #[error(transparent)]
     Look(LookFault),
+    /// The capture isn't told to its end.
+    #[error(transparent)]
+    Reading(ReadingFault),
     /// The configuration has warnings, and `--strict` was given; or it has tables that are ignored.
     #[error("the configuration has warnings, and --strict was given")]
     Warnings,
 }
 
 impl ProgramFault {
-    /// The number that operators see: `Words`, `Turns`, `Known`, `Group`, `GroupOfFiles`, `Quiet`, `Budget`, `NoList` and `Question` 98, `File` 93,
-    /// `Unanswered` 99, `Warnings` 25, or that of the fault or the refusal inside.
+    /// The number that operators see: `Words`, `Turns`, `Known`, `Group`, `GroupOfFiles`, `Quiet`, `Budget`, `NoList`, `By`, `TwoForms`
+    /// and `Question` 98, `File` 93, `Unanswered` 99, `Warnings` 25, or that of the fault or the refusal inside.
     pub const fn number(&self) -> u16
         ensures { result ≡ program_fault_number self.now }
     {
@@ -134,6 +144,8 @@ impl ProgramFault {
             | ProgramFault::Quiet
             | ProgramFault::Budget
             | ProgramFault::NoList
+            | ProgramFault::TwoForms
+            | ProgramFault::By
             | ProgramFault::Question(_) => 98,
             ProgramFault::Setup(fault) => fault.number(),
             ProgramFault::Answer(fault) => fault.number(),
@@ -144,12 +156,13 @@ impl ProgramFault {
             ProgramFault::Unanswered => 99,
             ProgramFault::Refused(number) => *number,
             ProgramFault::Look(fault) => fault.number(),
+            ProgramFault::Reading(fault) => fault.number(),
             ProgramFault::Warnings => 25,
         }
     }
 
-    /// The exit status: `Words`, `Turns`, `Known`, `Group`, `GroupOfFiles`, `Quiet`, `Budget`, `NoList`, `Question` and `Warnings` 2, `Refused` 3,
-    /// `File` and `Unanswered` 1, or that of the fault inside.
+    /// The exit status: `Words`, `Turns`, `Known`, `Group`, `GroupOfFiles`, `Quiet`, `Budget`, `NoList`, `By`, `TwoForms`, `Question`
+    /// and `Warnings` 2, `Refused` 3, `File` and `Unanswered` 1, or that of the fault inside.
     pub fn status(&self) -> u8
         ensures { result ≡ program_fault_status self.now }
     {
@@ -162,6 +175,8 @@ impl ProgramFault {
             | ProgramFault::Quiet
             | ProgramFault::Budget
             | ProgramFault::NoList
+            | ProgramFault::TwoForms
+            | ProgramFault::By
             | ProgramFault::Question(_)
             | ProgramFault::Warnings => 2,
             ProgramFault::Setup(fault) => fault.status(),
@@ -172,6 +187,7 @@ impl ProgramFault {
             ProgramFault::Explain(fault) => fault.status(),
             ProgramFault::Refused(_) => 3,
             ProgramFault::Look(fault) => fault.status(),
+            ProgramFault::Reading(fault) => fault.status(),
         }
     }
 
@@ -225,6 +241,16 @@ impl From<PlayFault> for ProgramFault {
 
     fn from(why: PlayFault) -> ProgramFault {
         ProgramFault::Play(why)
+    }
+}
+
+impl From<ReadingFault> for ProgramFault {
+    ghost use Rattle.lispd_cli.specs.declared.fault.ProgramFault.TheVariants.{Reading};
+
+    ghost from_gives = { λ why fault. fault ≡ Reading why };
+
+    fn from(why: ReadingFault) -> ProgramFault {
+        ProgramFault::Reading(why)
     }
 }
 

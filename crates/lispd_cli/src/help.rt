@@ -182,6 +182,26 @@ Example:
   lispd forget s1 --store nonces june.txt > unheard.txt
   lispd forget s1 --store nonces --remove unheard.txt";
 
+/// What `raise` does, for its help.
+pub(crate) const RAISE_ABOUT: &str =
+    "Raise each nonce that a Map-Server or a router keeps, which doesn't run, by N, so that an old copy of its store can be put back";
+
+/// What it needs, for its help.
+pub(crate) const RAISE_NEEDS: &str =
+    "A Map-Server that lost its disk gets an old copy of its folder. N has to be at least as much as any nonce can have risen since the
+copy was made: that of a router by 86400 a day for each part and Map-Server where it sends one a second, and by its nonce_block at each
+start. Then no Map-Register that was accepted since is accepted again, if the copy has a nonce of its router and key: a router or a key
+that came later needs a new key.
+
+A router whose nonces didn't rise by so much is refused (57). Raise its store by the same N, or give it a new key. A nonce is raised to
+the greatest one at most, 2^64 - 1, or 2^63 - 1 of a router's own; then its key has no more.
+
+When all are saved it prints `raised KIND SITE XTR key K nonce N` for each. If it doesn't come to that, put the copy back once more, and
+raise it again. The node has to be stopped. No configuration is read.
+
+Example:
+  lispd raise s1 604800 --store nonces";
+
 /// What `check` does, for its help.
 pub(crate) const CHECK_ABOUT: &str =
     "Read a configuration, and print what was understood: a line for each site, Map-Server and router, then its warnings";
@@ -198,6 +218,35 @@ that is new, or is no more there; and `leaves ..` for each row that would leave.
 
 Example:
   lispd check lispd.toml --against nonces/s1";
+
+/// What `read` does, for its help.
+pub(crate) const READ_ABOUT: &str =
+    "Explain a capture: a line for each LISP control message in it, with whether its tag checks under the secrets of CONFIG; or, with \
+--schedule, a schedule for `play` in which the nodes of CONFIG get them again";
+
+/// What it prints, for its help.
+pub(crate) const READ_FORM: &str =
+    "The capture is of pcap or pcapng, of Ethernet, IP alone or Linux cooked capture, and has at most 1,073,741,824 bytes. Each packet of UDP
+to or from port 4342 is a line: its number, its seconds since the first packet, from whom to whom, and the message:
+  map-register site SITE xtr XTR key K nonce N [proxy] [use-ttl] [want-notify] tag .. records N RECORD ..
+  map-notify key K nonce N tag .. records N RECORD ..
+  map-notify-ack key K nonce N tag .. records N RECORD ..
+  map-request, map-reply, encapsulated
+                 of which no more is told
+  can't be read: read N at byte B
+                 `lispd explain N` says why; a packet that is cut, damaged or a fragment says so
+The tag, by the secret of the message's site with its Key ID:
+  tag checks     it is that of the message; `tag checks site SITE` of a Map-Notify, which names no site
+  tag fails      it isn't
+  tag unknown    there is no such secret
+
+As a schedule each datagram to a node's address is a command `junk` after the time that passed, and any other a comment. Routers of a
+schedule send nothing by themselves, so they refuse what acknowledges the captured messages. `play` takes at most 1,048,576 bytes.
+
+Examples:
+  tcpdump -i any -w lisp.pcap udp port 4342
+  lispd read lisp.pcap lispd.toml
+  lispd read lisp.pcap lispd.toml --schedule | lispd play -";
 
 /// What `explain` does, for its help.
 pub(crate) const EXPLAIN_ABOUT: &str =

@@ -13,11 +13,17 @@
 //! - `ask` takes no order, and `tell` no question, so that a word that is mistyped never changes a node.
 //! - A Map-Server is told the text of a configuration, and not the sites that were read of it: so both read one text by one function.
 //! - `explain` takes a line as it was printed, whatever a log put in front of it.
+//! - A capture is in memory as a whole, since its packets are parts of its bytes. So it has a bound: 1 GiB, five million messages of
+//!   200 bytes.
 #![tactic(auto)]
 
 mod advice;
 mod argument;
 mod asking;
+mod capture;
+mod capture_fault;
+mod capture_text;
+mod capture_words;
 mod check;
 mod command_line;
 mod explanation;
@@ -25,6 +31,7 @@ mod failure;
 mod fault;
 mod help;
 mod line_words;
+mod objects;
 mod option;
 mod options;
 mod parts;
@@ -38,6 +45,7 @@ mod subcommands;
 mod words;
 
 pub use asking::{Errand, ask_node};
+pub use capture_fault::ReadingFault;
 pub use check::check_config;
 pub use command_line::{
     AGAINST, BUDGET, CONFIG, CONTROL, DATABASE, FILE, FOLDER, GROUP, KNOWN, LIST, NAME, NUMBER,
@@ -50,4 +58,7 @@ pub use options::setup;
 pub use question::{QuestionFault, look_up};
 pub use reporting::{InWords, report};
 pub use subcommands::run_alone;
-pub use words::{ForgetWords, NodeWords, forget_words, is_given, node_words, tells_words, word};
+pub use words::{
+    ForgetWords, NodeWords, RaiseWords, forget_words, is_given, node_words, raise_words,
+    tells_words, word,
+};

@@ -80,6 +80,7 @@ fn explain<R: Eprint>(rt: &R, failure: &Failure, words: &[String]) {
         ProgramFault::File
         | ProgramFault::Play(_)
         | ProgramFault::Run(_)
+        | ProgramFault::Reading(_)
         | ProgramFault::Warnings => words,
         _ => &[],
     });

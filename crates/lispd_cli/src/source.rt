@@ -10,7 +10,7 @@ use std::io::{BufReader, Read};
 use std::os::unix::fs::MetadataExt;
 
 /// The path of standard input.
-const PATH_OF_INPUT: &str = "-";
+pub(crate) const PATH_OF_INPUT: &str = "-";
 
 /// The bits of a file's mode by which others than its owner can read, write or run it.
 const OTHERS: u32 = 0o077;

@@ -1,7 +1,8 @@
 //! The subcommands that run no node, and ask none but where `check` is to.
 
+use crate::capture::read_capture;
 use crate::check::{accept, print_findings, read_checked};
-use crate::command_line::{AGAINST, CHECK, CONFIG, NUMBER, STRICT};
+use crate::command_line::{AGAINST, CHECK, CONFIG, NUMBER, READ, STRICT};
 use crate::explanation::explain_line;
 use crate::failure::Failure;
 use crate::fault::ProgramFault;
@@ -17,7 +18,7 @@ use std::io::{Read, Write};
 use std::net::Net;
 use std::rt::Files;
 
-/// Runs `check` or `explain`, where the words name it; else `answer`, with the options that were given.
+/// Runs `check`, `read` or `explain`, where the words name it; else `answer`, with the options that were given.
 pub fn run_alone<R: Input + Eprint + Files + Net + AllocGlobal, W: Write>(
     rt: &R,
     named: Option<(&str, &ArgMatches<'_>)>,
@@ -28,6 +29,7 @@ pub fn run_alone<R: Input + Eprint + Files + Net + AllocGlobal, W: Write>(
     };
     match name {
         CHECK => check(rt, words, writer),
+        READ => read_capture(rt, words, writer),
         "explain" => Ok(explain_words(rt.alloc(), words, writer)?),
         _ => run_answer(rt, Some(words), writer),
     }

@@ -1,12 +1,12 @@
 //! The words of the command line, as `clap` matched them.
 
 ghost use Rattle.std.specs.Prelude.{◌≡◌, ◌≢◌, ◌≤◌, true, codes, Some, None, IfOk, IfSome, OnErr};
-ghost use Rattle.lispd_cli.specs.Words.{word_in, is_given_in, option_in, turns_of, group_below, group_of, quiet_below, quiet_of, budget_below, budget_of, ReadsNode, ReadsForget};
+ghost use Rattle.lispd_cli.specs.Words.{word_in, is_given_in, option_in, turns_of, group_below, group_of, quiet_below, quiet_of, budget_below, budget_of, by_below, ReadsNode, ReadsForget, ReadsRaise};
 ghost use Rattle.lisp_texts.specs.Number.{number_of};
 
 use crate::command_line::{
-    BUDGET, CHECK, CONFIG, CONTROL, DATABASE, GROUP, KNOWN, LIST, NAME, QUESTION, QUIET, RELOAD,
-    REMOVE, STORE, TELL, TURNS, WORDS,
+    BUDGET, CHECK, CONFIG, CONTROL, DATABASE, GROUP, KNOWN, LIST, NAME, NUMBER, QUESTION, QUIET,
+    RELOAD, REMOVE, STORE, TELL, TURNS, WORDS,
 };
 use crate::fault::ProgramFault;
 use clap::ArgMatches;
@@ -28,6 +28,9 @@ const BUDGET_LEFT_OUT: u32 = 4_096;
 const LEAST_BUDGET: u64 = 1_024;
 
 const MOST_BUDGET: u64 = 262_144;
+
+/// The most by which nonces are raised at once.
+const MOST_RAISED: u64 = 4_294_967_295;
 
 /// A word that the subcommand requires.
 pub fn word<'a>(words: &ArgMatches<'a>, name: &str) -> &'a str
@@ -160,6 +163,45 @@ pub fn forget_words<'a>(words: &ArgMatches<'a>) -> Result<ForgetWords<'a>, Progr
         list,
         removes,
     })
+}
+
+/// The words of `raise`.
+pub struct RaiseWords<'a> {
+    /// The node's name.
+    pub name: &'a str,
+    /// The folder of the nonces.
+    pub dir: &'a str,
+    /// Its nonces are in a database, not in files.
+    pub has_database: bool,
+    /// By how much its nonces are raised.
+    pub by: u32,
+}
+
+/// The words of `raise`. Fault: `ProgramFault::By`, 98, where N has another form than it takes.
+pub fn raise_words<'a>(words: &ArgMatches<'a>) -> Result<RaiseWords<'a>, ProgramFault>
+    ensures words { IfOk result (ReadsRaise words.now) }
+    ensures bounds { IfOk result (λ w. 1 ≤ w.by) }
+    ensures fault { OnErr result (by_below (number_of (word_in words.now (codes "N"))) ≡ None) }
+{
+    let Some(by) = by_in(word(words, NUMBER)) else {
+        return Err(ProgramFault::By);
+    };
+    Ok(RaiseWords {
+        name: word(words, NAME),
+        dir: word(words, STORE),
+        has_database: is_given(words, DATABASE),
+        by,
+    })
+}
+
+fn by_in(text: &str) -> Option<u32>
+    ensures number { result ≡ by_below (number_of text.now) }
+    ensures bounds { IfSome result (λ by. 1 ≤ by) }
+{
+    match number_from_text(text) {
+        Some(by) if 1 <= by && by <= MOST_RAISED => Some(by as u32),
+        _ => None,
+    }
 }
 
 // How many turns a node takes; `None` where it runs until it is killed.
