@@ -51,7 +51,7 @@ def fill(here, nonces, name="s1"):
 
 def copy_of(here, name="s1"):
     """A copy of a node's folder, as a backup has it."""
-    shutil.copytree(f"{here.folder}/{name}", f"{here.folder}/{name}.copy")
+    shutil.copytree(f"{here.folder}/{name}", f"{here.folder}/{name}.copy", ignore=shutil.ignore_patterns("control"))
 
 
 def put_back(here, name="s1"):
