@@ -221,8 +221,8 @@ done <<'END'
 END
 { "$program" explain 50 && "$program" explain 14; } > ../out/wanted
 expect 'a whole line with a fault explained' 0 @../out/wanted '' explain refused s1 50 read 14
-for line in 145 x '' '57 saved' '57 saved x' '57 58' '57 store 145' '57 saves 3' 65536 refused 'refused s1' 'refused s1 x' 'refused 57' \
-    'refused s1 57 saved x' 'refused s1 57 from nowhere' 'refused s1 57 from' 'refused s1 53 times 4 lines' 'refused s1 56 store 145' \
+for line in 146 x '' '57 saved' '57 saved x' '57 58' '57 store 146' '57 saves 3' 65536 refused 'refused s1' 'refused s1 x' 'refused 57' \
+    'refused s1 57 saved x' 'refused s1 57 from nowhere' 'refused s1 57 from' 'refused s1 53 times 4 lines' 'refused s1 56 store 146' \
     'accepted s1 r1 key 1 nonce 7 from 192.0.2.21' 'host lispd[812]: 57 saved 3' 'replays s1 from 192.0.2.21 times' 'counts s1 refused 57 4'; do
     expect "no line: '$line'" 2 '' 'lispd: fault 98' explain "$line"
 done

@@ -69,7 +69,7 @@ refusals_of_a_socket = 90 ∷ 91 ∷ []
 
 -- faults of the program
 abbrev pub faults_of_the_program : List ℕ
-faults_of_the_program = 87 ∷ 88 ∷ 89 ∷ 92 ∷ 93 ∷ 95 ∷ 96 ∷ 97 ∷ 98 ∷ 99 ∷ 131 ∷ 132 ∷ 133 ∷ 134 ∷ 141 ∷ 142 ∷ 143 ∷ 144 ∷ []
+faults_of_the_program = 87 ∷ 88 ∷ 89 ∷ 92 ∷ 93 ∷ 95 ∷ 96 ∷ 97 ∷ 98 ∷ 99 ∷ 131 ∷ 132 ∷ 133 ∷ 134 ∷ 141 ∷ 142 ∷ 143 ∷ 144 ∷ 145 ∷ []
 
 -- refusals of the library for C programs
 abbrev pub refusals_of_the_library : List ℕ

@@ -90,7 +90,7 @@ pub(crate) const STORE_FAULTS: Section = Section {
             name: "Damaged",
             meaning: "what was kept can't be read",
             status: "",
-            remedy: "give the router a new key; for the nonces of notices give the Map-Server a new store, and its routers new keys. Never put back an old copy of the files",
+            remedy: "give the router a new key; for the nonces of notices give the Map-Server a new store, and its routers new keys. Never put back an old copy of the files as it is: raise it first (`lispd raise`)",
         },
         Row {
             number: 32,

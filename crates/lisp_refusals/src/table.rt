@@ -27,7 +27,7 @@ A refusal is an answer: `lispd answer` prints `refused N` and ends with status 0
 `refused NAME N`, with the name of the node, and go on. A fault ends the program, which prints `lispd: fault N` on standard
 error; its status is 1 where files, sockets, reading, writing or memory fail, and 2 for the words of the command line, the
 configuration and the script. A refusal or a fault that keeps a node from what `lispd tell` orders ends `lispd tell` so, with the
-status 3; a negative Map-Reply ends `lispd look` with the status 4. A new refusal would take 145, which is free.
+status 3; a negative Map-Reply ends `lispd look` with the status 4. A new refusal would take 146, which is free.
 ";
 
 /// What stands before the sections.
