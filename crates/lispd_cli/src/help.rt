@@ -202,6 +202,24 @@ raise it again. The node has to be stopped. No configuration is read.
 Example:
   lispd raise s1 604800 --store nonces";
 
+/// What `check-store` does, for its help.
+pub(crate) const CHECK_STORE_ABOUT: &str =
+    "Read all that a Map-Server or a router keeps, which doesn't run, and print each nonce and each file that is damaged";
+
+/// What it prints, for its help.
+pub(crate) const CHECK_STORE_FORM: &str =
+    "It prints `found KIND SITE XTR key K nonce N` for each nonce, `damaged FILE WHY` for each file of which no nonce can be read, and
+`store NAME nonces N damaged M`. WHY is `content` where the file has other bytes than a nonce, `no-file` of a folder, a link and the
+like, `denied` where it may not be read, and `unread` where the disk doesn't give it. Where a file is damaged the status is 1 (93).
+
+With --database it reads the database and its log whole, in memory, and files beside it that the node takes over at its start. A
+database that is damaged is fault 93, and nothing is printed.
+
+Nothing is changed there. The node has to be stopped. No configuration is read.
+
+Example:
+  lispd check-store s1 --store nonces";
+
 /// What `check` does, for its help.
 pub(crate) const CHECK_ABOUT: &str =
     "Read a configuration, and print what was understood: a line for each site, Map-Server and router, then its warnings";
