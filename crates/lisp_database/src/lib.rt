@@ -19,6 +19,7 @@ mod crash;
 mod failure;
 mod group;
 mod nonces;
+mod reading;
 mod schema;
 mod sqlite_table;
 mod table;

@@ -7,15 +7,17 @@ ghost use Rattle.lisp_database.specs.Meaning.{sqlite_meaning};
 use crate::failure::failure_of;
 use crate::group::{begin, commit};
 use crate::nonces::load_nonces;
+use crate::reading::{disk_of, nonces_on};
 use crate::table::{count_pairs, forget_nonce, keep_greatest, load_nonce, save_nonce};
 use crate::tables::make_tables;
 use crate::writer::{load_writer, save_writer};
 use lisp_database_store::{Failure, KeptNonce, SystemTable, Table};
 use lisp_nonces::Pair;
 use lisp_store::Writer;
-use sqlite::{Alter, Connection, Error, ErrorCode, File, FileStore};
+use sqlite::{Alter, Connection, Error, ErrorCode, File, FileStore, Files};
 use sqlite_disk::Disk;
 use sqlite_trees::error::StoreError;
+use std::alloc::Global;
 
 /// SQLite's connection, as the table of a node's database: its calls are the functions of this crate.
 #[derive(Drop)]
@@ -125,6 +127,14 @@ impl<S: SystemStore> SystemTable for SqliteTable<S> {
     fn open(rt: &HostRuntime, path: &str) -> Result<SqliteTable<S>, Failure> {
         let connection = told(S::open(rt, path))?;
         Ok(SqliteTable { connection })
+    }
+
+    fn read(alloc: Global, file: &[u8], log: &[u8]) -> Result<Vec<KeptNonce>, Failure> {
+        let files = Files {
+            log: disk_of(alloc, log)?,
+            db: disk_of(alloc, file)?,
+        };
+        told(nonces_on(alloc, files))
     }
 
     fn close(self) -> Result<(), Failure> {

@@ -1,5 +1,6 @@
 //! A store of nonces in a database of the system's, `DatabaseStore`: over a `Database` it commits each save, over a `SharedDatabase` its
 //! saves wait for a commit. A `Database` takes over the nonces that are kept in files, and tells whether another machine wrote it last.
+//! One that isn't to be opened is read (`read_database`).
 //!
 //! # Decisions
 //!
@@ -17,6 +18,8 @@
 //! - `DatabaseStore` works over a database of its own or over a shared one, by the trait `Keeper`. Neither is called honest, so
 //!   what a load found and a save kept are words of that trait: the laws of an honest store alone would let it save another
 //!   nonce.
+//! - A database that is only looked at isn't opened: an open may write to the log, as to what a crash left of a commit. It is read in
+//!   memory, and checked there as an open checks it: each page, the index and the constraints.
 //! - Of what is in a cell a contract knows nothing, so `SharedDatabase::commit` alone may say that a commit was done
 //!   (`SomeIsDone`).
 #![tactic(auto)]
@@ -28,6 +31,7 @@ mod group;
 mod keeper;
 mod log_file;
 mod new_file;
+mod reading;
 mod reopening;
 mod shared;
 mod store;
@@ -39,6 +43,7 @@ pub use database::Database;
 pub use failure::Failure;
 pub use keeper::Keeper;
 pub use lisp_store::{Change, KeptNonce};
+pub use reading::read_database;
 pub use shared::SharedDatabase;
 pub use store::DatabaseStore;
 pub use table::{SystemTable, Table};

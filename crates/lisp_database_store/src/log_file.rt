@@ -21,12 +21,24 @@ pub(crate) fn refuse_damage<R: Files + AllocGlobal>(
     path: &str,
     front: &[u8],
 ) -> Result<(), Failure> {
+    read_log(rt, path, front)?;
+    Ok(())
+}
+
+/// The bytes of the log, of which there are none where it isn't there. Refuses what `refuse_damage` does.
+pub(crate) fn read_log<R: Files + AllocGlobal>(
+    rt: &R,
+    path: &str,
+    front: &[u8],
+) -> Result<Vec<u8>, Failure> {
     let path = String::try_format(rt.alloc(), format_args!("{path}-wal"))?;
     if !is_file_there(rt, path.as_str())? {
-        return judge_alone(front);
+        judge_alone(front)?;
+        return Ok(Vec::new(rt.alloc()));
     }
     let log = fs::read(rt, path.as_str())?;
-    judge(&log)
+    judge(&log)?;
+    Ok(log)
 }
 
 // Whether a database with these first bytes may be without a log.

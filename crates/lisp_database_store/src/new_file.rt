@@ -11,7 +11,7 @@ use std::io::{self, ErrorKind, Read, Write};
 use std::rt::Files;
 
 /// The bytes of a page.
-const PAGE: usize = 4_096;
+pub(crate) const PAGE: usize = 4_096;
 
 /// How many bytes name the format of a file.
 const FORMAT: usize = 16;

@@ -6,6 +6,7 @@ ghost use Rattle.lisp_database_store.specs.Meaning.{Meaning};
 use crate::failure::Failure;
 use lisp_nonces::Pair;
 use lisp_store::{KeptNonce, Writer};
+use std::alloc::Global;
 
 /// A database that is open, for nonces. What its calls come to is told in words whose meaning is the table's own: that of an SQLite
 /// database is a definition of `lisp_database`.
@@ -84,6 +85,10 @@ pub trait SystemTable: Table {
     /// Opens the database at `path`, or an empty one where nothing is there. `Device` where what is there can't be opened, `Damaged`
     /// where it is no database.
     fn open(rt: &HostRuntime, path: &str) -> Result<Self, Failure>;
+
+    /// The nonces of a database whose file and log have these bytes, as an open would find them; none where it has nothing in it.
+    /// `Damaged` where they are no database of nonces, or a damaged one.
+    fn read(alloc: Global, file: &[u8], log: &[u8]) -> Result<Vec<KeptNonce>, Failure>;
 
     /// Moves what its log has into the file, syncs both, and closes them. `Device` where that fails, `Damaged` where the log is found
     /// damaged.

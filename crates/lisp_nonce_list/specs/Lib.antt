@@ -1,4 +1,5 @@
 pub mod AcceptedNonce
 pub mod Line
 pub mod List
+pub mod StoreLines
 pub mod Unheard

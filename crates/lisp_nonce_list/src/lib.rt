@@ -1,5 +1,6 @@
 //! The nonces that a Map-Server accepted last of routers, as lists that an operator keeps: a line for each (`put_line`), what the lines
-//! of a list say (`read_list`), and which nonces of a list are still kept (`unheard`).
+//! of a list say (`read_list`), and which nonces of a list are still kept (`unheard`); and the lines of what a store keeps, of any kind
+//! (`put_kept`, `put_damaged`, `put_sum`).
 //!
 //! # Decisions
 //!
@@ -15,10 +16,12 @@ pub mod laws;
 mod line;
 mod list;
 mod list_fault;
+mod store_lines;
 mod unheard_nonces;
 
 pub use accepted_nonce::{AcceptedNonce, accepted_nonces};
 pub use line::{LineWord, nonce_from_line, put_identity, put_line};
 pub use list::read_list;
 pub use list_fault::ListFault;
+pub use store_lines::{StoreWord, put_damaged, put_kept, put_sum};
 pub use unheard_nonces::unheard;

@@ -1,6 +1,7 @@
 pub mod Failing
 pub mod File
 pub mod Folder
+pub mod FoundFiles
 pub mod MemoryFolder
 pub mod PairName
 pub mod KeptFiles

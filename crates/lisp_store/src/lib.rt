@@ -1,7 +1,7 @@
 //! Where routers and Map-Servers keep their nonces: stores in the files of a folder (`FileStore`, `Folder`) and in memory; the nonces
-//! that such files keep, to list (`read_nonces`), to forget (`forget_nonce`), and for another store to take over (`put_aside`); who wrote a
-//! store last (`Writer`); and for tests a folder in memory (`MemoryFolder`), a store of which a call fails (`Failing`), and one that keeps
-//! no promise about nonces (`Liar`).
+//! that such files keep, to list (`read_nonces`), to forget (`forget_nonce`), and for another store to take over (`put_aside`); which files
+//! are damaged (`find_files`); who wrote a store last (`Writer`); and for tests a folder in memory (`MemoryFolder`), a store of which a call
+//! fails (`Failing`), and one that keeps no promise about nonces (`Liar`).
 //!
 //! # Decisions
 //!
@@ -17,6 +17,7 @@
 
 mod file;
 mod folder;
+mod found_files;
 mod kept_nonce;
 pub mod laws;
 mod name;
@@ -28,6 +29,7 @@ mod writer;
 
 pub use file::FileStore;
 pub use folder::{Folder, FolderFault};
+pub use found_files::{Damage, DamagedFile, FoundFiles, find_files};
 pub use kept_nonce::KeptNonce;
 pub use lisp_nonces::{
     FIRST_NOTICE_NONCE, Fate, LAST_ROUTER_NONCE, MAX_NONCE_BLOCK, MemoryStore, NonceStore, Pair,

@@ -58,8 +58,8 @@ pub fn forget_nonce<R: Files + AllocGlobal>(rt: &R, dir: &str, pair: &Pair) -> i
     fs::open(rt, dir)?.sync_all()
 }
 
-// The pair whose file an entry of a folder is, if it is one's. A name that is no text is no pair's.
-fn pair_of_entry<R: Files + AllocGlobal + Drop>(
+/// The pair whose file an entry of a folder is, if it is one's. A name that is no text is no pair's.
+pub(crate) fn pair_of_entry<R: Files + AllocGlobal + Drop>(
     entry: io::Result<fs::DirEntry<R, Global>>,
 ) -> io::Result<Option<Pair>> {
     match entry {

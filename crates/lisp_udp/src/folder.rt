@@ -1,6 +1,6 @@
 //! The folders in which nodes keep their nonces.
 
-ghost use Rattle.std.specs.Prelude.{◌≡◌, IfOk, IfErr};
+ghost use Rattle.std.specs.Prelude.{◌≡◌, ◌↔◌, [], IsOk, IfOk, IfErr};
 ghost use Rattle.lisp_script.specs.RunFault.{numbered};
 ghost use Rattle.lisp_udp.specs.Folder.{OpensSigned, database_fault};
 
@@ -8,14 +8,15 @@ use crate::bound_socket;
 use crate::connection::AskedNode;
 use crate::control::ControlSocket;
 use crate::storage::{NodeStore, Storage};
-use lisp_database_store::{Change, Database, DatabaseStore, Failure, SystemTable};
+use lisp_database_store::{Change, Database, DatabaseStore, Failure, SystemTable, read_database};
 use lisp_files::{Ending, Problem};
 use lisp_memory::FallibleString;
 use lisp_nonces::{Pair, StoreFault};
 use lisp_raising::raise;
 use lisp_script::RunFault;
 use lisp_store::{
-    FileStore, KeptNonce, SystemFolder, count_pairs, forget_nonce, is_file_there, read_nonces,
+    FileStore, FoundFiles, KeptNonce, SystemFolder, count_pairs, find_files, forget_nonce,
+    is_file_there, read_nonces,
 };
 use std::alloc::AllocError;
 use std::cell::Cell;
@@ -106,10 +107,16 @@ impl LockedFolder {
         rt: &HostRuntime,
         failure: &'a Cell<Option<ErrorKind>>,
     ) -> Result<FileStore<SystemFolder<'a, HostRuntime>>, Ending> {
+        self.refuse_database(rt)?;
+        Ok(FileStore::open(rt, self.path.as_str(), failure)?)
+    }
+
+    // Refuses a folder with a database.
+    fn refuse_database(&self, rt: &HostRuntime) -> Result<(), Ending> {
         let database = self.database_path(rt)?;
         let path = database.as_str();
         match is_file_there(rt, path) {
-            Ok(false) => Ok(FileStore::open(rt, self.path.as_str(), failure)?),
+            Ok(false) => Ok(()),
             Ok(true) => Err(Ending::of_file(rt.alloc(), path, Problem::HasDatabase)),
             Err(error) => Err(Ending::of_file(rt.alloc(), path, looked(error))),
         }
@@ -211,6 +218,52 @@ impl LockedFolder {
                 )),
             },
         }
+    }
+
+    /// What the store there keeps, read as it lies there, and which of its files are damaged: those beside a database too, which it takes
+    /// over. Nothing is changed. Faults: 93 where the folder or the database can't be read, or isn't what is to be there, or the database is
+    /// damaged; 97.
+    pub(crate) fn find_nonces<T: SystemTable>(
+        &self,
+        rt: &HostRuntime,
+        storage: Storage,
+    ) -> Result<FoundFiles, Ending> {
+        let mut kept = match storage {
+            Storage::Files => {
+                self.refuse_database(rt)?;
+                Vec::new(rt.alloc())
+            }
+            Storage::Database { .. } => self.database_nonces::<T>(rt)?,
+        };
+        match find_files(rt, self.path.as_str()) {
+            Ok(mut found) => {
+                found.nonces.append(&mut kept)?;
+                Ok(found)
+            }
+            Err(error) => Err(self.broken_files(rt, error, Problem::Read(error))),
+        }
+    }
+
+    // The nonces of its database, which isn't opened.
+    fn database_nonces<T: SystemTable>(&self, rt: &HostRuntime) -> Result<Vec<KeptNonce>, Ending> {
+        self.find_database(rt)?;
+        let database = self.database_path(rt)?;
+        let path = database.as_str();
+        match read_database::<T, HostRuntime>(rt, path) {
+            Ok(nonces) => Ok(nonces),
+            Err(failure) => Err(self.unsigned(rt, path, Unsigned::at(Step::Open, failure))),
+        }
+    }
+
+    /// Refuses what was found in it where a file is damaged. Faults: 93, 97.
+    pub(crate) fn refuse_damaged(&self, rt: &HostRuntime, found: &FoundFiles) -> Result<(), Ending>
+        ensures { IsOk result ↔ (found.now.damaged.items ≡ []) }
+    {
+        if found.damaged.is_empty() {
+            return Ok(());
+        }
+        let path = self.path.as_str();
+        Err(Ending::of_file(rt.alloc(), path, Problem::DamagedNonce))
     }
 
     /// Removes what the store there keeps for a pair, and is done once that is synced. Faults: 93 where it can't be removed; 97.

@@ -1,5 +1,6 @@
 //! What the folders of nodes are used for.
 
+use crate::checking::check_store;
 use crate::forgetting::{Forgetting, forget};
 use crate::raising::raise_nonces;
 use crate::storage::Storage;
@@ -32,6 +33,11 @@ pub enum FolderUse<'a> {
         /// By how much.
         by: u32,
     },
+    /// What a node keeps, which doesn't run, is read whole.
+    Check {
+        /// Its name.
+        name: &'a str,
+    },
 }
 
 /// Uses the folders `dir`/NAME as is asked for. Faults: those of `run_subject`; or, where nothing runs, of the list 93, 87, 89, 95 and 141
@@ -51,5 +57,6 @@ pub fn use_folders<T: SystemTable, W: Write>(
             forget::<T, W>(rt, dir, name, storage, forgetting, writer)
         }
         FolderUse::Raise { name, by } => raise_nonces::<T, W>(rt, dir, name, storage, by, writer),
+        FolderUse::Check { name } => check_store::<T, W>(rt, dir, name, storage, writer),
     }
 }

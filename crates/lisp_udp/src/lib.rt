@@ -66,7 +66,8 @@ mod network;
 // Any of these.
 mod subject;
 
-// What nodes that don't run keep: of others, removed; and raised.
+// What nodes that don't run keep: read whole; of others, removed; and raised.
+mod checking;
 mod forgetting;
 mod raising;
 

@@ -8,8 +8,8 @@
 //! # Decisions
 //!
 //! - A crate of this toolchain is a library or a program. So `main` is in `lispd_main`, which calls this crate alone.
-//! - What `server`, `router`, `loop`, `forget` and `raise` run over the folders of nodes is a value first (`FolderUse`), and a task over
-//!   databases of any kind (`run_task`): a call that names SQLite's type takes minutes to prove.
+//! - What `server`, `router`, `loop`, `forget`, `raise` and `check-store` run over the folders of nodes is a value first (`FolderUse`), and a
+//!   task over databases of any kind (`run_task`): a call that names SQLite's type takes minutes to prove.
 #![tactic(auto)]
 
 mod subcommands;

@@ -9,9 +9,9 @@ use lisp_script::PlayFault;
 use lisp_sqlite::{Task, run_task};
 use lisp_udp::{Answering, FolderUse, Forgetting, Storage, Stretch, Subject, use_folders};
 use lispd_cli::{
-    CONFIG, DATABASE, Errand, FILE, Failure, ForgetWords, NodeWords, ProgramFault, RaiseWords,
-    STORE, TEXT, ask_node, forget_words, is_given, look_up, node_words, raise_words, run_alone,
-    word,
+    CONFIG, DATABASE, Errand, FILE, Failure, ForgetWords, NAME, NodeWords, ProgramFault,
+    RaiseWords, STORE, TEXT, ask_node, forget_words, is_given, look_up, node_words, raise_words,
+    run_alone, word,
 };
 use std::alloc::Global;
 use std::fs;
@@ -75,7 +75,7 @@ impl<W: Write> Task for RunTask<'_, W> {
     }
 }
 
-// What `server`, `router`, `loop`, `forget` and `raise` run; `None` for other subcommands.
+// What `server`, `router`, `loop`, `forget`, `raise` and `check-store` run; `None` for other subcommands.
 fn named_run<'a>(named: Option<(&str, &ArgMatches<'a>)>) -> Result<Option<Run<'a>>, ProgramFault> {
     let Some((name, words)) = named else {
         return Ok(None);
@@ -86,6 +86,7 @@ fn named_run<'a>(named: Option<(&str, &ArgMatches<'a>)>) -> Result<Option<Run<'a
         "loop" => Ok(Some(network_run(words))),
         "forget" => Ok(Some(forget_run(words)?)),
         "raise" => Ok(Some(raise_run(words)?)),
+        "check-store" => Ok(Some(check_store_run(words))),
         _ => Ok(None),
     }
 }
@@ -193,6 +194,15 @@ fn raise_run<'a>(words: &ArgMatches<'a>) -> Result<Run<'a>, ProgramFault> {
         storage: storage(has_database, 1),
         wanted: FolderUse::Raise { name, by },
     })
+}
+
+fn check_store_run<'a>(words: &ArgMatches<'a>) -> Run<'a> {
+    let name = word(words, NAME);
+    Run {
+        dir: word(words, STORE),
+        storage: storage(is_given(words, DATABASE), 1),
+        wanted: FolderUse::Check { name },
+    }
 }
 
 fn storage(has_database: bool, group: u8) -> Storage {

@@ -2,10 +2,11 @@
 
 use crate::argument::Argument;
 use crate::help::{
-    ABOUT, ANSWER_ABOUT, ANSWER_EXAMPLE, ASK_ABOUT, ASK_FORM, CHECK_ABOUT, CHECK_WARNS, DRAW_ABOUT,
-    DRAW_FORM, EXPLAIN_ABOUT, FORGET_ABOUT, FORGET_RISKS, LINE_EXAMPLE, LOOK_ABOUT, LOOK_FORM,
-    LOOP_ABOUT, LOOP_FORM, NODE_RUNS, PLAY_ABOUT, PLAY_FORM, RAISE_ABOUT, RAISE_NEEDS, READ_ABOUT,
-    READ_FORM, ROUTER_ABOUT, SERVER_ABOUT, SERVER_GROUPS, TELL_ABOUT, TELL_FORM,
+    ABOUT, ANSWER_ABOUT, ANSWER_EXAMPLE, ASK_ABOUT, ASK_FORM, CHECK_ABOUT, CHECK_STORE_ABOUT,
+    CHECK_STORE_FORM, CHECK_WARNS, DRAW_ABOUT, DRAW_FORM, EXPLAIN_ABOUT, FORGET_ABOUT,
+    FORGET_RISKS, LINE_EXAMPLE, LOOK_ABOUT, LOOK_FORM, LOOP_ABOUT, LOOP_FORM, NODE_RUNS,
+    PLAY_ABOUT, PLAY_FORM, RAISE_ABOUT, RAISE_NEEDS, READ_ABOUT, READ_FORM, ROUTER_ABOUT,
+    SERVER_ABOUT, SERVER_GROUPS, TELL_ABOUT, TELL_FORM,
 };
 use crate::option::AnswerOption;
 use clap::Command;
@@ -228,7 +229,7 @@ from 0 to 3600; left out, 60",
 ];
 
 /// Those that ask a node, tell it something, and look at what it keeps or change it; they come after those.
-static ASKING: [Subcommand; 5] = [
+static ASKING: [Subcommand; 6] = [
     Subcommand {
         name: "ask",
         about: ASK_ABOUT,
@@ -343,6 +344,29 @@ Map-Server is reached",
                 name: NUMBER,
                 is_required: true,
                 help: "By how much, from 1 to 4294967295",
+            },
+            Argument::Value {
+                name: STORE,
+                letters: "DIR",
+                is_required: true,
+                help: "The folder of the nonces, in which the node has a folder of its name",
+            },
+            Argument::Switch {
+                name: DATABASE,
+                help: "The nonces are in a SQLite database there, nonces.db",
+            },
+            WORDS_ARGUMENT,
+        ],
+    },
+    Subcommand {
+        name: "check-store",
+        about: CHECK_STORE_ABOUT,
+        after_help: Some(CHECK_STORE_FORM),
+        arguments: &[
+            Argument::Word {
+                name: NAME,
+                is_required: true,
+                help: "The node's name, that of its folder",
             },
             Argument::Value {
                 name: STORE,
