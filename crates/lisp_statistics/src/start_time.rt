@@ -25,7 +25,6 @@ pub(crate) fn put_start_time<A: Memory>(
 }
 
 // Appends the sample, behind what helps to read it: Prometheus wants seconds. Out of memory, it may leave a part of it.
-#[tactic(auto, using(crate::proofs::Counting::steps))]
 fn put_start_time_sample<A: Memory>(
     text: &mut String<A>,
     name: &str,
