@@ -1,5 +1,5 @@
 -- Copies of the database of a node that runs: what they may be named, and what a user is answered.
-use Rattle.std.specs.Prelude.{ℕ, ◌==◌, ◌&&◌, ◌||◌, not, nat_le, nat_eq, Bool, List, [], ◌∷◌, ◌++◌, length, codes}
+use Rattle.std.specs.Prelude.{◌≡◌, ◌≤◌, ℕ, ◌==◌, ◌&&◌, ◌||◌, nat_le, nat_eq, Bool, IsTrue, false, List, [], ◌∷◌, ◌++◌, length, codes}
 use Rattle.std.specs.Cmp.Lexicographic.{pointwise}
 use Rattle.std.specs.Fmt.{decimal}
 use Rattle.std.specs.List.{list_all, starts_with, ends_with}
@@ -13,8 +13,8 @@ abbrev pub is_own_name : List ℕ → Bool
 is_own_name name = starts_with nat_eq name (codes "nonces.db") || ends_with nat_eq name (codes ".nonce") || pointwise nat_eq name (codes "control")
 
 -- 1 to 100 such bytes, of which the first is no `.`; no name of the node's own
-abbrev pub is_backup_name : List ℕ → Bool
-is_backup_name name = nat_le 1 (length name) && nat_le (length name) 100 && list_all is_plain_byte name && not (starts_with nat_eq name (codes ".")) && not (is_own_name name)
+abbrev pub IsBackupName : List ℕ → Type 0
+IsBackupName name = (1 ≤ length name) × (length name ≤ 100) × IsTrue (list_all is_plain_byte name) × (starts_with nat_eq name (codes ".") ≡ false) × (is_own_name name ≡ false)
 
 -- `backup NAME FILE bytes N`
 abbrev pub backup_text : List ℕ → List ℕ → ℕ → List ℕ

@@ -1,8 +1,9 @@
 //! Copies of the database of a node that runs, each of one moment.
 
-ghost use Rattle.std.specs.Prelude.{◌≡◌, IfOk, OnErr};
-ghost use Rattle.std.specs.String.{string_bytes};
-ghost use Rattle.lisp_udp.specs.Backup.{backup_text, is_backup_name, is_own_name, is_plain_byte, refused_text};
+ghost use Rattle.std.specs.Prelude.{◌≡◌, ◌↔◌, IsTrue, OnErr};
+ghost use Rattle.std.specs.List.{list_all};
+ghost use Rattle.lisp_lines.specs.Front.{GivesText};
+ghost use Rattle.lisp_udp.specs.Backup.{IsBackupName, backup_text, is_own_name, is_plain_byte, refused_text};
 
 use crate::folder::DATABASE;
 use lisp_memory::{FallibleString, Memory};
@@ -45,14 +46,17 @@ pub(crate) fn backup(
 }
 
 fn made(alloc: Global, name: &str, file: &str, bytes: u64) -> Result<String, AllocError>
-    ensures text { IfOk result (λ text. string_bytes text ≡ backup_text name.now file.now bytes) }
+    ensures text { GivesText result (backup_text name.now file.now bytes) }
     ensures memory { OnErr result ⟦<Global as Memory>⟧.may_refuse }
 {
-    String::try_format(alloc, format_args!("backup {name} {file} bytes {bytes}\n"))
+    let mut text = String::new(alloc);
+    text.try_write(format_args!("backup {name} {file} bytes {bytes}"))?;
+    text.try_push('\n')?;
+    Ok(text)
 }
 
 fn refused(alloc: Global) -> Result<String, AllocError>
-    ensures text { IfOk result (λ text. string_bytes text ≡ refused_text) }
+    ensures text { GivesText result refused_text }
     ensures memory { OnErr result ⟦<Global as Memory>⟧.may_refuse }
 {
     String::try_from_str(alloc, "fault 145\n")
@@ -61,14 +65,20 @@ fn refused(alloc: Global) -> Result<String, AllocError>
 // Whether a copy may have the name. Whoever may tell the node to make one may choose it: so it is of its folder, and of no file that the
 // node reads at a start.
 fn is_backup_name(name: &str) -> bool
-    ensures { result ≡ is_backup_name name.now }
+    ensures { IsTrue result ↔ IsBackupName name.now }
 {
     let bytes = name.as_bytes();
-    !bytes.is_empty()
+    1 <= bytes.len()
         && bytes.len() <= MOST_BYTES
-        && bytes.iter().all(|byte| is_plain_byte(*byte))
+        && are_plain(bytes)
         && !bytes.starts_with(b".")
         && !is_own_name(bytes)
+}
+
+fn are_plain(bytes: &[u8]) -> bool
+    ensures { result ≡ list_all is_plain_byte bytes.now }
+{
+    bytes.iter().all(|byte| is_plain_byte(*byte))
 }
 
 fn is_plain_byte(byte: u8) -> bool
