@@ -17,7 +17,7 @@ import time
 from concurrent.futures import ThreadPoolExecutor
 from pathlib import Path
 
-from nodes import (FILES, GROUPS, LIMIT, PORT, check, is_up, killed, map_register, nonce_in, over, peer, program, ran, run_tests, system,
+from nodes import (FILES, GROUPS, LIMIT, PORT, check, identity, is_up, killed, map_register, nonce_in, over, peer, program, ran, run_tests, system,
                    until, with_slow_syncs)
 from sockets import faster
 
@@ -497,7 +497,7 @@ def routers_by_parts(here):
             status, text, wrongs = ask(here, "s1", "routers")
             lines = re.sub(r" age \d+", "", text).splitlines()
             check(name, (status, lines[0], wrongs), (0, first, ""))
-            wanted = [f"router other from {here.r1} key 1 nonce {router} rows 1" for router in routers]
+            wanted = [f"router {identity(1000 + router)} from {here.r1} key 1 nonce {router} rows 1" for router in routers]
             check(f"{name}, each once", lines[1:], [*wanted, "router r1 never", "router r2 never", *last])
 
         for router in range(2, 514, 2):

@@ -158,6 +158,11 @@ def map_register(nonce, secret=b"secret", site=SITE, xtr=XTR, key=1, records=(RE
     return front + tag + behind
 
 
+def identity(xtr, site=SITE):
+    """What a node calls a router that its configuration doesn't have."""
+    return f"{site:016x}/{xtr:032x}"
+
+
 def nonce_in(message):
     """The nonce of a message; 0 where there is no message."""
     return int.from_bytes((message or b"")[4:12], "big")

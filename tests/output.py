@@ -20,7 +20,7 @@ import tempfile
 import time
 from pathlib import Path
 
-from nodes import LIMIT, PORT, SITE, XTR, check, failing, is_up, killed, map_register, nonce_in, nonce_text, peer, ran, run_tests, until
+from nodes import LIMIT, PORT, SITE, XTR, check, failing, identity, is_up, killed, map_register, nonce_in, nonce_text, peer, ran, run_tests, until
 from sockets import arrivals, check_below, faster, late, map_notify, signed, slower
 
 # How many bytes wait in a node until its output takes them; and how many a write to a pipe has at most.
@@ -164,7 +164,7 @@ def where_datagrams_came_from(here):
     with peer(here.r1) as r1, peer(here.s2) as other:
         for it, address, message, line in ((r1, here.r1, map_register(1), "accepted s1 r1 key 1 nonce 1"),
                                            (other, here.s2, map_register(2), "accepted s1 r1 key 1 nonce 2"),
-                                           (r1, here.r1, map_register(3, xtr=99), "accepted s1 other key 1 nonce 3"),
+                                           (r1, here.r1, map_register(3, xtr=99), f"accepted s1 {identity(99)} key 1 nonce 3"),
                                            (r1, here.r1, JUNK, "refused s1 50 read 1"), (r1, here.r1, FORGED, "refused s1 53"),
                                            (r1, here.r1, REPLAYED, "refused s1 57 saved 2"),
                                            (other, here.s2, b"", "refused s1 50 read 1")):
@@ -599,8 +599,8 @@ def what_expires_is_told(here):
             return begun
 
         begun = register(1, 1)
-        register(1, 1, 99, "other")
-        check("they expire", output.lines(2), ["expired s1 r1 10.1.0.0/16", "expired s1 other 10.1.0.0/16"])
+        register(1, 1, 99, identity(99))
+        check("they expire", output.lines(2), ["expired s1 r1 10.1.0.0/16", f"expired s1 {identity(99)} 10.1.0.0/16"])
         check_within("seconds until then", time.monotonic() - begun, 3, 8)
         check("once", output.rest(0.5), [])
         register(2, 1)

@@ -23,7 +23,7 @@ import time
 from pathlib import Path
 
 from asking import packed
-from nodes import (FILES, LIMIT, PORT, STARTED, check, failing, is_up, killed, map_register, next_line, nonce_in, over, peer, ran, received,
+from nodes import (FILES, LIMIT, PORT, STARTED, check, failing, identity, is_up, killed, map_register, next_line, nonce_in, over, peer, ran, received,
                    run_tests, until)
 from nonces import LOG_FILE
 from sockets import signed
@@ -601,7 +601,7 @@ def taken_apart(here, sites):
         status, text, _ = against(here)
         check(f"without the last one, {form.__name__}", (status, text.splitlines()[:2]),
               (0, [f"compared s1 sites {len(sites) - 1} restarted", f"goes {sites[-1].number:016x}"]))
-        check(f"{form.__name__}: its row leaves", f"\nleaves other {sites[-1].prefixes[0]}=" in text, True)
+        check(f"{form.__name__}: its row leaves", f"\nleaves {identity(499 + len(sites), sites[-1].number)} {sites[-1].prefixes[0]}=" in text, True)
 
 
 # ---- the socket itself

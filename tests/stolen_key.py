@@ -107,8 +107,8 @@ def asked(here, question):
 
 
 def routers_with_rows(here):
-    """How many routers of the site have rows. (What honest routers have no name are those of the other site.)"""
-    return len(re.findall(rf"^router (?!other from {here.r1} ).* rows [1-9]\d*$", asked(here, "routers"), re.M))
+    """How many routers of the site have rows. (None of the other site has a name.)"""
+    return len(re.findall(rf"^router (?!{OTHER_SITE:016x}/).* rows [1-9]\d*$", asked(here, "routers"), re.M))
 
 
 def rows_of_site(here):

@@ -22,7 +22,7 @@ use Rattle.lisp_statistics.specs.declared.gauge.Figure.{Figure}
 use Rattle.lisp_statistics.specs.declared.gauge.Figure.TheVariants.{Records, Rows, Sites, StandingNotices, Replays, LongestSave, Requests, SlowestReply}
 use Rattle.lisp_statistics.specs.declared.gauge.Gauge.{Gauge}
 use Rattle.lisp_statistics.specs.declared.statistics.Statistics.{Statistics}
-use Rattle.lisp_lines.specs.declared.datagram_place.DatagramPlace.TheVariants.{Hidden}
+use Rattle.lisp_lines.specs.declared.wording.Wording.TheVariants.{Node}
 use Rattle.lisp_lines.specs.Router.{TellsRouter}
 use Rattle.lisp_control.specs.Disallowed.{disallowed_text}
 use Rattle.lisp_control.specs.declared.question.Question.{Question}
@@ -35,9 +35,9 @@ numbered number = codes "fault " ++ decimal number ++ 10 ∷ []
 abbrev pub fault_text : ScriptWhat → List ℕ
 fault_text what = numbered (what_number what)
 
--- what came of an order: the line of the event, without a datagram's number, or the fault
+-- what came of an order: the line of the event, as the node prints it, or the fault
 abbrev pub outcome_text : ConfigValue → Result Line WorldFault → List ℕ
-outcome_text c (Ok line) = line_text c Hidden line
+outcome_text c (Ok line) = line_text c Node line
 outcome_text c (Err fault) = numbered (world_fault_number fault)
 
 -- what a node has: a Map-Server its rows, their sites, its notices and the runs of replays that last, a
@@ -67,7 +67,7 @@ router_counts c number None s format = told_counts c number s format (node_gauge
 -- the lines that answer a question to the router with a number at a moment, by its core, if it is up
 abbrev pub AnswersRouter : {A : Type 0} → ConfigValue → ℕ → Option EtrState → Statistics A → Question → ℕ → List ℕ → Type 0
 AnswersRouter c number (Some core) s (Router question) now text = TellsRouter c number (servers_of c number) core question now text
-AnswersRouter c number None s (Router question) now text = text ≡ line_text c Hidden (Down number)
+AnswersRouter c number None s (Router question) now text = text ≡ line_text c Node (Down number)
 AnswersRouter c number core s (Disallowed records) now text = text ≡ disallowed_text c number records
 AnswersRouter c number core s Nodes now text = text ≡ nodes_text c
 AnswersRouter c number core s (Counts format) now text = text ≡ router_counts c number core s format

@@ -16,6 +16,7 @@ use Rattle.lisp_lines.specs.Server.{TellsHeld, TellsServer}
 use Rattle.lisp_lines.specs.Walk.{HavePlaces, walk_start}
 use Rattle.lisp_lines.specs.declared.server.ServerQuestion.TheVariants.{Hold}
 use Rattle.lisp_lines.specs.declared.walk.Walk.{Walk}
+use Rattle.lisp_lines.specs.declared.wording.Wording.TheVariants.{Node}
 use Rattle.lisp_statistics.specs.Gathering.{Counted, Gathers, StaysExact}
 use Rattle.lisp_statistics.specs.Replays.{replay_count}
 use Rattle.lisp_statistics.specs.RouterList.{ListsRouters, is_long_list, list_start, listed_text, routers_by_parts}
@@ -44,7 +45,7 @@ IsLong rows now is_long = HavePlaces rows → is_long ≡ nat_lt most_rows (leng
 -- few come at once; before more a line says that they come by parts
 abbrev pub BeginsHold : ConfigValue → ℕ → ServerState → ℕ → List ℕ → Option Progress → Type 0
 BeginsHold c number core now text rest = (is_long : Bool) × IsLong core.rows now is_long
-    × MatchBool is_long ((text ≡ hold_by_parts (node_name c number)) × (rest ≡ Some (progresses.Lists (walk_start now)))) (TellsHeld c number core now text × (rest ≡ None))
+    × MatchBool is_long ((text ≡ hold_by_parts (node_name c number)) × (rest ≡ Some (progresses.Lists (walk_start now)))) (TellsHeld c Node number core now text × (rest ≡ None))
 
 -- the next of them come, and with the last ones the line that says how many came
 abbrev pub GoesOnHold : ConfigValue → ℕ → ServerState → Walk → List ℕ → Option Progress → Type 0
@@ -103,7 +104,7 @@ TellsCounts c number core s runs format now rows text rest = (text ≡ told_serv
 
 abbrev pub ServerPart : {A : Type 0} → ConfigValue → ℕ → ServerState → Statistics A → List Replay → Question → Progress → ℕ → List ℕ → Option Progress → Type 0
 ServerPart c number core s runs (questions.Server Hold) progress now text rest = HoldPart c number core progress now text rest
-ServerPart c number core s runs (questions.Server question) progress now text rest = TellsServer Global c number core question now text × (rest ≡ None)
+ServerPart c number core s runs (questions.Server question) progress now text rest = TellsServer Global c Node number core question now text × (rest ≡ None)
 ServerPart c number core s runs questions.Routers progress now text rest = HeardPart c number core s runs progress now text rest
 ServerPart c number core s runs (questions.Counts format) progress now text rest = CountsPart core progress now (TellsCounts c number core s runs format now) text rest
 ServerPart c number core s runs questions.Nodes progress now text rest = (text ≡ nodes_text c) × (rest ≡ None)

@@ -9,7 +9,7 @@ ghost use Rattle.lisp_control.specs.Part.{told_server};
 use crate::disallowed::disallowed_text;
 use crate::question::Question;
 use lisp_etr::Etr;
-use lisp_lines::{DatagramPlace, line_text, nodes_text, router_answer};
+use lisp_lines::{Wording, line_text, nodes_text, router_answer};
 use lisp_log::Replay;
 use lisp_memory::{FallibleString, Memory};
 use lisp_model::{Line, WorldFault};
@@ -46,7 +46,7 @@ pub(crate) fn router_text(
         }
         (Question::Router(_), None) => {
             let line = Line::Down { router: number };
-            line_text(alloc, config, &line, DatagramPlace::Hidden)
+            line_text(alloc, config, &line, Wording::Node)
         }
         (Question::Disallowed(db), _) => disallowed_text(alloc, config, number, db.records()),
         (Question::Nodes, _) => nodes_text(alloc, config),
@@ -138,7 +138,7 @@ pub fn outcome_text(
     ensures memory { OnErr result ⟦<Global as Memory>⟧.may_refuse }
 {
     match outcome {
-        Ok(line) => line_text(alloc, config, line, DatagramPlace::Hidden),
+        Ok(line) => line_text(alloc, config, line, Wording::Node),
         Err(fault) => numbered(alloc, fault.number()),
     }
 }

@@ -11,7 +11,7 @@ use crate::answer::{fault_text, router_text, server_counts};
 use crate::compare::compared_text;
 use crate::question::Question;
 use lisp_lines::{
-    MOST_ROWS, ServerQuestion, Walk, hold_by_parts, holds_at_least, next_rows, node_name,
+    MOST_ROWS, ServerQuestion, Walk, Wording, hold_by_parts, holds_at_least, next_rows, node_name,
     nodes_text, server_answer,
 };
 use lisp_log::Replay;
@@ -102,7 +102,7 @@ fn server_part(
             hold_part(alloc, config, number, core, progress, now)
         }
         Question::Server(question) => {
-            let text = server_answer(alloc, config, number, core, *question, now)?;
+            let text = server_answer(alloc, config, Wording::Node, number, core, *question, now)?;
             Ok(last(text))
         }
         Question::Routers => {
@@ -156,7 +156,8 @@ fn first_part(
         let rest = Some(Progress::Lists(Walk::start(now)));
         Ok(Part { text, rest })
     } else {
-        let text = server_answer(alloc, config, number, core, ServerQuestion::Hold, now)?;
+        let question = ServerQuestion::Hold;
+        let text = server_answer(alloc, config, Wording::Node, number, core, question, now)?;
         Ok(last(text))
     }
 }

@@ -40,7 +40,7 @@ use Rattle.lisp_database.proofs.Finding.{has_mapped, has_image, is_of_one, each_
 use Rattle.lisp_database.proofs.Keys.{one_pair}
 use Rattle.lisp_database.proofs.Loading.{its_are}
 use Rattle.lisp_database.proofs.Picking.{picked}
-use Rattle.lisp_database.proofs.Reading.{query}
+use Rattle.lisp_database.proofs.LoadQuery.{query}
 use Rattle.lisp_database.proofs.Rows.{spared_by_all, none_passes, left_apart, left_shaped, equal_is}
 use Rattle.lisp_database.proofs.Saving.{went, same_value}
 

@@ -6,7 +6,7 @@ mod Alone
 mod Picking
 mod Saving
 mod Calls
-mod Reading
+mod LoadQuery
 mod Loading
 mod Finding
 mod Deleting

@@ -30,7 +30,7 @@ use Rattle.lisp_database.specs.Schema.{nonces_schema}
 use Rattle.lisp_database.specs.Table.{load_text, Loads, LoadFails}
 use Rattle.lisp_database.specs.Kept.{HasTables, IsOfNonces, is_row_of, rows_of, Keeps, LeavesAll}
 use Rattle.lisp_database.proofs.Meaning.{load_plain}
-use Rattle.lisp_database.proofs.Reading.{query, load_is, load_unlisted}
+use Rattle.lisp_database.proofs.LoadQuery.{query, load_is, load_unlisted}
 use Rattle.lisp_database.proofs.Alone.{at_most_one, same_row}
 use Rattle.lisp_database.proofs.Picking.{picked}
 

@@ -8,7 +8,8 @@ use Rattle.std.proofs.lemmas.List.{append-nil, flat_map_more, take_all, take_mor
 use Rattle.lisp_policy.specs.Configuration.{ConfigValue}
 use Rattle.lisp_records.specs.Row.{RowValue}
 use Rattle.lisp_texts.specs.Written.{record_text}
-use Rattle.lisp_lines.specs.Name.{node_name, router_name}
+use Rattle.lisp_lines.specs.declared.wording.Wording.{Wording}
+use Rattle.lisp_lines.specs.Name.{node_name, router_word}
 use Rattle.lisp_lines.specs.Query.{hold_head, hold_text, row_text}
 
 pub ruleset steps = (append_assoc, flat_map_more)
@@ -40,18 +41,20 @@ pub head_alone : (c : ConfigValue) (server rows n : ℕ) (name text : List ℕ) 
 head_alone c server rows n name text named counted is = is ∙ rw (named, counted) (sym (append-nil (head_text c server rows)))
 
 -- and behind it the lines of all rows
-pub all_rows : (c : ConfigValue) (server now : ℕ) (rows : List RowValue) (i : ℕ) (text : List ℕ) → length rows ≤ i → text ≡ head_text c server (length rows) ++ flat_map (row_text c now) (take i rows)
-    → text ≡ hold_text c server now rows
-all_rows c server now rows i text le is =
-    is ∙ ap (λ (hs : List RowValue). head_text c server (length rows) ++ flat_map (row_text c now) hs) (take_all i rows le)
+pub all_rows : (c : ConfigValue) (wording : Wording) (server now : ℕ) (rows : List RowValue) (i : ℕ) (text : List ℕ) → length rows ≤ i → text ≡ head_text c server (length rows) ++ flat_map (row_text c wording now) (take i rows)
+    → text ≡ hold_text c wording server now rows
+all_rows c wording server now rows i text le is =
+    is ∙ ap (λ (hs : List RowValue). head_text c server (length rows) ++ flat_map (row_text c wording now) hs) (take_all i rows le)
 
--- the twelve pieces of a row's line
-pieces : (a b c d e f g h i j k l : List ℕ) → a ++ (b ++ (c ++ (d ++ (e ++ (f ++ (g ++ (h ++ (i ++ (j ++ (k ++ l)))))))))) ≡ a ++ (b ++ c ++ d ++ e ++ (f ++ g ++ h ++ i) ++ j ++ k ++ l)
+-- the pieces of a row's line
+pieces : (a b c d e f g h i j k l : List ℕ) → ((a ++ b) ++ c) ++ (d ++ (e ++ (f ++ (g ++ (h ++ (i ++ (j ++ (k ++ l)))))))) ≡ a ++ (b ++ c ++ d ++ e ++ (f ++ g ++ h ++ i) ++ j ++ k ++ l)
 pieces a b c d e f g h i j k l = simp append_assoc refl
 
--- the line of a row, appended
-pub row_line : (c : ConfigValue) (now : ℕ) (inside row : RowValue) (text router mapping : List ℕ) (age : ℕ) → inside ≡ row → router ≡ router_name c inside.router → mapping ≡ record_text inside.mapping → age ≡ now - inside.accepted
-    → text ++ (codes "row " ++ (router ++ (codes " " ++ (mapping ++ (codes " key " ++ (decimal inside.key ++ (codes " nonce " ++ (decimal inside.nonce ++ (codes " age " ++ (decimal age ++ 10 ∷ [])))))))))) ≡ text ++ row_text c now row
-row_line c now inside row text router mapping age seen named mapped aged =
-    rw (named, mapped, aged) (pieces text (codes "row ") (router_name c inside.router) (codes " ") (record_text inside.mapping) (codes " key ") (decimal inside.key) (codes " nonce ") (decimal inside.nonce) (codes " age ") (decimal (now - inside.accepted)) (10 ∷ []))
-    ∙ ap (λ (h : RowValue). text ++ row_text c now h) seen
+-- the line of a row, appended: its first word, its router, and the rest
+pub row_line : (c : ConfigValue) (wording : Wording) (now : ℕ) (inside row : RowValue) (old first named new mapping : List ℕ) (age : ℕ) → inside ≡ row → first ≡ old ++ codes "row " → named ≡ first ++ router_word c wording inside.router
+    → mapping ≡ record_text inside.mapping → age ≡ now - inside.accepted
+    → new ≡ named ++ (codes " " ++ (mapping ++ (codes " key " ++ (decimal inside.key ++ (codes " nonce " ++ (decimal inside.nonce ++ (codes " age " ++ (decimal age ++ 10 ∷ []))))))))
+    → new ≡ old ++ row_text c wording now row
+row_line c wording now inside row old first named new mapping age seen begun router mapped aged is =
+    is ∙ rw (router, begun, mapped, aged) (pieces old (codes "row ") (router_word c wording inside.router) (codes " ") (record_text inside.mapping) (codes " key ") (decimal inside.key) (codes " nonce ") (decimal inside.nonce) (codes " age ") (decimal (now - inside.accepted)) (10 ∷ []))
+    ∙ ap (λ (h : RowValue). old ++ row_text c wording now h) seen

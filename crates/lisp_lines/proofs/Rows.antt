@@ -4,6 +4,7 @@ use Rattle.std.specs.List.{flat_map}
 use Rattle.std.proofs.lemmas.List.{append-nil, flat_map_more}
 use Rattle.lisp_policy.specs.Configuration.{ConfigValue}
 use Rattle.lisp_records.specs.Row.{RowValue}
+use Rattle.lisp_lines.specs.declared.wording.Wording.TheVariants.{Node}
 use Rattle.lisp_lines.specs.Query.{row_text}
 use Rattle.lisp_lines.specs.Listing.{PutsRow, PutsRows, most_rows}
 use Rattle.lisp_lines.specs.declared.walk.Walk.{Walk}
@@ -11,7 +12,7 @@ use Rattle.lisp_lines.proofs.Walking.{Taken, all_taken, no_more, none_taken, one
 
 -- the rows so far, and their lines after a text
 abbrev pub HasPut : ConfigValue → List RowValue → Walk → Walk → List ℕ → List ℕ → ℕ → Type 0
-HasPut c rows old new before after many = (taken : List RowValue) × Taken rows old new taken many × (after ≡ before ++ flat_map (row_text c old.moment) taken)
+HasPut c rows old new before after many = (taken : List RowValue) × Taken rows old new taken many × (after ≡ before ++ flat_map (row_text c Node old.moment) taken)
 
 pub nothing_put : (c : ConfigValue) (rows : List RowValue) (old : Walk) (before : List ℕ) → Taken rows old old [] 0 → HasPut c rows old old before before 0
 nothing_put c rows old before none = ([], none, sym (append-nil before))
@@ -22,7 +23,7 @@ line_put c rows old mid new before between after many so_far puts =
     let moment : mid.moment ≡ old.moment = ap (λ (w : Walk). w.moment) so_far.1.goes_on in (
       taken ++ puts.0 ∷ [],
       one_taken rows old mid new taken puts.0 many so_far.1 puts.1,
-      puts.2 ∙ ap (λ (now : ℕ). between ++ row_text c now puts.0) moment ∙ ap (λ (t : List ℕ). t ++ row_text c old.moment puts.0) so_far.2 ∙ flat_map_more (row_text c old.moment) before taken puts.0,
+      puts.2 ∙ ap (λ (now : ℕ). between ++ row_text c Node now puts.0) moment ∙ ap (λ (t : List ℕ). t ++ row_text c Node old.moment puts.0) so_far.2 ∙ flat_map_more (row_text c Node old.moment) before taken puts.0,
     )
 
 pub last_put : (c : ConfigValue) (rows : List RowValue) (old mid new : Walk) (before between after : List ℕ) (many : ℕ) → HasPut c rows old mid before between many → many < most_rows → PutsRow c rows mid new between after false → PutsRows c rows old new before after true

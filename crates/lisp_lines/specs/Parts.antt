@@ -7,7 +7,8 @@ use Rattle.lisp_model.specs.Faults.{refusal_number}
 use Rattle.lisp_model.specs.declared.refusal.Refusal.{Refusal}
 use Rattle.lisp_model.specs.declared.line.Line.{Line}
 use Rattle.lisp_model.specs.declared.line.Line.TheVariants as lines
-use Rattle.lisp_lines.specs.Name.{node_name, router_name}
+use Rattle.lisp_lines.specs.declared.wording.Wording.{Wording}
+use Rattle.lisp_lines.specs.Name.{node_name, router_word}
 use Rattle.lisp_lines.specs.Carried.{carried_words}
 use Rattle.lisp_lines.specs.Line.{pair_text, key_text, keyed_text}
 
@@ -32,23 +33,23 @@ verb (lines.Down _) = codes "down"
 verb (lines.Refused _ _) = codes "refused"
 
 -- the nodes, each after a space
-abbrev pub nodes_text : ConfigValue → Line → List ℕ
-nodes_text c (lines.Changed router _) = codes " " ++ node_name c router
-nodes_text c (lines.Sent router server _ _ _ _) = codes " " ++ pair_text (node_name c router) (node_name c server)
-nodes_text c (lines.Accepted server router _ _ _) = codes " " ++ pair_text (node_name c server) (router_name c router)
-nodes_text c (lines.Done server router _) = codes " " ++ pair_text (node_name c server) (router_name c router)
-nodes_text c (lines.Counted router server _ _ _) = codes " " ++ pair_text (node_name c router) (node_name c server)
-nodes_text c (lines.Noticed router server _ _) = codes " " ++ pair_text (node_name c router) (node_name c server)
-nodes_text c (lines.Restarted node) = codes " " ++ node_name c node
-nodes_text c (lines.Rotated router _) = codes " " ++ node_name c router
-nodes_text c (lines.Emptied router _) = codes " " ++ node_name c router
-nodes_text c (lines.Notice server router _ _ _) = codes " " ++ pair_text (node_name c server) (node_name c router)
-nodes_text c (lines.Resent server router _) = codes " " ++ pair_text (node_name c server) (node_name c router)
-nodes_text c (lines.Reloaded server _) = codes " " ++ node_name c server
-nodes_text c (lines.Renewed server _) = codes " " ++ node_name c server
-nodes_text c (lines.Down router) = codes " " ++ node_name c router
-nodes_text c (lines.Refused node _) = codes " " ++ node_name c node
-nodes_text c _ = []
+abbrev pub nodes_text : ConfigValue → Wording → Line → List ℕ
+nodes_text c wording (lines.Changed router _) = codes " " ++ node_name c router
+nodes_text c wording (lines.Sent router server _ _ _ _) = codes " " ++ pair_text (node_name c router) (node_name c server)
+nodes_text c wording (lines.Accepted server router _ _ _) = codes " " ++ pair_text (node_name c server) (router_word c wording router)
+nodes_text c wording (lines.Done server router _) = codes " " ++ pair_text (node_name c server) (router_word c wording router)
+nodes_text c wording (lines.Counted router server _ _ _) = codes " " ++ pair_text (node_name c router) (node_name c server)
+nodes_text c wording (lines.Noticed router server _ _) = codes " " ++ pair_text (node_name c router) (node_name c server)
+nodes_text c wording (lines.Restarted node) = codes " " ++ node_name c node
+nodes_text c wording (lines.Rotated router _) = codes " " ++ node_name c router
+nodes_text c wording (lines.Emptied router _) = codes " " ++ node_name c router
+nodes_text c wording (lines.Notice server router _ _ _) = codes " " ++ pair_text (node_name c server) (node_name c router)
+nodes_text c wording (lines.Resent server router _) = codes " " ++ pair_text (node_name c server) (node_name c router)
+nodes_text c wording (lines.Reloaded server _) = codes " " ++ node_name c server
+nodes_text c wording (lines.Renewed server _) = codes " " ++ node_name c server
+nodes_text c wording (lines.Down router) = codes " " ++ node_name c router
+nodes_text c wording (lines.Refused node _) = codes " " ++ node_name c node
+nodes_text c wording _ = []
 
 -- a refusal: its number, and what it carries
 abbrev pub refusal_text : Refusal → List ℕ

@@ -9,18 +9,19 @@ use Rattle.lisp_lookup.specs.declared.answer.Answer.{Answer}
 use Rattle.lisp_lookup.specs.declared.answer.Answer.TheVariants.{NoSite, NotRegistered, Reply, Forward}
 use Rattle.lisp_policy.specs.Configuration.{ConfigValue}
 use Rattle.lisp_texts.specs.Written.{addr_text, record_text}
-use Rattle.lisp_lines.specs.Name.{node_name, router_name}
+use Rattle.lisp_lines.specs.declared.wording.Wording.{Wording}
+use Rattle.lisp_lines.specs.Name.{node_name, router_word}
 use Rattle.lisp_lines.specs.Line.{pair_text, keyed_text, part_text}
 
 -- the rows that a Map-Server holds at a moment: how many, then each with its age in ms
-abbrev pub row_text : ConfigValue → ℕ → RowValue → List ℕ
-row_text c now h = codes "row " ++ router_name c h.router ++ codes " " ++ record_text h.mapping ++ keyed_text h.key h.nonce ++ codes " age " ++ decimal (now - h.accepted) ++ 10 ∷ []
+abbrev pub row_text : ConfigValue → Wording → ℕ → RowValue → List ℕ
+row_text c wording now h = codes "row " ++ router_word c wording h.router ++ codes " " ++ record_text h.mapping ++ keyed_text h.key h.nonce ++ codes " age " ++ decimal (now - h.accepted) ++ 10 ∷ []
 
 abbrev pub hold_head : List ℕ → ℕ → List ℕ
 hold_head server rows = codes "hold " ++ server ++ codes " " ++ decimal rows ++ 10 ∷ []
 
-abbrev pub hold_text : ConfigValue → ℕ → ℕ → List RowValue → List ℕ
-hold_text c server now rows = hold_head (node_name c server) (length rows) ++ flat_map (row_text c now) rows
+abbrev pub hold_text : ConfigValue → Wording → ℕ → ℕ → List RowValue → List ℕ
+hold_text c wording server now rows = hold_head (node_name c server) (length rows) ++ flat_map (row_text c wording now) rows
 
 -- the rows by parts: the line before them; and the one after them, which says how many came
 abbrev pub hold_by_parts : List ℕ → List ℕ
@@ -71,6 +72,6 @@ abbrev pub due_server : ConfigValue → Option (ℕ × ℕ) → List ℕ
 due_server c None = codes "none"
 due_server c (Some due) = node_name c due.0 ++ part_text due.1
 
-abbrev pub due_router : ConfigValue → Option RouterId → List ℕ
-due_router c None = codes "none"
-due_router c (Some router) = router_name c router
+abbrev pub due_router : ConfigValue → Wording → Option RouterId → List ℕ
+due_router c wording None = codes "none"
+due_router c wording (Some router) = router_word c wording router

@@ -10,23 +10,24 @@ use Rattle.lisp_policy.specs.Configuration.{ConfigValue}
 use Rattle.lisp_server.specs.Notices.{OneForEach, IsDueRouter}
 use Rattle.lisp_server.specs.Server.{ServerState}
 use Rattle.lisp_lines.specs.Query.{hold_text, ask_text, due_text, due_router}
+use Rattle.lisp_lines.specs.declared.wording.Wording.{Wording}
 use Rattle.lisp_lines.specs.declared.server.ServerQuestion.{ServerQuestion}
 use Rattle.lisp_lines.specs.declared.server.ServerQuestion.TheVariants.{Hold, Ask, Due}
 
 -- the rows that it holds
-abbrev pub TellsHeld : ConfigValue → ℕ → ServerState → ℕ → List ℕ → Type 0
-TellsHeld c number core now text = (rows : List RowValue) × IsHeld core.rows now rows × (text ≡ hold_text c number now rows)
+abbrev pub TellsHeld : ConfigValue → Wording → ℕ → ServerState → ℕ → List ℕ → Type 0
+TellsHeld c wording number core now text = (rows : List RowValue) × IsHeld core.rows now rows × (text ≡ hold_text c wording number now rows)
 
 -- who answers for an address
 abbrev pub TellsAnswer : Type 0 → ConfigValue → ℕ → ServerState → Addr → ℕ → List ℕ → Type 0
 TellsAnswer A c number core addr now text = (answer : Answer A) × OneEach core.rows × Answers core.rows core.sites addr now answer × (text ≡ ask_text c number addr answer)
 
 -- to which router a notice is due
-abbrev pub TellsDueRouter : ConfigValue → ℕ → ServerState → ℕ → List ℕ → Type 0
-TellsDueRouter c number core now text = (router : Option RouterId) × OneForEach core.notices × IsDueRouter core.notices now router × (text ≡ due_text c number (due_router c router))
+abbrev pub TellsDueRouter : ConfigValue → Wording → ℕ → ServerState → ℕ → List ℕ → Type 0
+TellsDueRouter c wording number core now text = (router : Option RouterId) × OneForEach core.notices × IsDueRouter core.notices now router × (text ≡ due_text c number (due_router c wording router))
 
 -- what it answers to a question
-abbrev pub TellsServer : Type 0 → ConfigValue → ℕ → ServerState → ServerQuestion → ℕ → List ℕ → Type 0
-TellsServer A c number core Hold now text = TellsHeld c number core now text
-TellsServer A c number core (Ask addr) now text = TellsAnswer A c number core addr now text
-TellsServer A c number core Due now text = TellsDueRouter c number core now text
+abbrev pub TellsServer : Type 0 → ConfigValue → Wording → ℕ → ServerState → ServerQuestion → ℕ → List ℕ → Type 0
+TellsServer A c wording number core Hold now text = TellsHeld c wording number core now text
+TellsServer A c wording number core (Ask addr) now text = TellsAnswer A c number core addr now text
+TellsServer A c wording number core Due now text = TellsDueRouter c wording number core now text

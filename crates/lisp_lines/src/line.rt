@@ -3,30 +3,33 @@
 ghost use Rattle.std.specs.Prelude.{◌≡◌, ◌++◌, codes, OnErr};
 ghost use Rattle.lisp_lines.specs.Front.{Adds, AddsFront, GivesText};
 ghost use Rattle.lisp_lines.specs.Line.{pair_text, key_text, keyed_text, datagram_text, part_text, line_words, line_text};
+ghost use Rattle.lisp_lines.specs.Name.{node_name, router_word};
 ghost use Rattle.lisp_lines.specs.Parts.{verb, nodes_text, refusal_text, details_text, datagram_of, part_of};
 
 use crate::append::put_number;
 use crate::carried::put_carried;
 use crate::datagram_place::DatagramPlace;
-use crate::name::{node_name, router_name};
+use crate::name::{node_name, put_router_word};
+use crate::wording::Wording;
 use lisp_memory::{FallibleString, Memory};
 use lisp_model::{Line, Refusal};
+use lisp_records::RouterId;
 use lisp_sites::Config;
 use std::alloc::{AllocError, Allocator};
 
-/// The line of an event, with its line feed, by the names of the configuration; with the place of its datagram
-/// where that is `Shown`. A node or a router that the configuration doesn't have is `other`.
+/// The line of an event, with its line feed, by the names of the configuration; in this wording.
+/// A node that the configuration doesn't have is `other`.
 pub fn line_text<A: Memory, E: Allocator>(
     alloc: A,
     config: &Config<E>,
     line: &Line,
-    place: DatagramPlace,
+    wording: Wording,
 ) -> Result<String<A>, AllocError>
-    ensures text { GivesText result (line_text config.now place line.now) }
+    ensures text { GivesText result (line_text config.now wording line.now) }
     ensures memory { OnErr result A.may_refuse }
 {
     let mut text = String::new(alloc);
-    put_line(&mut text, config, line, place)?;
+    put_line(&mut text, config, line, wording)?;
     text.try_push('\n')?;
     Ok(text)
 }
@@ -38,15 +41,15 @@ fn put_line<A: Memory, E: Allocator>(
     text: &mut String<A>,
     config: &Config<E>,
     line: &Line,
-    place: DatagramPlace,
+    wording: Wording,
 ) -> Result<(), AllocError>
-    ensures text { Adds result text.old text.new (line_words config.now place line.now) }
+    ensures text { Adds result text.old text.new (line_words config.now wording line.now) }
     ensures memory { OnErr result A.may_refuse }
 {
     text.try_write(verb(line))?;
-    put_nodes(text, config, line)?;
+    put_nodes(text, config, wording, line)?;
     put_details(text, line)?;
-    put_datagram(text, place, datagram(line))?;
+    put_datagram(text, wording, datagram(line))?;
     put_part(text, part(line))
 }
 
@@ -78,9 +81,10 @@ fn verb(line: &Line) -> &'static str
 fn put_nodes<A: Memory, E: Allocator>(
     text: &mut String<A>,
     config: &Config<E>,
+    wording: Wording,
     line: &Line,
 ) -> Result<(), AllocError>
-    ensures text { Adds result text.old text.new (nodes_text config.now line.now) }
+    ensures text { Adds result text.old text.new (nodes_text config.now wording line.now) }
     ensures memory { OnErr result A.may_refuse }
 {
     match *line {
@@ -109,7 +113,7 @@ fn put_nodes<A: Memory, E: Allocator>(
             server,
             ref router,
             ..
-        } => { put_pair(text, node_name(config, server), router_name(config, router)) }
+        } => put_heard(text, config, wording, server, router),
         Line::Nowhere { .. } | Line::Ticked { .. } => Ok(()),
     }
 }
@@ -165,15 +169,17 @@ fn part(line: &Line) -> usize
 // Appends the place of a datagram, where there is one and it is shown. Out of memory, it may leave a part of it.
 fn put_datagram<A: Memory>(
     text: &mut String<A>,
-    place: DatagramPlace,
+    wording: Wording,
     datagram: Option<usize>,
 ) -> Result<(), AllocError>
-    ensures text { Adds result text.old text.new (datagram_text place datagram) }
+    ensures text { Adds result text.old text.new (datagram_text wording datagram) }
     ensures memory { OnErr result A.may_refuse }
 {
-    match (place, datagram) {
-        (DatagramPlace::Shown, Some(datagram)) => put_number(text, " datagram ", datagram as u64),
-        (DatagramPlace::Shown, None) | (DatagramPlace::Hidden, _) => Ok(()),
+    match (wording, datagram) {
+        (Wording::Schedule(DatagramPlace::Shown), Some(datagram)) => {
+            put_number(text, " datagram ", datagram as u64)
+        }
+        _ => Ok(()),
     }
 }
 
@@ -202,6 +208,24 @@ fn put_pair<A: Memory>(text: &mut String<A>, one: &str, other: &str) -> Result<(
     ensures memory { OnErr result A.may_refuse }
 {
     text.try_write(format_args!(" {one} {other}"))
+}
+
+// Appends the names of a Map-Server and of a router that it heard, each after a space. Out of memory, it may leave a part of them.
+#[tactic(auto, using(crate::proofs::Appends::steps))]
+fn put_heard<A: Memory, E: Allocator>(
+    text: &mut String<A>,
+    config: &Config<E>,
+    wording: Wording,
+    server: usize,
+    router: &RouterId,
+) -> Result<(), AllocError>
+    ensures text { Adds result text.old text.new (codes " " ++ pair_text
+        (node_name config.now server) (router_word config.now wording router.now)) }
+    ensures memory { OnErr result A.may_refuse }
+{
+    let server = node_name(config, server);
+    text.try_write(format_args!(" {server} "))?;
+    put_router_word(text, config, wording, router)
 }
 
 // Appends a Key ID. Out of memory, it leaves a front of it.

@@ -7,6 +7,7 @@ ghost use Rattle.lisp_lines.specs.Listing.{ListsRows, PutsRow, PutsRows};
 use crate::held::put_held;
 use crate::query::put_row;
 use crate::walk::Walk;
+use crate::wording::Wording;
 use lisp_memory::Memory;
 use lisp_server::Server;
 use lisp_sites::Config;
@@ -24,7 +25,7 @@ pub struct RowsPart<A: Allocator = Global> {
     pub is_last: bool,
 }
 
-/// The lines of the next rows of a walk over those of the Map-Server with a number, as `hold_text` has them; after the last one a line
+/// The lines of the next rows of a walk over those of the Map-Server with a number, as `hold_text` has them of a node; after the last one a line
 /// that says how many rows came. Takes memory of `alloc`.
 pub fn next_rows<A: Memory + Copy, E: Allocator>(
     alloc: A,
@@ -82,7 +83,7 @@ fn put_next<A: Memory + Copy, E: Allocator>(
     let now = walk.moment();
     match walk.next(core) {
         Some(row) => {
-            put_row(alloc, text, config, now, row)?;
+            put_row(alloc, text, config, Wording::Node, now, row)?;
             Ok(true)
         }
         None => Ok(false),

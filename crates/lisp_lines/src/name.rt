@@ -1,12 +1,16 @@
 //! What nodes are called in lines.
 
-ghost use Rattle.std.specs.Prelude.{◌≡◌};
+ghost use Rattle.std.specs.Prelude.{◌≡◌, OnErr};
 ghost use Rattle.std.specs.Option.{option_map};
-ghost use Rattle.lisp_lines.specs.Name.{node_name, router_of, router_name};
+ghost use Rattle.lisp_lines.specs.Front.{Adds};
+ghost use Rattle.lisp_lines.specs.Name.{node_name, router_of, router_name, router_word};
 
+use crate::identity::put_identity;
+use crate::wording::Wording;
+use lisp_memory::{FallibleString, Memory};
 use lisp_records::RouterId;
 use lisp_sites::{Config, RouterEntry};
-use std::alloc::Allocator;
+use std::alloc::{AllocError, Allocator};
 
 /// What a node is called that the configuration doesn't have.
 const OTHER: &str = "other";
@@ -28,6 +32,24 @@ pub fn router_name<'a, E: Allocator>(config: &'a Config<E>, me: &RouterId) -> &'
     match router_of(config.routers(), me) {
         Some(router) => router.name.as_str(),
         None => OTHER,
+    }
+}
+
+/// Appends what lines of a wording call the router with an identity: its name; or, where the configuration doesn't have it, `other` in a
+/// schedule, and `SITE/XTR` of a node. Out of memory, it may leave a part of it.
+pub fn put_router_word<A: Memory, E: Allocator>(
+    text: &mut String<A>,
+    config: &Config<E>,
+    wording: Wording,
+    me: &RouterId,
+) -> Result<(), AllocError>
+    ensures text { Adds result text.old text.new (router_word config.now wording me.now) }
+    ensures memory { OnErr result A.may_refuse }
+{
+    match (router_of(config.routers(), me), wording) {
+        (Some(router), _) => text.try_write(router.name.as_str()),
+        (None, Wording::Schedule(_)) => text.try_write(OTHER),
+        (None, Wording::Node) => put_identity(text, me),
     }
 }
 

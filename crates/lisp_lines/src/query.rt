@@ -5,11 +5,13 @@ ghost use Rattle.std.specs.Fmt.{decimal};
 ghost use Rattle.lisp_lines.specs.Front.{Adds, AddsFront, GivesText};
 ghost use Rattle.lisp_lines.specs.Query.{row_text, hold_head, hold_text, counted_words, ack_line, ack_of_part, ack_text, answer_words, ask_text, due_text, due_server, due_router};
 ghost use Rattle.lisp_lines.specs.Line.{pair_text};
+ghost use Rattle.lisp_lines.specs.Name.{router_word};
 ghost use Rattle.lisp_texts.specs.Written.{addr_text};
 
 use crate::append::put_words;
 use crate::line::{put_keyed, put_part};
-use crate::name::{node_name, router_name};
+use crate::name::{node_name, put_router_word};
+use crate::wording::Wording;
 use lisp_lookup::Answer;
 use lisp_memory::{FallibleString, Memory};
 use lisp_records::{Addr, RouterId, Row};
@@ -24,16 +26,17 @@ const NONE: &str = "none";
 pub fn hold_text<A: Memory + Copy, E: Allocator, F: Allocator>(
     alloc: A,
     config: &Config<E>,
+    wording: Wording,
     server: usize,
     now: u64,
     rows: &[Row<F>],
 ) -> Result<String<A>, AllocError>
-    ensures text { GivesText result (hold_text config.now server now rows.now) }
+    ensures text { GivesText result (hold_text config.now wording server now rows.now) }
     ensures memory { OnErr result A.may_refuse }
 {
     let mut text = hold_head(alloc, node_name(config, server), rows.len())?;
     for row in rows {
-        put_row(alloc, &mut text, config, now, row)?;
+        put_row(alloc, &mut text, config, wording, now, row)?;
     }
     Ok(text)
 }
@@ -51,17 +54,19 @@ pub fn put_row<A: Memory + Copy, E: Allocator, F: Allocator>(
     alloc: A,
     text: &mut String<A>,
     config: &Config<E>,
+    wording: Wording,
     now: u64,
     row: &Row<F>,
 ) -> Result<(), AllocError>
-    ensures text { Adds result text.old text.new (row_text config.now now row.now) }
+    ensures text { Adds result text.old text.new (row_text config.now wording now row.now) }
     ensures memory { OnErr result A.may_refuse }
 {
-    let router = router_name(config, &row.router);
     let record = record_to_text(alloc, &row.mapping)?;
     let (key, nonce) = (row.key, row.nonce);
     let age = now.saturating_sub(row.accepted);
-    text.try_write(format_args!("row {router} {record} key {key} nonce {nonce} age {age}\n"))
+    text.try_write("row ")?;
+    put_router_word(text, config, wording, &row.router)?;
+    text.try_write(format_args!(" {record} key {key} nonce {nonce} age {age}\n"))
 }
 
 /// Appends a line for each part that a router counted last from a Map-Server, from 0 on: its Key ID and nonce; for the
@@ -217,17 +222,38 @@ pub fn due_server_text<A: Memory, E: Allocator>(
 pub fn due_router_text<A: Memory, E: Allocator>(
     alloc: A,
     config: &Config<E>,
+    wording: Wording,
     server: usize,
     router: Option<RouterId>,
 ) -> Result<String<A>, AllocError>
-    ensures text { GivesText result (due_text config.now server (due_router config.now router)) }
+    ensures text { GivesText result
+        (due_text config.now server (due_router config.now wording router)) }
     ensures memory { OnErr result A.may_refuse }
 {
     let server = node_name(config, server);
     match router {
-        Some(router) => due_text(alloc, server, router_name(config, &router)),
+        Some(router) => due_known_text(alloc, config, wording, server, &router),
         None => due_text(alloc, server, NONE),
     }
+}
+
+// The router to which a notice is due.
+#[tactic(auto, using(crate::proofs::Appends::steps))]
+fn due_known_text<A: Memory, E: Allocator>(
+    alloc: A,
+    config: &Config<E>,
+    wording: Wording,
+    server: &str,
+    router: &RouterId,
+) -> Result<String<A>, AllocError>
+    ensures text { GivesText result (codes "due " ++ pair_text
+        server.now (router_word config.now wording router.now) ++ 10 ∷ []) }
+    ensures memory { OnErr result A.may_refuse }
+{
+    let mut text = String::try_format(alloc, format_args!("due {server} "))?;
+    put_router_word(&mut text, config, wording, router)?;
+    text.try_write("\n")?;
+    Ok(text)
 }
 
 // Who is due to a node.

@@ -9,6 +9,7 @@ ghost use Rattle.lisp_script.specs.declared.play_fault.PlayFault.TheVariants as 
 use crate::datagram_place::DatagramPlace;
 use crate::line::line_text;
 use crate::output::{Unwritten, write_bytes};
+use crate::wording::Wording;
 use lisp_memory::Memory;
 use lisp_model::Line;
 use lisp_script::PlayFault;
@@ -16,7 +17,7 @@ use lisp_sites::Config;
 use std::alloc::Allocator;
 use std::io::Write;
 
-/// Writes the line of an event, with its line feed, by the names of a configuration; with the words `datagram D`
+/// Writes the line of an event, with its line feed, as a schedule prints it, by the names of a configuration; with the words `datagram D`
 /// where the place is `Shown`. Faults: `OutOfMemory`, where nothing was written; `Write`, where a front of the line was,
 /// but not the whole.
 pub fn write_line<A: Memory, E: Allocator, W: Write>(
@@ -32,7 +33,7 @@ pub fn write_line<A: Memory, E: Allocator, W: Write>(
     ensures front { CutsLine result W.contents writer.old writer.new config.now place line.now }
     ensures faults { IfErr result (λ fault. IsWritingFault fault) }
 {
-    let text = line_text(alloc, config, line, place)?;
+    let text = line_text(alloc, config, line, Wording::Schedule(place))?;
     write_text(&text, writer)
 }
 

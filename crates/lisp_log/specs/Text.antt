@@ -17,8 +17,8 @@ use Rattle.lisp_model.specs.declared.refusal.Refusal.TheVariants as refusals
 use Rattle.lisp_model.specs.declared.line.Line.{Line}
 use Rattle.lisp_model.specs.declared.line.Line.TheVariants as lines
 use Rattle.lisp_lines.specs.Line.{line_words}
-use Rattle.lisp_lines.specs.Name.{node_name, router_name}
-use Rattle.lisp_lines.specs.declared.datagram_place.DatagramPlace.TheVariants.{Hidden}
+use Rattle.lisp_lines.specs.Name.{node_name, router_word}
+use Rattle.lisp_lines.specs.declared.wording.Wording.TheVariants.{Node}
 use Rattle.lisp_mapping.specs.declared.outcome.Outcome.{Outcome}
 use Rattle.lisp_mapping.specs.declared.outcome.Outcome.TheVariants as outcomes
 use Rattle.lisp_resolve.specs.Unasked.{unasked_number}
@@ -71,14 +71,14 @@ source_words from = codes " from " ++ addr_text from
 
 -- the line of an event, and what caused it; and where the datagram came from that brought it about
 abbrev pub caused_words : ConfigValue → Option (List ℕ) → Line → List ℕ
-caused_words c cause line = line_words c Hidden line ++ cause_words cause
+caused_words c cause line = line_words c Node line ++ cause_words cause
 
 abbrev pub heard_words : ConfigValue → Option (List ℕ) → Line → Addr → List ℕ
 heard_words c cause line from = caused_words c cause line ++ source_words from
 
 -- a row that died, and a call of the socket that failed
 abbrev pub expired_words : ConfigValue → List ℕ → RouterId → PrefixValue → List ℕ
-expired_words c name router eid = codes "expired " ++ name ++ codes " " ++ router_name c router ++ codes " " ++ prefix_text eid
+expired_words c name router eid = codes "expired " ++ name ++ codes " " ++ router_word c Node router ++ codes " " ++ prefix_text eid
 
 abbrev pub failed_words : List ℕ → SocketCall → List ℕ
 failed_words name call = codes "refused " ++ name ++ codes " " ++ decimal (call_number call)

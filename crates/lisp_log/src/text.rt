@@ -10,7 +10,7 @@ use crate::repeats::{Repeat, Repeated, Source};
 use crate::replays::Replay;
 use lisp_admission::{NoticeFault, Refused};
 use lisp_etr::{RotateFault, SendFault, StartFault};
-use lisp_lines::{DatagramPlace, line_text, node_name, router_name};
+use lisp_lines::{Wording, line_text, node_name, put_router_word};
 use lisp_mapping::Outcome;
 use lisp_memory::{FallibleString, Memory};
 use lisp_model::{Line, Refusal};
@@ -125,7 +125,7 @@ fn caused_words<A: Memory, E: Allocator>(
     ensures text { GivesText result (caused_words config.now (option_copied cause.entry) line.now) }
     ensures memory { OnErr result A.may_refuse }
 {
-    let mut text = line_text(alloc, config, line, DatagramPlace::Hidden)?;
+    let mut text = line_text(alloc, config, line, Wording::Node)?;
     // The line feed comes last.
     let _line_feed = text.pop();
     put_cause(&mut text, cause)?;
@@ -151,6 +151,7 @@ fn heard_words<A: Memory + Copy, E: Allocator>(
 }
 
 // A row that died.
+#[tactic(auto, using(lisp_lines::proofs::Appends::steps))]
 fn expired_words<A: Memory + Copy, E: Allocator>(
     alloc: A,
     config: &Config<E>,
@@ -161,9 +162,11 @@ fn expired_words<A: Memory + Copy, E: Allocator>(
     ensures text { GivesText result (expired_words config.now name.now router.now eid.now) }
     ensures memory { OnErr result A.may_refuse }
 {
-    let router = router_name(config, router);
     let eid = prefix_to_text(alloc, eid)?;
-    String::try_format(alloc, format_args!("expired {name} {router} {eid}"))
+    let mut text = String::try_format(alloc, format_args!("expired {name} "))?;
+    put_router_word(&mut text, config, Wording::Node, router)?;
+    text.try_write(format_args!(" {eid}"))?;
+    Ok(text)
 }
 
 // What is said of an EID-Prefix that a Map-Request asks for, and where Map-Replies go.

@@ -27,6 +27,8 @@ use Rattle.lisp_refinement.specs.Asked.{ServerTells, RouterTells}
 use Rattle.lisp_refinement.specs.Replied.{Replies, IsPromised}
 use Rattle.lisp_refinement.proofs.Gets.{none_is_some, same_some, get_within}
 use Rattle.lisp_refinement.proofs.Asking.{servers_tell, routers_tell}
+use Rattle.lisp_lines.specs.declared.datagram_place.DatagramPlace.TheVariants.{Shown}
+use Rattle.lisp_lines.specs.declared.wording.Wording.TheVariants.{Schedule}
 use Rattle.lisp_lines.specs.Query.{hold_text, ack_text, ask_text, due_text, due_server, due_router}
 use Rattle.lisp_lines.specs.Reply.{request_text}
 use Rattle.lisp_lines.specs.Router.{CountedFrom, due_of, due_in}
@@ -165,12 +167,12 @@ missing_none c node fault is past = ap fault_text is ∙ sym (ap (λ (b : Bool).
 
 -- which rows a Map-Server holds
 pub hold_told : (w : WorldState) (c : ConfigValue) (server : ℕ) (core : ServerState) (now : ℕ) (told listed : List RowValue) (text : List ℕ)
-    → Some core ≡ server_at w server → now ≡ w.clock → told ≡ listed → IsHeld core.rows now listed → text ≡ hold_text c server now told → OfTraces w c (λ o T. Holds o T server text)
+    → Some core ≡ server_at w server → now ≡ w.clock → told ≡ listed → IsHeld core.rows now listed → text ≡ hold_text c (Schedule Shown) server now told → OfTraces w c (λ o T. Holds o T server text)
 hold_told w c server core now told listed text at moment same held is =
-    of_config w c (λ (c : ConfigValue). text ≡ hold_text c server now told) (λ o T. Holds o T server text) is (λ o T stand said.
+    of_config w c (λ (c : ConfigValue). text ≡ hold_text c (Schedule Shown) server now told) (λ o T. Holds o T server text) is (λ o T stand said.
     let tells = server_told w o T stand (Unit {0}) server core at in
     let all = tells.1.held listed (subst (λ (n : ℕ). IsHeld core.rows n listed) moment held) in
-    where_true _ _ _ tells.0 (said ∙ ap (λ (n : ℕ). hold_text o.config server n told) (moment ∙ stand.bag.moment) ∙ ap (hold_text o.config server (clock T)) (same ∙ all)))
+    where_true _ _ _ tells.0 (said ∙ ap (λ (n : ℕ). hold_text o.config (Schedule Shown) server n told) (moment ∙ stand.bag.moment) ∙ ap (hold_text o.config (Schedule Shown) server (clock T)) (same ∙ all)))
 
 pub hold_missing : (w : WorldState) (c : ConfigValue) (server : ℕ) (text : List ℕ) → None ≡ server_at w server → text ≡ missing_text c server → OfTraces w c (λ o T. Holds o T server text)
 hold_missing w c server text at is =
@@ -203,9 +205,9 @@ request_missing A w c server asked from text at is =
 
 -- to which router a notice is due
 pub due_told : (w : WorldState) (c : ConfigValue) (node : ℕ) (core : ServerState) (now : ℕ) (router : Option RouterId) (text : List ℕ)
-    → Some core ≡ server_at w node → now ≡ w.clock → OneForEach core.notices → IsDueRouter core.notices now router → text ≡ due_text c node (due_router c router) → OfTraces w c (λ o T. IsDue o T node text)
+    → Some core ≡ server_at w node → now ≡ w.clock → OneForEach core.notices → IsDueRouter core.notices now router → text ≡ due_text c node (due_router c (Schedule Shown) router) → OfTraces w c (λ o T. IsDue o T node text)
 due_told w c node core now router text at moment one is_due is =
-    of_config w c (λ (c : ConfigValue). text ≡ due_text c node (due_router c router)) (λ o T. IsDue o T node text) is (λ o T stand said.
+    of_config w c (λ (c : ConfigValue). text ≡ due_text c node (due_router c (Schedule Shown) router)) (λ o T. IsDue o T node text) is (λ o T stand said.
     let tells = server_told w o T stand (Unit {0}) node core at in
     where_true _ _ _ tells.0 (router, tells.1.due_notices router one (subst (λ (n : ℕ). IsDueRouter core.notices n router) moment is_due), said))
 

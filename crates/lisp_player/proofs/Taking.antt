@@ -14,6 +14,7 @@ use Rattle.lisp_world.specs.Quiet.{AllCalm, stores_of, KeepsCalm}
 use Rattle.lisp_model.specs.declared.world_fault.WorldFault.{WorldFault}
 use Rattle.lisp_model.specs.declared.world_fault.WorldFault.TheVariants.{OutOfMemory}
 use Rattle.lisp_lines.specs.declared.datagram_place.DatagramPlace.TheVariants.{Shown}
+use Rattle.lisp_lines.specs.declared.wording.Wording.TheVariants.{Schedule}
 use Rattle.lisp_lines.specs.Line.{line_text}
 use Rattle.lisp_script.specs.declared.command.Command.TheVariants.{Act, Hold, Acks, Ask, Request, Due}
 use Rattle.lisp_script.specs.declared.command.Command.{Command}
@@ -49,7 +50,7 @@ text_leads A N S old new c order text line told = record {
 
 module _ (A N S : Type 0) (old new : WorldState) (c : ConfigValue) (text : List ℕ) where
   -- an event is taken
-  pub event_taken : (event : EventValue) (line : Line) → StandsAfter old new event line → MayTell N S line → KeepsCalm old new (fate_of event) → text ≡ line_text c Shown line → Told A N S old new c (Act event) text (Some line)
+  pub event_taken : (event : EventValue) (line : Line) → StandsAfter old new event line → MayTell N S line → KeepsCalm old new (fate_of event) → text ≡ line_text c (Schedule Shown) line → Told A N S old new c (Act event) text (Some line)
   event_taken event line after tells keeps is = record {
     calm = keeps.calm;
     comes = λ o T stand config. (
@@ -57,7 +58,7 @@ module _ (A N S : Type 0) (old new : WorldState) (c : ConfigValue) (text : List 
         let s : Step = record { event = event; line = line; actor = its.0; shown = its.1 } in
         record {
           after = s ∷ T;
-          told = (inl (record { step = s; of = refl; legal = its.2.steps.legal.0; tells = tells; said = is ∙ ap (λ (c : ConfigValue). line_text c Shown line) (sym config); next = refl }), (s, refl, refl));
+          told = (inl (record { step = s; of = refl; legal = its.2.steps.legal.0; tells = tells; said = is ∙ ap (λ (c : ConfigValue). line_text c (Schedule Shown) line) (sym config); next = refl }), (s, refl, refl));
           stands = its.2;
           failures = λ calm asked. (λ done node within. none_failed old new o T s stand its.2 (keeps.unfailing calm done) node within, asked);
         });
@@ -95,7 +96,7 @@ module _ (A N S : Type 0) (old new : WorldState) (c : ConfigValue) (text : List 
 -- an event is taken, whose text is lost
 pub event_loses : (A N S : Type 0) (old new : WorldState) (c : ConfigValue) (event : EventValue) (line : Line) → StandsAfter old new event line → MayTell N S line → KeepsCalm old new (fate_of event) → Loses A N S old new c (Act event)
 event_loses A N S old new c event line after tells keeps =
-    let text = line_text c Shown line in
+    let text = line_text c (Schedule Shown) line in
     inr (text, text_leads A N S old new c (Act event) text (Some line) (event_taken A N S old new c text event line after tells keeps refl))
 
 -- a command, wherever its parts lie in memory

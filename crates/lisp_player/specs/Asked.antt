@@ -25,6 +25,7 @@ use Rattle.lisp_model.specs.declared.world_fault.WorldFault.{WorldFault}
 use Rattle.lisp_model.specs.declared.world_fault.WorldFault.TheVariants.{NoNode, WrongKind}
 use Rattle.lisp_model.specs.Faults.{world_fault_number}
 use Rattle.lisp_lines.specs.declared.datagram_place.DatagramPlace.TheVariants.{Shown}
+use Rattle.lisp_lines.specs.declared.wording.Wording.TheVariants.{Schedule}
 use Rattle.lisp_lines.specs.Line.{line_text}
 use Rattle.lisp_lines.specs.Query.{hold_text, ack_text, ask_text, due_text, due_server, due_router}
 use Rattle.lisp_lines.specs.Reply.{request_text}
@@ -47,14 +48,14 @@ abbrev pub AsServer : ConfigValue → ℕ → List ℕ → Type 0 → Type 0
 AsServer c node text Told = Where (nat_lt node (length c.servers)) Told (text ≡ missing_text c node)
 
 abbrev pub down_text : ConfigValue → ℕ → List ℕ
-down_text c router = line_text c Shown (lines.Down router)
+down_text c router = line_text c (Schedule Shown) (lines.Down router)
 
 abbrev pub of_router : Opening → List Step → ℕ → List ℕ → List ℕ
 of_router o T router told = if is_up T router then told else down_text o.config router
 
 -- which rows a Map-Server holds
 abbrev pub Holds : Opening → List Step → ℕ → List ℕ → Type 0
-Holds o T server text = AsServer o.config server text (text ≡ hold_text o.config server (clock T) (rows (since_start o T server) (clock T)))
+Holds o T server text = AsServer o.config server text (text ≡ hold_text o.config (Schedule Shown) server (clock T) (rows (since_start o T server) (clock T)))
 
 -- who answers for an address there
 abbrev pub Asks : Type 0 → Opening → List Step → ℕ → Addr → List ℕ → Type 0
@@ -90,7 +91,7 @@ IsDueAtRouter o T node text = text ≡ (if is_router o.config node then due_at_r
 abbrev pub IsDue : Opening → List Step → ℕ → List ℕ → Type 0
 IsDue o T node text =
     Where (nat_lt node (length o.config.servers))
-    ((router : Option RouterId) × IsNextNotice o T node router × (text ≡ due_text o.config node (due_router o.config router)))
+    ((router : Option RouterId) × IsNextNotice o T node router × (text ≡ due_text o.config node (due_router o.config (Schedule Shown) router)))
     (IsDueAtRouter o T node text)
 
 -- it holds of each trace that a network of a configuration stands for

@@ -6,6 +6,7 @@ use Rattle.lisp_model.specs.declared.line.Line.{Line}
 use Rattle.lisp_refinement.specs.World.{WorldState}
 use Rattle.lisp_policy.specs.Configuration.{ConfigValue}
 use Rattle.lisp_lines.specs.declared.datagram_place.DatagramPlace.TheVariants.{Shown}
+use Rattle.lisp_lines.specs.declared.wording.Wording.TheVariants.{Schedule}
 use Rattle.lisp_lines.specs.Line.{line_text}
 use Rattle.lisp_script.specs.declared.command.Command.{Command}
 use Rattle.lisp_script.specs.Command.{CommandValue, command_value}
@@ -19,7 +20,7 @@ texts outcomes = flat_map (λ o. string_bytes o.text) outcomes
 
 -- what the event came to is what the text tells
 abbrev pub TellsLine : {A : Type 0} → ConfigValue → Outcome A → Type 0
-TellsLine c outcome = IfSome outcome.line (λ line. string_bytes outcome.text ≡ line_text c Shown line)
+TellsLine c outcome = IfSome outcome.line (λ line. string_bytes outcome.text ≡ line_text c (Schedule Shown) line)
 
 -- of what a store keeps an outcome lists all that it counts, four at most
 abbrev pub ListsKept : {A : Type 0} → Outcome A → Type 0

@@ -12,6 +12,7 @@ use Rattle.lisp_world.specs.Faults.{fault_of}
 use Rattle.lisp_model.specs.declared.world_fault.WorldFault.{WorldFault}
 use Rattle.lisp_model.specs.declared.world_fault.WorldFault.TheVariants.{OutOfMemory}
 use Rattle.lisp_lines.specs.declared.datagram_place.DatagramPlace.TheVariants.{Shown}
+use Rattle.lisp_lines.specs.declared.wording.Wording.TheVariants.{Schedule}
 use Rattle.lisp_lines.specs.Line.{line_text}
 use Rattle.lisp_lines.specs.Output.{WroteFront}
 use Rattle.lisp_script.specs.declared.command.Command.TheVariants.{Act, Hold, Acks, Ask, Request, Due}
@@ -36,7 +37,7 @@ pub record EventIsTaken (nodes stores : Type 0) (o : Opening) (T : List Step) (e
   pub of : step.event ≡ event
   pub legal : Legal o T step
   pub tells : MayTell nodes stores step.line
-  pub said : text ≡ line_text o.config Shown step.line
+  pub said : text ≡ line_text o.config (Schedule Shown) step.line
   pub next : after ≡ step ∷ T
 
 pub record EventIsRefused (nodes : Type 0) (o : Opening) (T : List Step) (event : EventValue) (text : List ℕ) (after : List Step) : Type 0 where

@@ -5,7 +5,7 @@ ghost use Rattle.std.specs.String.{string_bytes};
 ghost use Rattle.lisp_player.specs.Asked.{Acknowledges, Asks, Holds, IsDue, IsDueAtRouter, Requests, SaysOfTraces, fault_text, missing_text};
 
 use lisp_lines::{
-    DatagramPlace, RouterQuestion, ServerQuestion, line_text, request_text, router_answer,
+    DatagramPlace, RouterQuestion, ServerQuestion, Wording, line_text, request_text, router_answer,
     server_answer,
 };
 use lisp_memory::{FallibleString, Memory};
@@ -33,6 +33,7 @@ pub(crate) fn hold_lines<S: WorldStore, A: Memory + Copy, E: Allocator>(
     server_answer(
         alloc,
         config,
+        Wording::Schedule(DatagramPlace::Shown),
         server,
         core,
         ServerQuestion::Hold,
@@ -57,6 +58,7 @@ pub(crate) fn ask_line<S: WorldStore, A: Memory + Copy, E: Allocator>(
     server_answer(
         alloc,
         config,
+        Wording::Schedule(DatagramPlace::Shown),
         server,
         core,
         ServerQuestion::Ask(*addr),
@@ -107,7 +109,12 @@ pub(crate) fn ack_lines<S: WorldStore, A: Memory + Copy, E: Allocator>(
             RouterQuestion::Acks,
             world.clock(),
         ),
-        None => line_text(alloc, config, &Line::Down { router }, DatagramPlace::Shown),
+        None => line_text(
+            alloc,
+            config,
+            &Line::Down { router },
+            Wording::Schedule(DatagramPlace::Shown),
+        ),
     }
 }
 
@@ -125,6 +132,7 @@ pub(crate) fn due_line<S: WorldStore, A: Memory + Copy, E: Allocator>(
         Some(core) => server_answer(
             alloc,
             config,
+            Wording::Schedule(DatagramPlace::Shown),
             node,
             core,
             ServerQuestion::Due,
@@ -161,7 +169,7 @@ fn due_at_router<S: WorldStore, A: Memory + Copy, E: Allocator>(
             alloc,
             config,
             &Line::Down { router: node },
-            DatagramPlace::Shown,
+            Wording::Schedule(DatagramPlace::Shown),
         ),
     }
 }

@@ -7,7 +7,7 @@ ghost use Rattle.lisp_player.specs.Playing.{LosesText};
 
 use crate::asked::{ack_lines, ask_line, due_line, fault_line, hold_lines, request_lines};
 use crate::outcome::Outcome;
-use lisp_lines::{DatagramPlace, line_text};
+use lisp_lines::{DatagramPlace, Wording, line_text};
 use lisp_memory::Memory;
 use lisp_model::{Event, Line};
 use lisp_nonces::WorldStore;
@@ -78,7 +78,8 @@ fn event_outcome<S: WorldStore, A: Memory + Copy, E: Allocator, F: Allocator>(
 {
     match world.step(event) {
         Ok(line) => {
-            let text = line_text(alloc, config, &line, DatagramPlace::Shown)?;
+            let wording = Wording::Schedule(DatagramPlace::Shown);
+            let text = line_text(alloc, config, &line, wording)?;
             Ok(outcome(alloc, Some(line), text))
         }
         Err(fault) => {

@@ -11,8 +11,9 @@ use Rattle.lisp_records.specs.Row.{RowValue}
 use Rattle.lisp_policy.specs.Configuration.{ConfigValue}
 use Rattle.lisp_texts.specs.Written.{addr_text}
 use Rattle.lisp_lines.specs.Line.{keyed_text}
-use Rattle.lisp_lines.specs.Name.{node_name, router_name}
+use Rattle.lisp_lines.specs.Name.{node_name, router_word}
 use Rattle.lisp_lines.specs.Walk.{up_to_most}
+use Rattle.lisp_lines.specs.declared.wording.Wording.TheVariants.{Node}
 use Rattle.lisp_log.specs.declared.replays.Replay.{Replay}
 use Rattle.lisp_statistics.specs.Never.{never_count, never_text}
 use Rattle.lisp_statistics.specs.Replays.{run_text}
@@ -43,7 +44,7 @@ abbrev pub hearing_words : ℕ → Hearing → List ℕ
 hearing_words now h = keyed_text h.key h.nonce ++ codes " age " ++ decimal (now - h.at)
 
 abbrev pub router_text : ConfigValue → ℕ → RouterId → Hearing → ℕ → List ℕ
-router_text c now router h rows = codes "router " ++ router_name c router ++ codes " from " ++ addr_text h.from ++ hearing_words now h ++ codes " rows " ++ decimal rows ++ 10 ∷ []
+router_text c now router h rows = codes "router " ++ router_word c Node router ++ codes " from " ++ addr_text h.from ++ hearing_words now h ++ codes " rows " ++ decimal rows ++ 10 ∷ []
 
 -- with its rows by some counts; and with those that are its
 abbrev pub counted_text : ConfigValue → ℕ → BTreeMap RouterId ℕ → RouterId × Hearing → List ℕ

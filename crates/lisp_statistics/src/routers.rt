@@ -14,7 +14,7 @@ use crate::hearing::Hearing;
 use crate::never::{count_never, put_never};
 use crate::replays::put_replays;
 use crate::statistics::Statistics;
-use lisp_lines::{node_name, router_name};
+use lisp_lines::{Wording, node_name, put_router_word};
 use lisp_log::Replay;
 use lisp_memory::{FallibleMap, FallibleString, Memory};
 use lisp_records::RouterId;
@@ -156,9 +156,10 @@ fn put_router<A: Memory + Copy, E: Allocator>(
         (router_text config.now now router.now hearing.now rows) }
     ensures memory { OnErr result A.may_refuse }
 {
-    let name = router_name(config, router);
     let from = addr_to_text(alloc, &hearing.from)?;
-    text.try_write(format_args!("router {name} from {from}"))?;
+    text.try_write("router ")?;
+    put_router_word(text, config, Wording::Node, router)?;
+    text.try_write(format_args!(" from {from}"))?;
     put_hearing(text, hearing, now)?;
     text.try_write(format_args!(" rows {rows}\n"))
 }

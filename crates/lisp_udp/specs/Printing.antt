@@ -4,7 +4,7 @@ use Rattle.std.specs.Fmt.{decimal}
 use Rattle.std.specs.Io.KnownBytes.{Appends}
 use Rattle.lisp_policy.specs.Configuration.{ConfigValue}
 use Rattle.lisp_lines.specs.Line.{line_text}
-use Rattle.lisp_lines.specs.declared.datagram_place.DatagramPlace.TheVariants.{Hidden}
+use Rattle.lisp_lines.specs.declared.wording.Wording.TheVariants.{Node}
 use Rattle.lisp_script.specs.RunFault.{numbered}
 use Rattle.lisp_script.specs.declared.run_fault.RunFault.{RunFault}
 use Rattle.lisp_turns.specs.declared.outside.Printed.{Printed}
@@ -16,10 +16,10 @@ use Rattle.lisp_turns.specs.Outside.{call_number}
 abbrev pub failed_text : List ℕ → SocketCall → List ℕ
 failed_text name call = codes "refused " ++ name ++ codes " " ++ decimal (call_number call) ++ 10 ∷ []
 
--- the line of an event, without the number of its datagram, or of a socket that failed; of a row that died and of Map-Requests nothing
+-- the line of an event, or of a socket that failed; of a row that died and of Map-Requests nothing
 abbrev pub printed_text : ConfigValue → List ℕ → Printed → List ℕ
-printed_text config name (printed.Event line) = line_text config Hidden line
-printed_text config name (printed.Heard line from) = line_text config Hidden line
+printed_text config name (printed.Event line) = line_text config Node line
+printed_text config name (printed.Heard line from) = line_text config Node line
 printed_text config name (printed.Expired router eid) = []
 printed_text config name (printed.Asked eid to outcome) = []
 printed_text config name (printed.Unasked from why) = []

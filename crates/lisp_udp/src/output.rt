@@ -7,7 +7,7 @@ ghost use Rattle.lisp_lines.specs.Output.{Writes};
 ghost use Rattle.lisp_script.specs.RunFault.{numbered};
 ghost use Rattle.lisp_udp.specs.Printing.{printed_text, failed_text, lost_text, WritesSome, IsPrintingFault};
 
-use lisp_lines::{DatagramPlace, line_text, write_text};
+use lisp_lines::{Wording, line_text, write_text};
 use lisp_memory::FallibleString;
 use lisp_script::RunFault;
 use lisp_sites::Config;
@@ -72,7 +72,7 @@ fn printed_text(
 {
     match line {
         Printed::Event(line) | Printed::Heard { line, .. } => {
-            line_text(alloc, config, line, DatagramPlace::Hidden)
+            line_text(alloc, config, line, Wording::Node)
         }
         Printed::Expired { .. }
         | Printed::Asked { .. }

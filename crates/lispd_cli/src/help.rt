@@ -186,7 +186,7 @@ Example:
 
 /// What `raise` does, for its help.
 pub(crate) const RAISE_ABOUT: &str =
-    "Raise each nonce that a Map-Server or a router keeps, which doesn't run, by N, so that an old copy of its store can be put back";
+    "Raise by N each nonce that a stopped Map-Server or router keeps, so that an old copy of its store can be put back";
 
 /// What it needs, for its help.
 pub(crate) const RAISE_NEEDS: &str =
@@ -254,14 +254,17 @@ to or from port 4342 is a line: its number, its seconds since the first packet, 
   map-request, map-reply, encapsulated
                  of which no more is told
   can't be read: read N at byte B
-                 `lispd explain N` says why; a packet that is cut, damaged or a fragment says so
-The tag, by the secret of the message's site with its Key ID:
-  tag checks     it is that of the message; `tag checks site SITE` of a Map-Notify, which names no site
-  tag fails      it isn't
-  tag unknown    there is no such secret
+                 `lispd explain N` says why; with ` record P fault F` in front of `at`, record P is at fault, and F says why
+A packet that is cut, damaged or a fragment says so. One of another kind of link, or with more than two VLAN tags, has no line.
+
+The tag, by the secret of a Map-Register's site with its Key ID; of the other two, which name no site, by those of all sites:
+  tag checks     it is that of the message; `tag checks site SITE` of the other two
+  tag fails      it isn't; of the other two it is that of no site, perhaps as none has the Key ID
+  tag unknown    CONFIG has no such site, or no such key of it; of the other two, it has no site
 
 As a schedule each datagram to a node's address is a command `junk` after the time that passed, and any other a comment. Routers of a
-schedule send nothing by themselves, so they refuse what acknowledges the captured messages. `play` takes at most 1,048,576 bytes.
+schedule send nothing by themselves, so they refuse what acknowledges the captured messages. The schedule has the secrets of CONFIG. `play`
+takes at most 1,048,576 bytes.
 
 Examples:
   tcpdump -i any -w lisp.pcap udp port 4342

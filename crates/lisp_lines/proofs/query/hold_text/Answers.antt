@@ -8,8 +8,8 @@ loop-row-init g c = head_alone c.args.config.now c.args.server _ _ _ _ c.node_na
 
 pub loop-row-preserved : goal.loop-row-preserved
 loop-row-preserved g c =
-    one_more (row_text c.args.config.now c.args.now) (head_text c.args.config.now c.args.server (length c.args.rows.now)) c.args.rows.now c.loop-row.row-index c.row-item.result _ _
+    one_more (row_text c.args.config.now c.args.wording c.args.now) (head_text c.args.config.now c.args.server (length c.args.rows.now)) c.args.rows.now c.loop-row.row-index c.row-item.result _ _
     c.loop-row-test.true c.row-item.is c.loop-row.invariant c.in_ok-put_row.ensures.text
 
 pub returns-clause-text : goal.returns-clause-text
-returns-clause-text g c = all_rows c.args.config.now c.args.server c.args.now c.args.rows.now c.loop-row.row-index _ c.loop-row-test.false c.loop-row.invariant
+returns-clause-text g c = all_rows c.args.config.now c.args.wording c.args.server c.args.now c.args.rows.now c.loop-row.row-index _ c.loop-row-test.false c.loop-row.invariant

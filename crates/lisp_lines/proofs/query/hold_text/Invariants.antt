@@ -7,4 +7,4 @@ use Rattle.lisp_lines.proofs.query.hold_text.Given as goal
 
 -- the line of their number, and the rows so far
 abbrev pub invariant-loop-row : goal.invariant-loop-row
-invariant-loop-row g l = string_bytes l.text ≡ head_text l.config l.server (length l.rows) ++ flat_map (row_text l.config l.now) (take l.row-index l.rows)
+invariant-loop-row g l = string_bytes l.text ≡ head_text l.config l.server (length l.rows) ++ flat_map (row_text l.config l.wording l.now) (take l.row-index l.rows)
