@@ -66,6 +66,8 @@ lisp_router_age_seconds{node="s1",router="r1"} AGE
 # HELP lisp_router_last_nonce The nonce of the last accepted Map-Register of the router; above 2^53 Prometheus rounds it.
 # TYPE lisp_router_last_nonce gauge
 lisp_router_last_nonce{node="s1",router="r1"} 1
+# HELP lisp_router_last_refusal The number of the last refusal of a datagram from the address of the router since the start, whoever sent it.
+# TYPE lisp_router_last_refusal gauge
 """
 
 
@@ -118,9 +120,10 @@ def counts(here, name):
 
 def what_is_counted(here):
     """Which routers it heard, how many lines of each kind it printed, and what it has, in lines and for Prometheus."""
+    begun = time.time_ns()
     process = up(here, "server", "s1", here.s1, env=with_slow_syncs(SLOW_MS * 1000))
     check("nobody was heard", ask(here, "s1", "routers"), (0, "routers s1 2\nrouter r1 never\nrouter r2 never\n", ""))
-    check("nobody has metrics", "lisp_router_age_seconds{" in ask(here, "s1", "counts", "--prometheus")[1], False)
+    check("nobody has metrics", re.findall("^lisp_router_", ask(here, "s1", "counts", "--prometheus")[1], re.M), [])
     check("nothing is counted", counts(here, "s1"), {"rows": "0", "sites": "0", "standing_notices": "0", "replays": "0", "longest_save_ms": "0",
                                                               "requests": "0", "slowest_reply_us": "0"})
     with peer(here.r1) as it:
@@ -146,14 +149,16 @@ def what_is_counted(here):
     check("their ages", all(0 <= int(age) < LIMIT * 1000 for age in ages), True)
     status, text, wrongs = ask(here, "s1", "counts", "--prometheus")
     lines = [line for line in text.splitlines() if line[0] != "#" and "resent" not in line]
-    save, age = lines.pop(8), lines.pop(-2)
+    save, start, age = lines.pop(8), lines.pop(10), lines.pop(-3)
     check("metrics", (status, wrongs, lines), (0, "", [
         'lisp_lines_total{node="s1",line="accepted"} 2', 'lisp_lines_total{node="s1",line="notice"} 1',
         'lisp_refusals_total{node="s1",number="50"} 1', 'lisp_refusals_total{node="s1",number="57"} 1',
         'lisp_rows{node="s1"} 1', 'lisp_sites{node="s1"} 1', 'lisp_standing_notices{node="s1"} 1',
         'lisp_replayed_sources{node="s1"} 0', 'lisp_map_requests_total{node="s1"} 0',
         'lisp_slowest_reply_seconds{node="s1"} 0e-6', 'lisp_site_rows{node="s1",site="0000000000000001"} 1',
-        'lisp_router_last_nonce{node="s1",router="r1"} 8']))
+        'lisp_router_last_nonce{node="s1",router="r1"} 8', 'lisp_router_last_refusal{node="s1",router="r1"} 57']))
+    found = re.fullmatch(r'lisp_start_time_seconds\{node="s1"\} (\d+)e-3', start)
+    check("when it started", found is not None and begun // 10**6 <= int(found[1]) <= time.time_ns() // 10**6, True)
     found = re.fullmatch(r'lisp_router_age_seconds\{node="s1",router="r1"\} (\d+)e-3', age)
     check("the age of a router", found is not None and int(found[1]) < LIMIT * 1000, True)
     if shutil.which("promtool"):
@@ -195,7 +200,7 @@ def what_is_held_of_sites(here):
         status, text, wrongs = ask(here, "s1", "counts", "--prometheus")
         held = re.sub(r"(?<=\} )\d+e-3$", "AGE", text[text.index("# HELP lisp_site_rows "):], flags=re.M)
         check("as metrics", (status, wrongs, held), (0, "", HELD))
-        check("before them", re.search(r'\nlisp_slowest_reply_seconds\{node="s1"\} 0e-6\n# HELP lisp_site_rows ', text) is not None, True)
+        check("before them", re.search(r'\nlisp_start_time_seconds\{node="s1"\} \d+e-3\n# HELP lisp_site_rows ', text) is not None, True)
         send(3, 0xFF, 10, 1, 2, ttl=0)
         check("a router without rows", held_of_sites(here)[:2], ["00000000000000ff rows 4", "00000000000000ff routers 2"])
         send(1, 2, 1, 7, 1)
@@ -232,6 +237,8 @@ def who_is_refused_as_replaying(here):
         check_replays("nobody is", 0, [])
         other.sendto(map_register(6), (here.s1, PORT))
         check_replays("one is", 0, [f"replays s1 from {here.r2} times 1 saved 7"])
+        check("from the address of another router", re.findall("^lisp_router_last_refusal(.*)\n", ask(here, "s1", "counts", "--prometheus")[1], re.M),
+              ['{node="s1",router="r2"} 57'])
         begun, times = time.monotonic(), 0
         while replays(here)[0] != 1 and time.monotonic() < begun + LIMIT:
             it.sendto(map_register(7 - times % 7), (here.s1, PORT))

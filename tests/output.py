@@ -89,6 +89,10 @@ def a_server_of_long_lines(here, **how):
     return a_server(here, SERVER, **how)[0]
 
 
+def moved(router, before, now):
+    return f"moved s1 {router} from {before} to {now}"
+
+
 def accepted(here, nonce, server="s1", router="r1"):
     return f"accepted {server} {router} key 1 nonce {nonce} from {here.r1}"
 
@@ -170,6 +174,37 @@ def where_datagrams_came_from(here):
                                            (other, here.s2, b"", "refused s1 50 read 1")):
             it.sendto(message, (here.s1, PORT))
             check("a line", output.line(), f"{line} from {address}")
+            if "nonce 2" in line:
+                check("it moved", output.line(), moved("r1", here.r1, here.s2))
+
+
+def routers_that_move(here):
+    """A router that registers from another address than before, as two machines with one identity do: it is said of each router, once a minute,
+    which is three seconds here."""
+    _, output = a_server(here, env=faster(speed=20))
+    check("its first line", output.line(), "started s1 nonces none")
+    with peer(here.r1) as one, peer(here.r2) as two:
+        addresses = {one: here.r1, two: here.r2}
+
+        def lines(it, nonce, xtr=XTR, before=None):
+            name, address = "r1" if xtr == XTR else identity(xtr), addresses[it]
+            it.sendto(map_register(nonce, xtr=xtr), (here.s1, PORT))
+            more = [moved(name, addresses[before], address)] if before else []
+            check(f"nonce {nonce} of {name}", [output.line(), *(output.line() for _ in more)],
+                  [f"accepted s1 {name} key 1 nonce {nonce} from {address}", *more])
+
+        lines(one, 1)
+        lines(one, 2)
+        lines(two, 3, before=one)
+        lines(two, 1, xtr=99)
+        lines(one, 2, xtr=99, before=two)
+        for nonce in (4, 5, 6):
+            lines(one if nonce % 2 == 0 else two, nonce)
+        time.sleep(3.2)
+        lines(one, 7)
+        lines(one, 8)
+        lines(two, 9, before=one)
+        check("nothing else", output.rest(0.5), [])
 
 
 def where_a_router_s_datagrams_came_from(here):
@@ -691,7 +726,7 @@ READERS = [a_reader_that_stops(output) for output in (a_pipe, a_socket, a_termin
 
 # Those that wait longest come first.
 run_tests([a_silent_map_server_is_told, a_router_that_lost_its_nonces_is_told, *READERS, a_reader_that_left,
-           a_pipe_that_can_not_be_opened_anew, an_output_that_is_full, what_expires_is_told, repeats_are_summed,
+           a_pipe_that_can_not_be_opened_anew, an_output_that_is_full, what_expires_is_told, routers_that_move, repeats_are_summed,
            numbers_and_addresses_are_told_apart, a_hundred_addresses, sums_tell_all, a_full_disk_under_the_lines_and_the_store,
            lines_of_turns, what_a_folder_keeps_is_told_first, a_node_that_must_know_nonces, where_datagrams_came_from,
            where_a_router_s_datagrams_came_from, kinds_of_errors, kinds_of_errors_of_a_socket, a_write_that_fails_once,

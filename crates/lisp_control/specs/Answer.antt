@@ -55,9 +55,9 @@ server_gauges rows core replays s = gauge Rows rows.walk.rows ∷ gauge Sites ro
 abbrev pub router_gauges : {A : Type 0} → EtrState → Statistics A → List Gauge
 router_gauges core s = gauge Records (length core.database) ∷ node_gauges s
 
--- what is counted of a node, and what it has
+-- what is counted of a node, what it has, and when it started
 abbrev pub told_counts : {A : Type 0} → ConfigValue → ℕ → Statistics A → Format → List Gauge → List ℕ
-told_counts c number s format gauges = counts_text format (node_name c number) s.tallies.entries gauges
+told_counts c number s format gauges = counts_text format (node_name c number) s.tallies.entries gauges s.started
 
 -- a router's; one that is down has no records
 abbrev pub router_counts : {A : Type 0} → ConfigValue → ℕ → Option EtrState → Statistics A → Format → List ℕ

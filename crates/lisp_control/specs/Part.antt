@@ -95,7 +95,7 @@ HeardPart c number core s runs progress now text rest = CountsPart core progress
 abbrev pub told_server : {A : Type 0} → ConfigValue → ℕ → ServerState → Statistics A → List Replay → Format → ℕ → Gathering Global → List ℕ
 told_server c number core s runs format now rows = told_counts c number s format (server_gauges rows core (replay_count now runs) s)
     ++ site_counts_text format (node_name c number) core.sites rows.routers.entries ++ site_refusals_text format (node_name c number) s.by_site.entries
-    ++ router_metrics_text format c number now s.heard
+    ++ router_metrics_text format c number s now
 
 abbrev pub TellsCounts : {A : Type 0} → ConfigValue → ℕ → ServerState → Statistics A → List Replay → Format → ℕ → Gathering Global → List ℕ → Option Progress → Type 0
 TellsCounts c number core s runs format now rows text rest = (text ≡ told_server c number core s runs format now rows) × (rest ≡ None)

@@ -89,8 +89,8 @@ fn router_counts(
 
 /// What is counted of the Map-Server with a number, and what it has at a moment, in ms, by its core, its rows as they
 /// were counted, and the runs of Map-Registers that it refuses as replays; then what is held of each of its sites that has
-/// a limit on its routers or rows, and how many Map-Registers the limits of each site refused. Metrics also have the rows
-/// of its other sites, and the configured routers that register with it and were heard.
+/// a limit on its routers or rows, and how many Map-Registers the limits of each site refused. Metrics also have when the
+/// node started, the rows of its other sites, and those of the configured routers that register with it.
 pub(crate) fn server_counts(
     alloc: Global,
     config: &Config,

@@ -24,7 +24,7 @@ abbrev pub nameless : List (List ℕ)
 nameless = codes "comes" ∷ codes "dropped" ∷ codes "fault" ∷ codes "goes" ∷ codes "lost" ∷ codes "nowhere" ∷ codes "record" ∷ codes "tick" ∷ []
 
 abbrev pub paired : List (List ℕ)
-paired = codes "accepted" ∷ codes "acks" ∷ codes "counted" ∷ codes "done" ∷ codes "due" ∷ codes "expired" ∷ codes "notice" ∷ codes "noticed" ∷ codes "resent" ∷ codes "sent" ∷ codes "silent" ∷ []
+paired = codes "accepted" ∷ codes "acks" ∷ codes "counted" ∷ codes "done" ∷ codes "due" ∷ codes "expired" ∷ codes "moved" ∷ codes "notice" ∷ codes "noticed" ∷ codes "resent" ∷ codes "sent" ∷ codes "silent" ∷ []
 
 -- ---- keys, whose value is the next word: a number, or a text
 

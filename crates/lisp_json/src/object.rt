@@ -45,7 +45,11 @@ pub fn object_of<A: Memory + Copy>(alloc: A, line: &str) -> Result<Vec<u8, A>, A
     object_of_words(alloc, words.as_slice())
 }
 
-fn object_of_words<A: Memory + Copy>(alloc: A, words: &[&str]) -> Result<Vec<u8, A>, AllocError>
+/// That of the words of a line.
+pub(crate) fn object_of_words<A: Memory + Copy>(
+    alloc: A,
+    words: &[&str],
+) -> Result<Vec<u8, A>, AllocError>
     ensures object { IfOk result (λ object. IsObjectOfWords (texts words.now) object.items) }
     ensures memory { OnErr result A.may_refuse }
 {

@@ -1,9 +1,10 @@
 //! The words of a line, and which of them are names, numbers and keys.
 
-ghost use Rattle.std.specs.Prelude.{◌≡◌, IfOk, OnErr};
+ghost use Rattle.std.specs.Prelude.{◌≡◌, ℕ, List, IfOk, OnErr};
 ghost use Rattle.std.specs.List.{list_all, list_any};
 ghost use Rattle.std.specs.Str.{bytes_eq};
 ghost use Rattle.std.specs.Char.{is_ascii_digit};
+ghost use Rattle.lisp_json.specs.Told.{ToldValue, take_name, take_names};
 ghost use Rattle.lisp_json.specs.Words.{texts, words_of, is_among, nameless, paired, numbered, number_keys, is_key, is_decimal, number_in};
 
 use lisp_memory::{FallibleCopies, Memory};
@@ -16,9 +17,9 @@ const NAMELESS: [&str; 8] = [
 ];
 
 /// Kinds of lines with the names of two nodes behind them.
-const PAIRED: [&str; 11] = [
-    "accepted", "acks", "counted", "done", "due", "expired", "notice", "noticed", "resent", "sent",
-    "silent",
+const PAIRED: [&str; 12] = [
+    "accepted", "acks", "counted", "done", "due", "expired", "moved", "notice", "noticed",
+    "resent", "sent", "silent",
 ];
 
 /// Kinds of lines with a number of a refusal or a fault behind the names.
@@ -64,6 +65,31 @@ pub(crate) fn words_of<A: Memory>(alloc: A, line: &str) -> Result<Vec<&str, A>, 
     Ok(words)
 }
 
+/// The words behind the names of a line of this kind.
+pub(crate) fn behind_names<'w, 'a>(kind: &str, words: &'w [&'a str]) -> &'w [&'a str]
+    ensures { texts result.now ≡ (take_names kind.now (texts words.now)).1 }
+{
+    if is_nameless(kind) {
+        return words;
+    }
+    let behind = behind_name(words);
+    if is_paired(kind) {
+        behind_name(behind)
+    } else {
+        behind
+    }
+}
+
+fn behind_name<'w, 'a>(words: &'w [&'a str]) -> &'w [&'a str]
+    ensures { (name : List ℕ) (told : ToldValue)
+        → texts result.now ≡ (take_name name (told, texts words.now)).1 }
+{
+    match words {
+        [_, behind @ ..] => behind,
+        [] => words,
+    }
+}
+
 pub(crate) fn is_nameless(kind: &str) -> bool
     ensures { result ≡ is_among nameless kind.now }
 {
@@ -94,7 +120,8 @@ pub(crate) fn is_key(word: &str) -> bool
     has_number(word) || is_one_of(&TEXT_KEYS, word)
 }
 
-fn is_one_of(names: &[&str], word: &str) -> bool
+/// Whether a word is one of these.
+pub(crate) fn is_one_of(names: &[&str], word: &str) -> bool
     ensures { result ≡ list_any (λ name. bytes_eq word.now name.now) names.now }
 {
     names.iter().any(|name| word == *name)

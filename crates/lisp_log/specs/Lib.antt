@@ -1,9 +1,11 @@
 pub mod Repeats
 pub mod Silences
 pub mod Replays
+pub mod Moves
 pub mod Waiting
 pub mod Whole
 pub mod Text
 pub mod Log
 pub mod Sums
 pub mod Few
+pub mod Rare

@@ -1,8 +1,11 @@
 -- What a node that runs without an end tells: its lines, but for those that repeat others; how many
--- those were; which Map-Servers are silent; and from where Map-Registers are refused as replays for long.
+-- those were; which Map-Servers are silent; from where Map-Registers are refused as replays for long; and which
+-- routers moved.
 use Rattle.std.specs.Prelude.{◌≡◌, ◌⊎◌, ℕ, ◌+◌, ◌*◌, ◌<◌, ◌≤◌, ◌==◌, Bool, true, false, List, [], ◌∷◌, Option, Some, None, if◌then◌else◌}
 use Rattle.std.specs.List.{flat_map}
+use Rattle.std.specs.Option.{option_map}
 use Rattle.lisp_records.specs.declared.address.Addr.{Addr}
+use Rattle.lisp_records.specs.declared.router.RouterId.{RouterId}
 use Rattle.lisp_policy.specs.Configuration.{ConfigValue}
 use Rattle.lisp_admission.specs.declared.refused.Refused.TheVariants as refused
 use Rattle.lisp_model.specs.Faults.{refusal_number}
@@ -14,16 +17,18 @@ use Rattle.lisp_mapping.specs.declared.outcome.Outcome.TheVariants as outcomes
 use Rattle.lisp_resolve.specs.Unasked.{unasked_number}
 use Rattle.lisp_turns.specs.declared.outside.Printed.{Printed}
 use Rattle.lisp_turns.specs.declared.outside.Printed.TheVariants as printed
+use Rattle.lisp_log.specs.declared.moves.Whereabouts.{Whereabouts}
 use Rattle.lisp_log.specs.declared.repeats.Repeat.{Repeat}
 use Rattle.lisp_log.specs.declared.repeats.Repeated.{Repeated}
 use Rattle.lisp_log.specs.declared.repeats.Repeated.TheVariants as repeated
 use Rattle.lisp_log.specs.declared.replays.Replay.{Replay}
 use Rattle.lisp_log.specs.declared.silences.Silence.{Silence}
+use Rattle.lisp_log.specs.Moves.{Hears, heard_in, moved_from, where_is}
 use Rattle.lisp_log.specs.Repeats.{TellsEvent}
 use Rattle.lisp_log.specs.Replays.{without, ongoing, Replayed, TellsReplay, NoneDue}
 use Rattle.lisp_log.specs.Silences.{never_heard, Acknowledges, TellsSilence, NoneSilent}
 use Rattle.lisp_log.specs.Waiting.{WaitingState, nothing_waits, put_line, put_sum, drops, drops_one}
-use Rattle.lisp_log.specs.Text.{over_budget_number, told_text, repeat_text, silent_text, replay_text, started_text}
+use Rattle.lisp_log.specs.Text.{over_budget_number, told_text, repeat_text, silent_text, replay_text, moved_text, started_text}
 
 pub record LogState : Type 0 where
   pub config : ConfigValue
@@ -32,6 +37,7 @@ pub record LogState : Type 0 where
   pub second : ℕ
   pub silences : List Silence
   pub replays : List Replay
+  pub moves : List (RouterId × Whereabouts)
   pub waiting : WaitingState
 
 -- at the moment at which it begins it says how many pairs the node's store keeps
@@ -43,6 +49,7 @@ begins config name servers pairs now = record {
   second = 0;
   silences = never_heard now servers;
   replays = [];
+  moves = [];
   waiting = put_line nothing_waits (started_text name pairs);
 }
 
@@ -75,6 +82,11 @@ abbrev pub PutsIf : Type 0 → Bool → WaitingState → WaitingState → List �
 PutsIf may_refuse true old new text = Puts may_refuse old new text
 PutsIf may_refuse false old new text = new ≡ old
 
+-- and where there is one
+abbrev pub PutsSome : Type 0 → WaitingState → WaitingState → Option (List ℕ) → Type 0
+PutsSome may_refuse old new (Some text) = Puts may_refuse old new text
+PutsSome may_refuse old new None = new ≡ old
+
 -- a router counts what a Map-Server acknowledged
 abbrev pub AcknowledgesBy : Printed → List Silence → List Silence → ℕ → Type 0
 AcknowledgesBy (printed.Heard (lines.Counted router server part key nonce) from) old new now = Acknowledges old new server now
@@ -95,14 +107,30 @@ NotesReplay (printed.Heard (lines.Refused node what) from) old new now = NotesRe
 NotesReplay (printed.Heard (lines.Accepted server router key nonce datagram) from) old new now = new ≡ without from old
 NotesReplay _ old new now = new ≡ old
 
--- the node prints a line, at a moment
-pub record TellsLine (may_refuse : Type 0) (old new : LogState) (line : Printed) (cause : Option (List ℕ)) (now : ℕ) : Type 0 where
+-- a router is heard from an address at a moment; if it moved, that waits
+pub record HearsRouter (may_refuse : Type 0) (old new : LogState) (router : RouterId) (from : Addr) (now : ℕ) : Type 0 where
+  pub hears : Hears may_refuse old.moves new.moves router from now
+  pub waiting : PutsSome may_refuse old.waiting new.waiting (option_map (λ last. moved_text old.config old.name router last from) (moved_from (where_is old.moves router) from now))
+  pub rest : new ≡ record old { moves = new.moves; waiting = new.waiting }
+
+abbrev pub HearsBy : Type 0 → LogState → LogState → Option (RouterId × Addr) → ℕ → Type 0
+HearsBy may_refuse old new (Some heard) now = HearsRouter may_refuse old new heard.0 heard.1 now
+HearsBy may_refuse old new None now = new ≡ old
+
+-- a line is told, or counted
+pub record TellsPrinted (may_refuse : Type 0) (old new : LogState) (line : Printed) (cause : Option (List ℕ)) (now : ℕ) : Type 0 where
   pub told : Bool
   pub repeats : IsToldOf (repeating line) old.repeats new.repeats told
   pub silences : AcknowledgesBy line old.silences new.silences now
   pub replays : NotesReplay line old.replays new.replays now
   pub waiting : PutsIf may_refuse told old.waiting new.waiting (told_text old.config old.name cause line)
   pub rest : new ≡ record old { repeats = new.repeats; silences = new.silences; replays = new.replays; waiting = new.waiting }
+
+-- the node prints a line, at a moment; behind it, that a router moved
+pub record TellsLine (may_refuse : Type 0) (old new : LogState) (line : Printed) (cause : Option (List ℕ)) (now : ℕ) : Type 0 where
+  pub between : LogState
+  pub printed : TellsPrinted may_refuse old between line cause now
+  pub heard : HearsBy may_refuse between new (heard_in line) now
 
 -- a line that tells so many events
 pub record Sum : Type 0 where

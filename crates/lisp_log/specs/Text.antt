@@ -146,6 +146,11 @@ replays_words name from = codes "replays " ++ name ++ codes " from " ++ addr_tex
 abbrev pub replay_text : List ℕ → Replay → ℕ → List ℕ
 replay_text name r now = replays_words name r.from ++ run_words now r
 
+-- a router that moved: the address that it was heard from before, and the one now
+abbrev pub moved_text : ConfigValue → List ℕ → RouterId → Addr → Addr → List ℕ
+moved_text c name router old new = codes "moved " ++ name ++ codes " " ++ router_word c Node router ++ codes " from " ++ addr_text old
+    ++ codes " to " ++ addr_text new ++ 10 ∷ []
+
 -- how many pairs a store keeps
 abbrev pub count_text : ℕ → List ℕ
 count_text pairs = if pairs == 0 then codes "none" else decimal pairs

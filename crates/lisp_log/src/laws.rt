@@ -1,6 +1,7 @@
 //! What the parts come to, as laws: each function's contract is a law, and its body is empty.
 
 ghost use Rattle.lisp_log.specs.Few.{FewAreTold, KindsAreAll};
+ghost use Rattle.lisp_log.specs.Rare.{MovedIsRare};
 ghost use Rattle.lisp_log.specs.Sums.{EqualIsSame, SumsTellAll, DroppedSumsAreCounted};
 ghost use Rattle.lisp_log.specs.Whole.{WrittenIsWhole};
 
@@ -45,4 +46,9 @@ pub fn dropped_sums_are_counted<A: Memory>()
 #[tactic(auto, using(crate::proofs::WholeLaws::written_is_whole))]
 pub fn written_is_whole()
     ensures { WrittenIsWhole }
+{}
+
+/// As long as moments don't fall, two moves of one router that are told lie at least a minute apart.
+pub fn moved_is_rare<A: Memory>()
+    ensures { MovedIsRare A.may_refuse }
 {}

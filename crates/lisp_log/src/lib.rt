@@ -18,10 +18,13 @@
 //!   and a slow reader gets few of these.
 //! - Who is refused as replaying is named by source address: the line of a refusal names no router, and a Map-Register that
 //!   somebody repeats is as authentic as the router's own.
+//! - That a router moved is told behind the line of its Map-Register, and not summed: two machines with one identity are so seen once a
+//!   minute, with both addresses. Where routers were heard has no bound of its own, since only one that has a key is heard.
 //! - The kinds of errors are std's words (`StorageFull`), and not a table of ours.
 #![tactic(auto)]
 
 // What is told.
+mod moves;
 mod repeats;
 mod replays;
 mod silences;
@@ -36,6 +39,7 @@ pub mod laws;
 mod log;
 
 pub use log::Log;
+pub use moves::{Moves, Whereabouts};
 pub use repeats::{Repeat, Repeated, Repeats, Source};
 pub use replays::{Replay, Replays};
 pub use silences::{Silence, Silences};

@@ -3,30 +3,33 @@
 ghost use Rattle.std.specs.Prelude.{◌≡◌, ◌≤◌, ℕ, List, true, false, string_bytes, OnErr, IfOk};
 ghost use Rattle.std.specs.Option.{option_copied};
 ghost use Rattle.lisp_records.specs.Moment.{max_moment};
-ghost use Rattle.lisp_log.specs.Log.{begins, answer_to, repeating, IsToldOf, AcknowledgesBy, saved_in, NotesReplay, TellsLine, sum_of, sums, PutsAll, EndsSecond, TellsOneSilence, TellsSilences, TellsOneReplay, TellsReplays, Passes};
+ghost use Rattle.lisp_log.specs.Log.{begins, answer_to, repeating, IsToldOf, AcknowledgesBy, saved_in, NotesReplay, TellsPrinted, HearsRouter, TellsLine, sum_of, sums, PutsAll, EndsSecond, TellsOneSilence, TellsSilences, TellsOneReplay, TellsReplays, Passes};
 ghost use Rattle.lisp_log.specs.Replays.{NoneDue};
 ghost use Rattle.lisp_log.specs.Silences.{NoneSilent};
 ghost use Rattle.lisp_log.specs.declared.replays.Replay.{Replay};
 ghost use Rattle.lisp_log.specs.Waiting.{put_line, drops_one, Pours};
 
+use crate::moves::{Moves, heard_in};
 use crate::repeats::{Repeat, Repeated, Repeats};
 use crate::replays::{Replay, Replays};
 use crate::silences::Silences;
-use crate::text::{OVER_BUDGET, repeat_text, replay_text, silent_text, started_text, told_text};
+use crate::text::{
+    OVER_BUDGET, moved_text, repeat_text, replay_text, silent_text, started_text, told_text,
+};
 use crate::waiting::{Sink, Waiting};
 use lisp_admission::Refused;
 use lisp_mapping::Outcome;
 use lisp_memory::Memory;
 use lisp_model::{Line, Refusal};
-use lisp_records::Addr;
+use lisp_records::{Addr, RouterId};
 use lisp_sites::Config;
 use lisp_turns::Printed;
 use std::alloc::{AllocError, Allocator, Global};
 use std::marker::Model;
 
 /// What the node with a name tells: its lines, without the repeats of refusals and of answers to Map-Requests, which are summed at the
-/// end of each second; which Map-Servers are silent; from where Map-Registers are refused as replays time and again;
-/// and what of it waits until it is written. Moments are in ms.
+/// end of each second; which Map-Servers are silent; from where Map-Registers are refused as replays time and again; which
+/// routers moved; and what of it waits until it is written. Moments are in ms.
 #[derive(Drop)]
 pub struct Log<'a, A: Allocator = Global> {
     alloc: A,
@@ -37,6 +40,7 @@ pub struct Log<'a, A: Allocator = Global> {
     second: u64,
     silences: Silences<A>,
     replays: Replays<A>,
+    moves: Moves<A>,
     waiting: Waiting<A>,
 }
 
@@ -45,12 +49,13 @@ impl<'a, A: Allocator> Model for Log<'a, A> {
 
     ghost Value = { LogState };
 
-    ghost view = { λ l. record { config = l.config.now; name = l.name.now; repeats = l.repeats; second = l.second; silences = l.silences; replays = l.replays; waiting = l.waiting } };
+    ghost view = { λ l. record { config = l.config.now; name = l.name.now; repeats = l.repeats; second = l.second; silences = l.silences; replays = l.replays; moves = l.moves; waiting = l.waiting } };
 }
 
 impl<'a, A: Memory + Copy> Log<'a, A> {
     /// That of a node with a name, which registers with the Map-Servers of these numbers, and whose store keeps so many
-    /// pairs: it says so in its first line. It begins at a moment, in ms. Takes the memory that it keeps; each line takes and gives back its own.
+    /// pairs: it says so in its first line. It begins at a moment, in ms. Takes the memory that it keeps, but for that of each
+    /// router that is heard; each line takes and gives back its own.
     pub fn start(
         alloc: A,
         config: &'a Config,
@@ -76,6 +81,7 @@ impl<'a, A: Memory + Copy> Log<'a, A> {
             second: 0,
             silences,
             replays,
+            moves: Moves::new(alloc),
             waiting,
         })
     }
@@ -83,15 +89,37 @@ impl<'a, A: Memory + Copy> Log<'a, A> {
     /// The node prints a line, at a moment in ms: it is told, with the kind of the system's error behind it, in a word,
     /// where there is one. A refusal, or an answer to a Map-Request, that repeats another of this second is counted in its place. A
     /// Map-Register that is refused as a replay is noted in the run of its source address; one that is
-    /// accepted ends that run. A line for which no memory is had is dropped.
+    /// accepted ends that run, and where its router was heard from another address before, that is told behind it, at most once a
+    /// minute for each router. A line for which no memory is had is dropped.
     pub fn tell(&mut self, line: &Printed, cause: Option<&str>, now: u64)
         ensures { TellsLine A.may_refuse self.old self.new line.now
+            (option_copied cause.entry) now }
+    {
+        self.tell_printed(line, cause, now);
+        if let Some((router, from)) = heard_in(line) {
+            self.hear(router, from, now);
+        }
+    }
+
+    // The same, but for routers that moved.
+    fn tell_printed(&mut self, line: &Printed, cause: Option<&str>, now: u64)
+        ensures { TellsPrinted A.may_refuse self.old self.new line.now
             (option_copied cause.entry) now }
     {
         acknowledge(&mut self.silences, line, now);
         note_replay(&mut self.replays, line, now);
         if is_told(&mut self.repeats, line) {
             let text = told_text(self.alloc, self.config, self.name, cause, line);
+            put_text(&mut self.waiting, text);
+        }
+    }
+
+    // A router is heard from an address, at a moment: that it moved is told.
+    fn hear(&mut self, router: RouterId, from: Addr, now: u64)
+        ensures { HearsRouter A.may_refuse self.old self.new router from now }
+    {
+        if let Some(last) = self.moves.hears(router, from, now) {
+            let text = moved_text(self.alloc, self.config, self.name, &router, &last, &from);
             put_text(&mut self.waiting, text);
         }
     }

@@ -3,7 +3,7 @@
 ghost use Rattle.std.specs.Prelude.{◌≡◌, ◌++◌, OnErr};
 ghost use Rattle.std.specs.Option.{option_copied};
 ghost use Rattle.lisp_lines.specs.Front.{Adds, GivesText};
-ghost use Rattle.lisp_log.specs.Text.{device_of, device_of_line, device_of_refusal, cause_words, caused_words, heard_words, expired_words, asked_words, replies_words, refused_words, failed_words, told_words, told_text, repeated_words, source_text, repeat_text, silent_text, run_words, replay_text, started_text};
+ghost use Rattle.lisp_log.specs.Text.{device_of, device_of_line, device_of_refusal, cause_words, caused_words, heard_words, expired_words, asked_words, replies_words, refused_words, failed_words, told_words, told_text, repeated_words, source_text, repeat_text, silent_text, run_words, replay_text, moved_text, started_text};
 ghost use Rattle.lisp_mapping.specs.declared.outcome.Outcome.TheVariants.{Replied, Negative};
 
 use crate::repeats::{Repeat, Repeated, Source};
@@ -363,6 +363,27 @@ fn put_run<A: Memory>(text: &mut String<A>, run: &Replay, now: u64) -> Result<()
     let (times, saved) = (run.times, run.saved);
     let age = now.saturating_sub(run.since);
     text.try_write(format_args!(" times {times} saved {saved} age {age}\n"))
+}
+
+/// What the Map-Server with a name tells of a router that moved from an address to another one, with its line feed.
+#[tactic(auto, using(lisp_lines::proofs::Appends::steps))]
+pub(crate) fn moved_text<A: Memory + Copy, E: Allocator>(
+    alloc: A,
+    config: &Config<E>,
+    name: &str,
+    router: &RouterId,
+    old: &Addr,
+    new: &Addr,
+) -> Result<String<A>, AllocError>
+    ensures text { GivesText result (moved_text config.now name.now router.now old.now new.now) }
+    ensures memory { OnErr result A.may_refuse }
+{
+    let old = addr_to_text(alloc, old)?;
+    let new = addr_to_text(alloc, new)?;
+    let mut text = String::try_format(alloc, format_args!("moved {name} "))?;
+    put_router_word(&mut text, config, Wording::Node, router)?;
+    text.try_write(format_args!(" from {old} to {new}\n"))?;
+    Ok(text)
 }
 
 /// How many pairs a node's store keeps as it starts, with its line feed.

@@ -5,3 +5,4 @@ pub mod Listed
 pub mod WholeList
 pub mod SiteCounting
 pub mod Silent
+pub mod Places

@@ -10,6 +10,7 @@ use Rattle.lisp_statistics.specs.declared.gauge.Gauge.{Gauge}
 use Rattle.lisp_statistics.specs.declared.kind.LineKind.{LineKind}
 use Rattle.lisp_statistics.specs.Gauge.{figure_word, figure_metric, figure_unit}
 use Rattle.lisp_statistics.specs.Kind.{kind_word, kind_number}
+use Rattle.lisp_statistics.specs.StartTime.{start_time_text}
 
 -- how many lines there were of a kind, in a line
 abbrev pub number_words : Option ℕ → List ℕ
@@ -67,6 +68,6 @@ abbrev pub gauge_text : Format → List ℕ → Gauge → List ℕ
 gauge_text formats.Lines name gauge = codes "counts " ++ name ++ codes " " ++ figure_word gauge.figure ++ codes " " ++ decimal gauge.value ++ 10 ∷ []
 gauge_text formats.Prometheus name gauge = figure_metric gauge.figure ++ codes "{node=\"" ++ name ++ codes "\"} " ++ decimal gauge.value ++ figure_unit gauge.figure ++ 10 ∷ []
 
--- how many lines of each kind the node with a name printed, and its gauges
-abbrev pub counts_text : Format → List ℕ → List (LineKind × ℕ) → List Gauge → List ℕ
-counts_text format name tallies gauges = tallies_text format name tallies ++ flat_map (gauge_text format name) gauges
+-- how many lines of each kind the node with a name printed, its gauges, and when it started
+abbrev pub counts_text : Format → List ℕ → List (LineKind × ℕ) → List Gauge → ℕ → List ℕ
+counts_text format name tallies gauges started = tallies_text format name tallies ++ flat_map (gauge_text format name) gauges ++ start_time_text format name started

@@ -1,7 +1,9 @@
 pub mod Kind
 pub mod Hearing
+pub mod LastRefusals
 pub mod Statistics
 pub mod Gauge
+pub mod StartTime
 pub mod Counts
 pub mod Replays
 pub mod Never

@@ -1,15 +1,19 @@
 -- What is counted of a node since its start.
-use Rattle.std.specs.Prelude.{◌≡◌, ◌⊎◌, ℕ, ◌+◌, ◌-◌, ◌^◌, min, max, Option, Some, None, unwrap_or}
+use Rattle.std.specs.Prelude.{◌≡◌, ◌⊎◌, ℕ, ◌+◌, ◌-◌, ◌^◌, min, max, List, Option, Some, None, unwrap_or}
 use Rattle.std.specs.BTreeMap.{BTreeMap, get, IsEmpty, IsUnchanged, Updates}
 use Rattle.std.specs.declared.cmp.Ordering.{Ordering}
 use Rattle.lisp_records.specs.declared.router.RouterId.{RouterId}
+use Rattle.lisp_policy.specs.Configuration.{RouterEntryValue}
+use Rattle.lisp_statistics.specs.LastRefusals.{NoneRefused}
 use Rattle.lisp_statistics.specs.declared.hearing.Hearing.{Hearing}
 use Rattle.lisp_statistics.specs.declared.statistics.Statistics.{Statistics}
 
--- nothing was printed or refused, nobody was heard, nothing was saved, and no Map-Request came
-pub record Begins {A : Type 0} (s : Statistics A) : Type 0 where
+-- at a moment, in a network of these routers: nothing was printed or refused, nobody was heard, nothing was saved, and no Map-Request came
+pub record Begins {A : Type 0} (routers : List RouterEntryValue) (now : ℕ) (s : Statistics A) : Type 0 where
+  pub started : s.started ≡ now
   pub tallies : IsEmpty s.tallies
   pub by_site : IsEmpty s.by_site
+  pub refusals : NoneRefused routers s.last_refusals.by_address
   pub heard : IsEmpty s.heard
   pub save : s.longest_save ≡ 0
   pub requests : s.requests ≡ 0

@@ -8,6 +8,7 @@ ghost use Rattle.lisp_statistics.specs.Counts.{counts_text, families, family, ta
 
 use crate::gauge::Gauge;
 use crate::kind::LineKind;
+use crate::start_time::put_start_time;
 use crate::statistics::Statistics;
 use lisp_lines::node_name;
 use lisp_memory::{FallibleString, Memory};
@@ -44,7 +45,7 @@ const REFUSALS_HEAD: &str =
     "# HELP lisp_refusals_total Refusals of the node since its start, by their number.\n# TYPE lisp_refusals_total counter\n";
 
 /// What is counted of the node with a number, and its gauges: each in a line `counts NAME WHAT COUNT`, in the order of the words, refusals
-/// by their numbers behind the others; or as metrics.
+/// by their numbers behind the others; or as metrics, with the moment of its start.
 pub fn counts_text<A: Memory + Copy, B: Memory + Copy, E: Allocator>(
     alloc: A,
     config: &Config<E>,
@@ -55,7 +56,7 @@ pub fn counts_text<A: Memory + Copy, B: Memory + Copy, E: Allocator>(
 ) -> Result<String<A>, AllocError>
     ensures text { GivesText result
         (counts_text format (node_name config.now number) statistics.now.tallies.entries
-        gauges.now) }
+        gauges.now statistics.now.started) }
     ensures memory { OnErr result A.may_refuse }
 {
     let mut text = String::new(alloc);
@@ -65,6 +66,7 @@ pub fn counts_text<A: Memory + Copy, B: Memory + Copy, E: Allocator>(
         Format::Prometheus => put_families(&mut text, name, &statistics.tallies)?,
     }
     put_gauges(&mut text, format, name, gauges)?;
+    put_start_time(&mut text, format, name, statistics.started)?;
     Ok(text)
 }
 

@@ -1,6 +1,6 @@
-//! What is counted of a node that runs, since its start: the lines of each kind that it prints, the refusals by limits of sites, the routers
-//! that it heard, how long its longest save took, how many Map-Requests came, and how long the slowest answer to one took; beside it the
-//! node as it stands, and what is held of sites; and the text of this.
+//! What is counted of a node that runs, since its start: the lines of each kind that it prints, the refusals by limits of sites, the last
+//! refusal from the address of each router, the routers that it heard, how long its longest save took, how many Map-Requests came, and how
+//! long the slowest answer to one took; beside it the node as it stands, and what is held of sites; and the text of this.
 //!
 //! # Decisions
 //!
@@ -17,12 +17,15 @@
 //! - What is held of sites is told of those that the Map-Server has now: it may have taken others since its start.
 //! - Routers that were never heard come in the last part, however many they are: a configuration has at most 1 MiB.
 //! - The nonce of a router is a gauge, and Prometheus rounds what is above 2^53: it shows whether a router's nonces go on.
+//! - Addresses of configured routers are the only ones whose last refusal is kept, in places that are made at the start: a flood from others
+//!   costs a look-up for each datagram, and no memory. Who sent what was refused isn't known.
 //! - Other sites are one kind of line, whether the Map-Server went on with what it holds or started anew: their first word is the same.
 #![tactic(auto)]
 
 // What is kept.
 mod hearing;
 mod kind;
+mod last_refusals;
 mod statistics;
 
 // What it is beside: the node as it stands.
@@ -39,6 +42,7 @@ mod router_metrics;
 mod routers;
 mod site_counts;
 mod site_refusals;
+mod start_time;
 
 pub use counts::{Format, counts_text};
 pub use gathering::Gathering;

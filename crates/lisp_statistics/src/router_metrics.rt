@@ -1,20 +1,17 @@
-//! The metrics of the configured routers that register with a Map-Server, and that it heard.
+//! The metrics of the configured routers that register with a Map-Server.
 
-ghost use Rattle.std.specs.Prelude.{◌≡◌, OnErr, Some};
+ghost use Rattle.std.specs.Prelude.{◌≡◌, OnErr};
 ghost use Rattle.std.specs.List.{flat_map};
 ghost use Rattle.lisp_lines.specs.Front.{Adds};
-ghost use Rattle.lisp_statistics.specs.RouterMetrics.{metric_head, metric_name, metric_sample, metric_unit, metric_value, registered_sample, router_families, router_family, router_labels, router_metrics_text, router_sample, value_words};
+ghost use Rattle.lisp_statistics.specs.RouterMetrics.{metric_head, metric_name, metric_sample, metric_unit, metric_value, registered_sample, router_families, router_family, router_labels, router_metrics_text, value_words};
 
 use crate::counts::Format;
-use crate::hearing::Hearing;
 use crate::never::registers_with;
 use crate::statistics::Statistics;
 use lisp_lines::node_name;
 use lisp_memory::{FallibleString, Memory};
-use lisp_records::RouterId;
 use lisp_sites::{Config, RouterEntry};
 use std::alloc::{AllocError, Allocator};
-use std::collections::BTreeMap;
 
 /// A metric of a router.
 #[derive(Clone, Copy, Debug, PartialEq, Eq)]
@@ -23,7 +20,16 @@ enum RouterMetric {
     Age,
     /// The nonce of this.
     LastNonce,
+    /// The number of the last refusal of a datagram from its address.
+    LastRefusal,
 }
+
+// All of them, in the order in which they are told.
+const ROUTER_METRICS: [RouterMetric; 3] = [
+    RouterMetric::Age,
+    RouterMetric::LastNonce,
+    RouterMetric::LastRefusal,
+];
 
 impl RouterMetric {
     // What stands before its samples.
@@ -37,6 +43,9 @@ impl RouterMetric {
             RouterMetric::LastNonce => {
                 "# HELP lisp_router_last_nonce The nonce of the last accepted Map-Register of the router; above 2^53 Prometheus rounds it.\n# TYPE lisp_router_last_nonce gauge\n"
             }
+            RouterMetric::LastRefusal => {
+                "# HELP lisp_router_last_refusal The number of the last refusal of a datagram from the address of the router since the start, whoever sent it.\n# TYPE lisp_router_last_refusal gauge\n"
+            }
         }
     }
 
@@ -47,16 +56,29 @@ impl RouterMetric {
         match self {
             RouterMetric::Age => "lisp_router_age_seconds",
             RouterMetric::LastNonce => "lisp_router_last_nonce",
+            RouterMetric::LastRefusal => "lisp_router_last_refusal",
         }
     }
 
-    // Its value at a moment, in ms.
-    fn value(&self, hearing: &Hearing, now: u64) -> u64
-        ensures { result ≡ metric_value self.now now hearing.now }
+    // Its value of a router at a moment, in ms; `None` where the router wasn't heard, or nothing from its address was refused.
+    fn value<B: Memory + Copy, E: Allocator>(
+        &self,
+        statistics: &Statistics<B>,
+        router: &RouterEntry<E>,
+        now: u64,
+    ) -> Option<u64>
+        ensures { result ≡ metric_value self.now statistics.now router.now now }
     {
         match self {
-            RouterMetric::Age => now.saturating_sub(hearing.at),
-            RouterMetric::LastNonce => hearing.nonce,
+            RouterMetric::Age => {
+                let hearing = statistics.heard.get(&router.me)?;
+                Some(now.saturating_sub(hearing.at))
+            }
+            RouterMetric::LastNonce => Some(statistics.heard.get(&router.me)?.nonce),
+            RouterMetric::LastRefusal => {
+                let number = statistics.last_refusals.number(&router.address)?;
+                Some(u64::from(number))
+            }
         }
     }
 
@@ -66,14 +88,15 @@ impl RouterMetric {
     {
         match self {
             RouterMetric::Age => "e-3",
-            RouterMetric::LastNonce => "",
+            _ => "",
         }
     }
 }
 
-/// Appends metrics of each configured router that registers with the Map-Server with a number, and that it heard since its start: how long
-/// before a moment, in ms, its last accepted Map-Register came, and the nonce of that, in the order of the configuration. In lines nothing.
-/// Out of memory, it may leave a part of them.
+/// Appends metrics of each configured router that registers with the Map-Server with a number, in the order of the configuration. If the
+/// Map-Server heard it since its start, how long before a moment, in ms, its last accepted Map-Register came, and the nonce of that; if a
+/// datagram from its address was refused since then, the number of the last refusal. In lines nothing. Out of memory, it may leave a part of
+/// them.
 pub fn put_router_metrics<A: Memory, B: Memory + Copy, E: Allocator>(
     text: &mut String<A>,
     config: &Config<E>,
@@ -83,43 +106,33 @@ pub fn put_router_metrics<A: Memory, B: Memory + Copy, E: Allocator>(
     now: u64,
 ) -> Result<(), AllocError>
     ensures text { Adds result text.old text.new
-        (router_metrics_text format config.now number now statistics.now.heard) }
+        (router_metrics_text format config.now number statistics.now now) }
     ensures memory { OnErr result A.may_refuse }
 {
-    let (node, routers, heard) = (
-        node_name(config, number),
-        config.routers(),
-        &statistics.heard,
-    );
+    let (node, routers) = (node_name(config, number), config.routers());
     match format {
         Format::Lines => Ok(()),
-        Format::Prometheus => put_router_families(text, node, number, routers, heard, now),
+        Format::Prometheus => put_router_families(text, node, number, routers, statistics, now),
     }
 }
 
-// Appends both metrics of these routers. Out of memory, it may leave a part of them.
+// Appends all metrics of these routers. Out of memory, it may leave a part of them.
 fn put_router_families<A: Memory, B: Memory + Copy, E: Allocator>(
     text: &mut String<A>,
     node: &str,
     number: usize,
     routers: &[RouterEntry<E>],
-    heard: &BTreeMap<RouterId, Hearing, B>,
+    statistics: &Statistics<B>,
     now: u64,
 ) -> Result<(), AllocError>
     ensures text { Adds result text.old text.new
-        (router_families node.now number now heard.now routers.now) }
+        (router_families node.now number statistics.now now routers.now) }
     ensures memory { OnErr result A.may_refuse }
 {
-    put_router_family(text, RouterMetric::Age, node, number, routers, heard, now)?;
-    put_router_family(
-        text,
-        RouterMetric::LastNonce,
-        node,
-        number,
-        routers,
-        heard,
-        now,
-    )
+    for metric in &ROUTER_METRICS {
+        put_router_family(text, *metric, node, number, routers, statistics, now)?;
+    }
+    Ok(())
 }
 
 // Appends a metric of these routers, behind its head. Out of memory, it may leave a part of it.
@@ -129,15 +142,15 @@ fn put_router_family<A: Memory, B: Memory + Copy, E: Allocator>(
     node: &str,
     number: usize,
     routers: &[RouterEntry<E>],
-    heard: &BTreeMap<RouterId, Hearing, B>,
+    statistics: &Statistics<B>,
     now: u64,
 ) -> Result<(), AllocError>
     ensures text { Adds result text.old text.new
-        (router_family metric node.now number now heard.now routers.now) }
+        (router_family metric node.now number statistics.now now routers.now) }
     ensures memory { OnErr result A.may_refuse }
 {
     text.try_write(metric.head())?;
-    put_router_samples(text, metric, node, number, routers, heard, now)
+    put_router_samples(text, metric, node, number, routers, statistics, now)
 }
 
 // Appends the samples of these routers. Out of memory, it may leave a part of them.
@@ -147,63 +160,48 @@ fn put_router_samples<A: Memory, B: Memory + Copy, E: Allocator>(
     node: &str,
     number: usize,
     routers: &[RouterEntry<E>],
-    heard: &BTreeMap<RouterId, Hearing, B>,
+    statistics: &Statistics<B>,
     now: u64,
 ) -> Result<(), AllocError>
     ensures text { Adds result text.old text.new
-        (flat_map (registered_sample metric node.now number now heard.now) routers.now) }
+        (flat_map (registered_sample metric node.now number statistics.now now) routers.now) }
     ensures memory { OnErr result A.may_refuse }
 {
     for router in routers {
-        put_registered_sample(text, metric, node, number, router, heard, now)?;
+        put_registered_sample(text, metric, node, number, router, statistics, now)?;
     }
     Ok(())
 }
 
-// Appends the sample of a router that registers with the Map-Server, and that it heard; else nothing. Out of memory, it may leave a part of it.
+// Appends the sample of a router that registers with the Map-Server, and that has a value; else nothing. Out of memory, it may leave a part of
+// it.
 fn put_registered_sample<A: Memory, B: Memory + Copy, E: Allocator>(
     text: &mut String<A>,
     metric: RouterMetric,
     node: &str,
     number: usize,
     router: &RouterEntry<E>,
-    heard: &BTreeMap<RouterId, Hearing, B>,
+    statistics: &Statistics<B>,
     now: u64,
 ) -> Result<(), AllocError>
     ensures text { Adds result text.old text.new
-        (registered_sample metric node.now number now heard.now router.now) }
+        (registered_sample metric node.now number statistics.now now router.now) }
     ensures memory { OnErr result A.may_refuse }
 {
     if !registers_with(router, number) {
         return Ok(());
     }
-    match heard.get(&router.me) {
-        Some(hearing) => put_router_sample(text, metric, node, router.name.as_str(), hearing, now),
+    match metric.value(statistics, router, now) {
+        Some(value) => put_metric_sample(
+            text,
+            metric.name(),
+            node,
+            router.name.as_str(),
+            value,
+            metric.unit(),
+        ),
         None => Ok(()),
     }
-}
-
-// Appends the sample of a router with a name, as it was heard. Out of memory, it may leave a part of it.
-fn put_router_sample<A: Memory>(
-    text: &mut String<A>,
-    metric: RouterMetric,
-    node: &str,
-    router: &str,
-    hearing: &Hearing,
-    now: u64,
-) -> Result<(), AllocError>
-    ensures text { Adds result text.old text.new
-        (router_sample metric node.now now router.now (Some hearing.now)) }
-    ensures memory { OnErr result A.may_refuse }
-{
-    put_metric_sample(
-        text,
-        metric.name(),
-        node,
-        router,
-        metric.value(hearing, now),
-        metric.unit(),
-    )
 }
 
 // Appends a sample of a router. Out of memory, it may leave a part of it.

@@ -1,30 +1,37 @@
 //! What is counted of a node since its start.
 
-ghost use Rattle.std.specs.Prelude.{◌≡◌};
+ghost use Rattle.std.specs.Prelude.{◌≡◌, IfOk, OnErr};
 ghost use Rattle.lisp_records.specs.Router.{router_cmp};
 ghost use Rattle.lisp_statistics.specs.Hearing.{heard_in};
 ghost use Rattle.lisp_statistics.specs.Kind.{kind_of};
+ghost use Rattle.lisp_statistics.specs.LastRefusals.{RefusesLine, refused_from};
 ghost use Rattle.lisp_statistics.specs.SiteRefusals.{refusal_in};
 ghost use Rattle.lisp_statistics.specs.Statistics.{Begins, Counts, HearsLine, Sets, replied, requested, saved};
 
 use crate::hearing::Hearing;
 use crate::kind::LineKind;
+use crate::last_refusals::LastRefusals;
 use crate::site_refusals::SiteRefusal;
 use lisp_memory::{FallibleMap, Memory};
 use lisp_records::RouterId;
+use lisp_sites::RouterEntry;
 use lisp_turns::Printed;
-use std::alloc::{Allocator, Global};
+use std::alloc::{AllocError, Allocator, Global};
 use std::collections::BTreeMap;
 
-/// How many lines of each kind a node printed since its start, how many Map-Registers each limit of a site refused, which Map-Register a
-/// Map-Server accepted last of each router, how long the longest save took, how many Map-Requests came, and how long the slowest answer
-/// to one took. A kind, a limit or a router that is new takes memory; where that is refused, it isn't kept.
+/// When a node started; how many lines of each kind it printed since then, how many Map-Registers each limit of a site refused, which
+/// refusal was the last one from the address of each configured router, which Map-Register a Map-Server accepted last of each router, how
+/// long the longest save took, how many Map-Requests came, and how long the slowest answer to one took. A kind, a limit or a router that is new takes memory; where that is refused, it isn't kept.
 #[derive(Drop)]
 pub struct Statistics<A: Allocator = Global> {
+    /// When the node started, in ms.
+    pub(crate) started: u64,
     /// How many lines of each kind.
     pub(crate) tallies: BTreeMap<LineKind, u64, A>,
     /// How many Map-Registers each limit of a site refused.
     pub(crate) by_site: BTreeMap<SiteRefusal, u64, A>,
+    /// The last refusal from the address of each configured router.
+    pub(crate) last_refusals: LastRefusals<A>,
     /// The Map-Register of each router.
     pub(crate) heard: BTreeMap<RouterId, Hearing, A>,
     /// How long the longest save took, in ms.
@@ -36,18 +43,25 @@ pub struct Statistics<A: Allocator = Global> {
 }
 
 impl<A: Memory + Copy> Statistics<A> {
-    /// Of a node that starts. Takes no memory.
-    pub fn start(alloc: A) -> Statistics<A>
-        ensures { Begins result }
+    /// Of a node that starts at a moment, in ms, in a network of these routers. The address of each router takes memory.
+    pub fn start<E: Allocator>(
+        alloc: A,
+        routers: &[RouterEntry<E>],
+        now: u64,
+    ) -> Result<Statistics<A>, AllocError>
+        ensures begins { IfOk result (λ statistics. Begins routers.now now statistics) }
+        ensures memory { OnErr result A.may_refuse }
     {
-        Statistics {
+        Ok(Statistics {
+            started: now,
             tallies: BTreeMap::new(alloc),
             by_site: BTreeMap::new(alloc),
+            last_refusals: LastRefusals::start(alloc, routers)?,
             heard: BTreeMap::new(alloc),
             longest_save: 0,
             requests: 0,
             slowest_reply: 0,
-        }
+        })
     }
 
     /// The node prints a line, at a moment in ms.
@@ -56,14 +70,18 @@ impl<A: Memory + Copy> Statistics<A> {
             self.new.tallies (kind_of line.now) }
         ensures refuses { Counts ⟦<SiteRefusal as Ord>⟧.cmp A.may_refuse self.old.by_site
             self.new.by_site (refusal_in line.now) }
+        ensures last_refusals { RefusesLine self.old.last_refusals.by_address
+            self.new.last_refusals.by_address (refused_from line.now) }
         ensures hears { HearsLine router_cmp A.may_refuse self.old self.new
             (heard_in line.now now) }
         ensures saves { self.new.longest_save ≡ self.old.longest_save }
         ensures requests { self.new.requests ≡ self.old.requests }
         ensures replies { self.new.slowest_reply ≡ self.old.slowest_reply }
+        ensures started { self.new.started ≡ self.old.started }
     {
         count(&mut self.tallies, LineKind::of(line));
         count(&mut self.by_site, SiteRefusal::of(line));
+        self.last_refusals.tell(line);
         if let Some((router, hearing)) = Hearing::of(line, now) {
             hear(&mut self.heard, router, hearing);
         }

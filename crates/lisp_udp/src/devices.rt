@@ -1,12 +1,13 @@
 //! What a node that runs has outside: the system's socket and clock, and where its lines go.
 
-ghost use Rattle.std.specs.Prelude.{◌≡◌, None, IfSome, IsTrue, false, length};
+ghost use Rattle.std.specs.Prelude.{◌≡◌, None, IfOk, IfSome, IsTrue, false, length};
 ghost use Rattle.lisp_database_store.specs.Groups.{SomeIsDone};
 ghost use Rattle.lisp_records.specs.Router.{router_cmp};
 ghost use Rattle.lisp_statistics.specs.Hearing.{heard_in};
 ghost use Rattle.lisp_statistics.specs.Kind.{kind_of};
+ghost use Rattle.lisp_statistics.specs.LastRefusals.{RefusesLine, refused_from};
 ghost use Rattle.lisp_statistics.specs.SiteRefusals.{refusal_in};
-ghost use Rattle.lisp_statistics.specs.Statistics.{Counts, HearsLine};
+ghost use Rattle.lisp_statistics.specs.Statistics.{Begins, Counts, HearsLine};
 ghost use Rattle.lisp_turns.specs.Outside.{Commits, FitsBuffer, IsApart, Logs, LogsLine, reception};
 ghost use Rattle.lisp_udp.specs.Inbox.{keeps_apart};
 ghost use Rattle.lisp_udp.specs.Moments.{moment_of};
@@ -24,6 +25,7 @@ use lisp_model::{Line, WorldFault};
 use lisp_records::Addr;
 use lisp_resolve::Datagram;
 use lisp_script::RunFault;
+use lisp_sites::RouterEntry;
 use lisp_statistics::{LineKind, SiteRefusal, Statistics};
 use lisp_turns::{
     Clock, Commit, Control, Endpoint, Lines, NodeCore, Order, Outside, Printed, Received, Request,
@@ -75,29 +77,36 @@ impl<'a, R: Net + std::time::Clock + AllocGlobal, T: SystemTable, P: Printer + D
     T,
     P,
 > {
-    /// Those of a node at an address, whose turns take what waits in the `inbox` and are committed to the `database`, where there are
-    /// these; the node starts now. Fault: 92.
+    /// Those of a node at an address, in a network of these routers, whose turns take what waits in the `inbox` and are committed to the
+    /// `database`, where there are these; the node starts now. Faults: 92, 97.
     pub(crate) fn open(
         rt: &'a R,
+        routers: &[RouterEntry],
         address: &Addr,
         inbox: Option<Inbox>,
         database: Option<&'a SharedDatabase<'a, T>>,
         control: Option<ControlSocket<'a>>,
         saves: &'a SaveTimes<'a, R>,
         printer: P,
-    ) -> Result<Devices<'a, R, T, P>, RunFault> {
+    ) -> Result<Devices<'a, R, T, P>, RunFault>
+        ensures counts { IfOk result (λ devices. Begins routers.now
+            (moment_of devices.stopwatch.last) devices.statistics) }
+    {
+        let socket = NodeSocket::bind(rt, address, RECEIVE_TIMEOUT_MS)?;
+        let stopwatch = Stopwatch::start(rt)?;
+        let statistics = Statistics::start(rt.alloc(), routers, stopwatch.told())?;
         Ok(Devices {
             rt,
-            socket: NodeSocket::bind(rt, address, RECEIVE_TIMEOUT_MS)?,
+            socket,
             inbox,
             database,
             control,
             pace: Pace::start(),
             works_since: None,
             asked_at: None,
-            stopwatch: Stopwatch::start(rt)?,
+            stopwatch,
             is_read: false,
-            statistics: Statistics::start(rt.alloc()),
+            statistics,
             saves,
             printer,
         })
@@ -306,6 +315,8 @@ impl<R, T, P: Printer> Lines for Devices<'_, R, T, P> {
             self.old.statistics.tallies self.new.statistics.tallies (kind_of line.now) }
         ensures refuses { Counts ⟦<SiteRefusal as Ord>⟧.cmp ⟦<Global as Memory>⟧.may_refuse
             self.old.statistics.by_site self.new.statistics.by_site (refusal_in line.now) }
+        ensures last_refusals { RefusesLine self.old.statistics.last_refusals.by_address
+            self.new.statistics.last_refusals.by_address (refused_from line.now) }
         ensures hears { HearsLine router_cmp
             ⟦<Global as Memory>⟧.may_refuse self.old.statistics self.new.statistics
             (heard_in line.now (moment_of self.old.stopwatch.last)) }

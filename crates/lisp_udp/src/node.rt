@@ -178,7 +178,10 @@ fn run_alone<'a, T: SystemTable, S: WorldStore + Drop, P: Printer + Drop>(
 {
     let inbox = inbox_at(rt.alloc(), config, number, 1)?;
     let address = entry_at(config, number).address;
-    let devices = Devices::<_, T, _>::open(rt, address, inbox, None, control, saves, printer);
+    let routers = config.routers();
+    let devices = Devices::<_, T, _>::open(
+        rt, routers, address, inbox, None, control, saves, printer,
+    );
     let store = TimedStore::over(store, saves);
     let alloc = rt.alloc();
     let outside = if config.is_server(number) {
@@ -210,7 +213,17 @@ fn run_in_groups<'a, T: SystemTable, P: Printer + Drop>(
 {
     let inbox = inbox_at(rt.alloc(), config, number, places)?;
     let address = entry_at(config, number).address;
-    let devices = Devices::open(rt, address, inbox, Some(database), control, saves, printer);
+    let routers = config.routers();
+    let devices = Devices::open(
+        rt,
+        routers,
+        address,
+        inbox,
+        Some(database),
+        control,
+        saves,
+        printer,
+    );
     let places = usize::from(places);
     let outside = live(
         rt.alloc(),

@@ -7,8 +7,8 @@ use Rattle.lisp_statistics.proofs.router_metrics.put_router_metrics.Goals as goa
 -- those of the node's name and the configuration's routers
 pub returns-in-Prometheus-clause-text : goal.returns-in-Prometheus-clause-text
 returns-in-Prometheus-clause-text g c =
-    let heard = c.args.statistics.now.heard in
-    let told : router_families c.node_name-node.result.now c.args.number c.args.now heard c.routers-routers.result.now ≡ router_metrics_text c.args.format c.args.config.now c.args.number c.args.now heard
-    = (λ i. router_families (c.node_name-node.ensures i) c.args.number c.args.now heard (c.routers-routers.ensures.routers i))
-    ∙ ap (λ (format : Format). router_metrics_text format c.args.config.now c.args.number c.args.now heard) (sym c.in-Prometheus.is) in
+    let s = c.args.statistics.now in
+    let told : router_families c.node_name-node.result.now c.args.number s c.args.now c.routers-routers.result.now ≡ router_metrics_text c.args.format c.args.config.now c.args.number s c.args.now
+    = (λ i. router_families (c.node_name-node.ensures i) c.args.number s c.args.now (c.routers-routers.ensures.routers i))
+    ∙ ap (λ (format : Format). router_metrics_text format c.args.config.now c.args.number s c.args.now) (sym c.in-Prometheus.is) in
     subst (λ (words : List ℕ). Adds c.put_router_families.result c.args.text.now c.put_router_families.new.text words) told c.put_router_families.ensures.text

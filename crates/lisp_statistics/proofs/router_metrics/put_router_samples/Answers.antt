@@ -12,11 +12,11 @@ loop-router-init g c = sym (append-nil (string_bytes c.args.text.now))
 
 pub loop-router-preserved : goal.loop-router-preserved
 loop-router-preserved g c =
-    let shown : RouterEntryValue → List ℕ = registered_sample c.args.metric c.args.node.now c.args.number c.args.now c.args.heard.now in
+    let shown : RouterEntryValue → List ℕ = registered_sample c.args.metric c.args.node.now c.args.number c.args.statistics.now c.args.now in
     one_more_here shown (string_bytes c.args.text.now) c.args.routers.now c.loop-router.router-index c.router-item.result _ _
     c.loop-router-test.true c.router-item.is c.loop-router.invariant c.in_ok-put_registered_sample.ensures.text
 
 pub returns-clause-text : goal.returns-clause-text
 returns-clause-text g c =
-    let shown : RouterEntryValue → List ℕ = registered_sample c.args.metric c.args.node.now c.args.number c.args.now c.args.heard.now in
+    let shown : RouterEntryValue → List ℕ = registered_sample c.args.metric c.args.node.now c.args.number c.args.statistics.now c.args.now in
     c.loop-router.invariant ∙ ap (λ (rs : List RouterEntryValue). string_bytes c.args.text.now ++ flat_map shown rs) (take_all c.loop-router.router-index c.args.routers.now c.loop-router-test.false)

@@ -6,4 +6,4 @@ use Rattle.lisp_statistics.proofs.router_metrics.put_router_samples.Given as goa
 
 -- the routers so far
 abbrev pub invariant-loop-router : goal.invariant-loop-router
-invariant-loop-router g l = string_bytes l.text ≡ string_bytes l.fn.text ++ flat_map (registered_sample l.metric l.node l.number l.now l.heard) (take l.router-index l.routers)
+invariant-loop-router g l = string_bytes l.text ≡ string_bytes l.fn.text ++ flat_map (registered_sample l.metric l.node l.number l.statistics l.now) (take l.router-index l.routers)
