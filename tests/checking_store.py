@@ -57,9 +57,9 @@ def fill(here, nonces, name="s1"):
 
 
 def content(folder):
-    """All that a folder has: each name with its kind, its bytes and when they were changed."""
-    return {it.name: (it.lstat().st_mode, it.lstat().st_mtime_ns, it.read_bytes() if it.is_file() and os.access(it, os.R_OK) else b"")
-            for it in Path(folder).iterdir()}
+    """All that a folder has but for its lock, which is opened anew: each name with its kind, its bytes and when they were changed."""
+    return {it.name: (it.lstat().st_mode, it.lstat().st_mtime_ns, it.read_bytes() if it.is_file() else b"")
+            for it in Path(folder).iterdir() if it.name != "lock"}
 
 
 def changed_in(folder, before):

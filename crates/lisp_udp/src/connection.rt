@@ -6,6 +6,7 @@ ghost use Rattle.std.specs.String.{string_bytes};
 ghost use Rattle.lisp_udp.specs.Answers.{AnswersSites, ClosesWith, WritesBeforeLine, WritesPart};
 ghost use Rattle.lisp_udp.specs.declared.connection.Stage.TheVariants as stages;
 
+use crate::backup::{DatabaseFolder, backup};
 use lisp_control::{
     Part, Progress, Question, Ungathered, answer_part, fault_text, gather, gathered_text,
     outcome_text, question_in,
@@ -39,6 +40,9 @@ const ROOM: usize = 4_096;
 /// How often a turn reads from a connection, or writes to it.
 const MOST_CALLS: usize = 64;
 
+/// What is before the name of a copy in the line that tells the node to make one: it is told by no event, and no core answers it.
+const BACKUP: &[u8] = b"backup ";
+
 /// A node that is asked.
 #[derive(Clone, Copy)]
 pub(crate) struct AskedNode<'a> {
@@ -50,6 +54,8 @@ pub(crate) struct AskedNode<'a> {
     pub(crate) number: usize,
     /// Its name.
     pub(crate) name: &'a str,
+    /// Its folder, where it keeps a database there.
+    pub(crate) database: Option<DatabaseFolder<'a>>,
 }
 
 /// A connection, which is dropped at a moment.
@@ -83,6 +89,8 @@ enum Stage {
     Asked(Answering),
     /// The node was told the order.
     Told,
+    /// Its database is to be copied under this name.
+    Copies(Vec<u8>),
     /// So many bytes of a part of the answer are written.
     Answered {
         /// The part.
@@ -157,6 +165,16 @@ impl Stage {
         }
         let _ = bytes.extend_from_slice(first);
         Stage::Takes { wanted, bytes }
+    }
+
+    // The node's database is to be copied under a name.
+    fn copies(alloc: Global, file: &[u8]) -> Stage {
+        let mut name = Vec::new(alloc);
+        if name.make_room_for(file).is_err() {
+            return Stage::Ended;
+        }
+        let _ = name.extend_from_slice(file);
+        Stage::Copies(name)
     }
 
     // There is a part of the answer to a question, unless memory for it was refused. The last one is closed.
@@ -262,7 +280,7 @@ impl Connection {
     }
 
     /// Answers by the node's core at a moment, in ms, what is counted of it, and the runs of Map-Registers
-    /// that it refuses as replays, or by what came of the order; and writes what the connection takes. Of an
+    /// that it refuses as replays, or by what came of the order or of a copy; and writes what the connection takes. Of an
     /// answer that has several parts it makes one, once what was made before is written.
     pub(crate) fn answer(
         &mut self,
@@ -277,6 +295,11 @@ impl Connection {
             Stage::Asked(Answering { question, progress }) => {
                 let part = next_part(node, core, statistics, runs, &question, progress, now);
                 self.stage = Stage::of_part(question, part);
+                self.is_renewed = true;
+            }
+            Stage::Copies(file) => {
+                let text = backup(node.alloc, node.name, node.database, &file);
+                self.stage = Stage::answered(text);
                 self.is_renewed = true;
             }
             stage => self.stage = self.outcome(node, stage, outcome),
@@ -416,7 +439,11 @@ fn asked(
         .iter()
         .position(|byte| *byte == b'\n')
         .unwrap_or(bytes.len());
-    match question_of(node, gathered, &bytes[..end.min(bytes.len())]) {
+    let line = &bytes[..end.min(bytes.len())];
+    if let Some(file) = line.strip_prefix(BACKUP) {
+        return (Stage::copies(node.alloc, file), None);
+    }
+    match question_of(node, gathered, line) {
         Ok(Question::Tell(order)) => (Stage::Told, Some(order)),
         Ok(Question::Sites(wanted)) => {
             let first = &bytes[end.saturating_add(1).min(bytes.len())..];

@@ -1,9 +1,11 @@
 //! The folders in which nodes keep their nonces.
 
-ghost use Rattle.std.specs.Prelude.{◌≡◌, ◌↔◌, [], IsOk, IfOk, IfErr};
+ghost use Rattle.std.specs.Prelude.{◌≡◌, ◌≢◌, ◌↔◌, [], IsOk, IsSome, IfOk, IfErr};
 ghost use Rattle.lisp_script.specs.RunFault.{numbered};
 ghost use Rattle.lisp_udp.specs.Folder.{OpensSigned, database_fault};
+ghost use Rattle.lisp_udp.specs.declared.storage.Storage.TheVariants as storages;
 
+use crate::backup::DatabaseFolder;
 use crate::bound_socket;
 use crate::connection::AskedNode;
 use crate::control::ControlSocket;
@@ -24,7 +26,7 @@ use std::fs::{self, File, Files, TryLockError};
 use std::io::{self, ErrorKind};
 
 /// The name of the database in the folder of its node.
-const DATABASE: &str = "nonces.db";
+pub(crate) const DATABASE: &str = "nonces.db";
 
 /// The folder of a node, and the lock that keeps other processes out of it while this value lives.
 #[derive(Drop)]
@@ -354,6 +356,23 @@ impl LockedFolder {
                 bound_socket::warn(rt, path, &error);
                 None
             }
+        }
+    }
+
+    /// It, where its node keeps a database there.
+    pub(crate) fn with_database<'a>(
+        &'a self,
+        rt: &'a HostRuntime,
+        storage: Storage,
+    ) -> Option<DatabaseFolder<'a>>
+        ensures { IsSome result ↔ (storage ≢ storages.Files) }
+    {
+        match storage {
+            Storage::Files => None,
+            Storage::Database { .. } => Some(DatabaseFolder {
+                rt,
+                path: self.path.as_str(),
+            }),
         }
     }
 

@@ -20,6 +20,9 @@
 //! - The socket gets the write bits of its folder's mode right after it was made, since the kit has no call for the umask. Who
 //!   connected before is dropped.
 //! - A node whose socket can't be made runs without it, with a warning: a long path is no reason to stop a Map-Server.
+//! - A copy of a database is made of its two files, and not by SQLite: between two calls of a node they stand as the last commit left them,
+//!   and nobody else writes them. Both are copied as they are, since a database of nonces without its log isn't opened. Names of files that
+//!   the node reads at a start are refused, so that a copy can't keep it from starting.
 //! - In `loop` the stores obey the disk and not the script: `doubt`, `loadfails` and the value that a restart picks have no
 //!   effect.
 //! - A node's clock tells ms since 1970, so that the nodes of a machine read one clock; but from the start on it goes by the monotonic
@@ -31,6 +34,7 @@
 #![tactic(auto)]
 
 // What each node has: a place, a folder, and the system's devices.
+mod backup;
 mod bound_socket;
 mod connection;
 mod control;

@@ -22,7 +22,7 @@ first_word question = before_first (λ b. b == 32) question
 
 -- it is told a word of these, and asked any other
 abbrev pub orders : List (List ℕ)
-orders = codes "change" ∷ codes "notice" ∷ codes "reload" ∷ codes "rotate" ∷ []
+orders = codes "backup" ∷ codes "change" ∷ codes "notice" ∷ codes "reload" ∷ codes "rotate" ∷ []
 
 abbrev pub errand_of : List ℕ → Errand
 errand_of question = if list_any (λ word. is_word word (first_word question)) orders then Tell else Ask

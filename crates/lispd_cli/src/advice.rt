@@ -28,7 +28,7 @@ impl Advice {
             }
             Advice::Orders => {
                 "a Map-Server is told notice ROUTER, a router of its configuration, or reload CONFIG, and a router change RECORD .. or \
-                 rotate KEY; a question is for `lispd ask`"
+                 rotate KEY; each with --database backup FILE; a question is for `lispd ask`"
             }
             Advice::Address => {
                 "an address is four numbers with dots, as 10.1.2.3, or all eight groups with colons, as \

@@ -206,7 +206,7 @@ fn errand_of(question: &str) -> Errand
     ensures { result ≡ errand_of question.now }
 {
     match first_word(question) {
-        "change" | "notice" | "reload" | "rotate" => Errand::Tell,
+        "backup" | "change" | "notice" | "reload" | "rotate" => Errand::Tell,
         _ => Errand::Ask,
     }
 }

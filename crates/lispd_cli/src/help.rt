@@ -132,6 +132,8 @@ pub(crate) const TELL_FORM: &str = "A Map-Server is told:
 and a router:
   change RECORD ..    to register these records from now on, or `empty`; the configuration stays as it is
   rotate KEY          to go over to another key of its site; the configuration stays as it is
+and both, with --database:
+  backup FILE         to copy its database, and the log, to FILE and FILE-wal in its folder, where no file of these names may be
 
 The status is 3 where it doesn't do so; its answer says why. Where the router's site doesn't allow a record of `change`, a
 Map-Server would refuse the whole Map-Register: each such record is a warning on standard error, and the router isn't told,
