@@ -144,7 +144,8 @@ def put_back(here):
     shutil.copy(f"{folder}/monday.db-wal", f"{folder}/{LOG_FILE}")
     check("what it has", ran("check-store", "s1", "--store", here.folder, "--database")[:2],
           (0, f"found received {pair()[1]} {pair()[2]} key 1 nonce 5\nstore s1 nonces 1 damaged 0\n"))
-    check("it is raised", ran("raise", "s1", "10", "--store", here.folder, "--database")[0], 0)
+    check("it is raised", ran("raise", "s1", "10", "--store", here.folder, "--database"),
+          (0, f"raised received {pair()[1]} {pair()[2]} key 1 nonce 15\n", ""))
     check("what is kept", kept(here, "s1"), of_pairs({XTR: 15}))
     here.start(*here.words("server", "s1"))
     is_up(here.s1)
