@@ -13,7 +13,8 @@ import tempfile
 import threading
 from pathlib import Path
 
-from nodes import (DATABASE, FILES, GROUPS, PORT, XTR, check, failing, is_up, killed, map_register, nonce_in, over, peer, ran, run_tests, until)
+from nodes import (DATABASE, FILES, GROUPS, PORT, XTR, check, failing, is_up, killed, map_register, next_line, nonce_in, over, peer, ran,
+                   run_tests, until)
 from nonces import DATABASE_FILE, END, LOG_FILE, check_row, check_table, kept, pair
 
 REFUSED = (3, "fault 145\n", "lispd: fault 145\n")
@@ -45,9 +46,10 @@ def size(folder, file):
 def made(here, file, name="s1"):
     """Makes a copy, and checks what is said of it; what it has."""
     folder = f"{here.folder}/{name}"
+    before = sorted(os.listdir(folder))
     ended = backup(here, file, name)
     check(f"{file} is made", ended, (0, f"backup {name} {file} bytes {size(folder, file)}\n", ""))
-    check(f"what is left beside {file}", list(Path(folder).glob("*.new")), [])
+    check(f"what is there beside {file}", sorted(os.listdir(folder)), sorted([*before, file, f"{file}-wal"]))
     return in_copy(folder, file)
 
 
@@ -87,22 +89,21 @@ def beside_registrations(here):
     sent, answered, ends = dict.fromkeys(range(ROUTERS), 0), dict.fromkeys(range(ROUTERS), 0), threading.Event()
 
     def send():
+        # (An answer doesn't say whose it is: the nonce of router N has the remainder N.)
         with peer(here.r1) as it:
             it.settimeout(2)
             while not ends.is_set():
                 for xtr in range(ROUTERS):
-                    sent[xtr] += 1
+                    sent[xtr] = (sent[xtr] // ROUTERS + 1) * ROUTERS + xtr
                     it.sendto(map_register(sent[xtr], xtr=xtr), (here.s1, PORT))
                 for _ in range(ROUTERS):
                     with contextlib.suppress(TimeoutError):
-                        answer = it.recv(65535)
-                        # (The xTR-ID stands 24 bytes before the end.)
-                        xtr = int.from_bytes(answer[-24:-8], "big")
-                        answered[xtr] = max(answered[xtr], nonce_in(answer))
+                        nonce = nonce_in(it.recv(65535))
+                        answered[nonce % ROUTERS] = max(answered[nonce % ROUTERS], nonce)
 
     side = threading.Thread(target=send)
     side.start()
-    check("they are accepted", until(lambda: min(answered.values()) > 2), True)
+    check("they are accepted", until(lambda: min(answered.values()) > 2 * ROUTERS), True)
     for number in range(COPIES):
         before = dict(answered)
         found = made(here, f"copy{number}.db")
@@ -143,7 +144,8 @@ def put_back(here):
     shutil.copy(f"{folder}/monday.db-wal", f"{folder}/{LOG_FILE}")
     check("what it has", ran("check-store", "s1", "--store", here.folder, "--database")[:2],
           (0, f"found received {pair()[1]} {pair()[2]} key 1 nonce 5\nstore s1 nonces 1 damaged 0\n"))
-    check("it is raised", ran("raise", "s1", "10", "--store", here.folder, "--database")[0], 0)
+    check("it is raised", ran("raise", "s1", "10", "--store", here.folder, "--database"),
+          (0, f"raised received {pair()[1]} {pair()[2]} key 1 nonce 15\n", ""))
     check("what is kept", kept(here, "s1"), of_pairs({XTR: 15}))
     here.start(*here.words("server", "s1"))
     is_up(here.s1)
@@ -153,17 +155,9 @@ def put_back(here):
 
 
 def of_a_router(here):
-    here.start(*here.words("router", "r1"))
-    is_up(here.r1)
-    check("it sends", until(lambda: kept_now(here)), True)
-    found = made(here, "r1.db", "r1")
-    check("its pair", [of[0] for of in found], ["sent"])
-
-
-def kept_now(here):
-    """Whether the router's log has something by now."""
-    log = Path(f"{here.folder}/r1/{LOG_FILE}")
-    return log.exists() and log.stat().st_size > 20_000
+    process = here.start(*here.words("router", "r1"))
+    check("it sends", next_line(process).split()[0], "sent")
+    check("its pair", [of[0] for of in made(here, "r1.db", "r1")], ["sent"])
 
 
 # What isn't copied.
