@@ -10,6 +10,7 @@ use crate::folder::open_folder;
 use crate::inbox::inbox_at;
 use crate::journal::Journal;
 use crate::life::{route_over, serve_over};
+use crate::line_form::LineForm;
 use crate::line_writer::LineWriter;
 use crate::lives::live;
 use crate::printer::Printer;
@@ -79,6 +80,7 @@ pub(crate) fn keep_running<T: SystemTable>(
     config: &Config,
     node: NodeStart<'_>,
     is_known: bool,
+    form: LineForm,
 ) -> Result<(), Ending> {
     let name = node.name;
     let number = number_named(config, node.kind, name)?;
@@ -89,7 +91,7 @@ pub(crate) fn keep_running<T: SystemTable>(
     let servers = config.servers_of(number);
     let control = folder.control(rt, node.control, asked_node(rt, config, number, name));
     let now = ms_since_1970(rt);
-    let journal = Journal::open(rt, config, name, servers, pairs, now, &failure)?;
+    let journal = Journal::open(rt, config, name, servers, pairs, now, form, &failure)?;
     run_in_store(
         rt,
         config,
