@@ -7,3 +7,4 @@ pub mod Sending
 pub mod Taken
 pub mod Bound
 pub mod GatheredSites
+pub mod ObjectLines

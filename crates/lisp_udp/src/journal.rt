@@ -6,8 +6,9 @@ ghost use Rattle.lisp_log.specs.Text.{device_of};
 ghost use Rattle.lisp_records.specs.Moment.{max_moment};
 ghost use Rattle.lisp_udp.specs.Journal.{PassesAndPours, TellsAndPours};
 
+use crate::line_form::LineForm;
+use crate::line_output::LineOutput;
 use crate::printer::Printer;
-use crate::standard_output::StandardOutput;
 use lisp_log::{Device, Log, Replay, device_of};
 use lisp_memory::{FallibleString, Memory};
 use lisp_script::RunFault;
@@ -17,40 +18,44 @@ use std::alloc::Global;
 use std::cell::Cell;
 use std::fs::{File, Files};
 use std::io::ErrorKind;
+use std::time::Clock;
 
 /// The log of a node, written to standard output. Lines that can't be written wait, or are dropped, so that none cuts it.
 #[derive(Drop)]
-pub(crate) struct Journal<'a> {
+pub(crate) struct Journal<'a, R> {
     alloc: Global,
     log: Log<'a>,
-    output: StandardOutput,
+    output: LineOutput<'a, R>,
     // The kind of the last error of the store's device.
     store_failure: &'a Cell<Option<ErrorKind>>,
 }
 
-impl<'a> Journal<'a> {
+impl<'a, R: Files<File = File> + Clock + AllocGlobal> Journal<'a, R> {
     /// That of the node with a name, which registers with the Map-Servers of these numbers, and whose store keeps so many pairs. It
     /// begins at a moment, in ms, and writes nothing yet. Fault: 97.
-    pub(crate) fn open<R: Files<File = File> + AllocGlobal>(
-        rt: &R,
+    pub(crate) fn open(
+        rt: &'a R,
         config: &'a Config,
         name: &'a str,
         servers: &[usize],
         pairs: usize,
         now: u64,
+        form: LineForm,
         store_failure: &'a Cell<Option<ErrorKind>>,
-    ) -> Result<Journal<'a>, RunFault>
+    ) -> Result<Journal<'a, R>, RunFault>
         ensures { IfOk result (λ journal. journal.log
             ≡ begins config.now name.now servers.now pairs now) }
     {
         Ok(Journal {
             alloc: rt.alloc(),
             log: Log::start(rt.alloc(), config, name, servers, pairs, now)?,
-            output: StandardOutput::open(rt),
+            output: LineOutput::open(rt, form),
             store_failure,
         })
     }
+}
 
+impl<R> Journal<'_, R> {
     // The kind of the error that a line tells, in a word.
     fn cause(&self, line: &Printed, socket_failure: Option<ErrorKind>) -> Option<String>
         ensures { device_of line.now ≡ None → result ≡ None }
@@ -63,7 +68,7 @@ impl<'a> Journal<'a> {
     }
 }
 
-impl Printer for Journal<'_> {
+impl<R: Clock> Printer for Journal<'_, R> {
     ghost cut = { λ _. false };
 
     fn pass(&mut self, now: u64)

@@ -11,6 +11,8 @@
 //! - A node that opened its pipe again is its own reader, so it never sees that the others are gone: its lines fill the pipe
 //!   and are dropped. A pipe of another user can't be opened again, and ends the node when its reader goes away: the kit's
 //!   write that raises no signal stands beside its calls for child processes, which no program of ours may reach.
+//! - With `--json` the log waits as words, and a line becomes an object as it is written: so what waits is bounded and dropped as ever, and
+//!   the time of an object is that at which it was made.
 //! - To ask for room before each write (`epoll`) would leave a race with others that write to the same pipe. So standard output
 //!   doesn't wait.
 //! - A node has one connection at a time, and the others wait in the system's queue. One that doesn't take its answer in time
@@ -50,7 +52,10 @@ mod storage;
 
 // Where its lines go: to a writer, each at once, or to a log.
 mod journal;
+mod line_form;
+mod line_output;
 mod line_writer;
+mod object_output;
 mod output;
 mod printer;
 mod standard_output;
@@ -80,6 +85,7 @@ mod folder_use;
 
 pub use folder_use::{FolderUse, use_folders};
 pub use forgetting::Forgetting;
+pub use line_form::LineForm;
 pub use network::run_loop;
 pub use resolving::Answering;
 pub use router::{keep_router_running, run_router};

@@ -11,6 +11,7 @@ use crate::folder::open_folder;
 use crate::inbox::inbox_at;
 use crate::journal::Journal;
 use crate::life::{route_over, serve_over};
+use crate::line_form::LineForm;
 use crate::line_writer::LineWriter;
 use crate::lives::live;
 use crate::printer::Printer;
@@ -82,6 +83,7 @@ pub(crate) fn keep_running<T: SystemTable>(
     config: &Config,
     node: NodeStart<'_>,
     is_known: bool,
+    form: LineForm,
 ) -> Result<(), Ending> {
     let name = node.name;
     let number = number_named(config, node.kind, name)?;
@@ -94,7 +96,7 @@ pub(crate) fn keep_running<T: SystemTable>(
     let asked = asked_node(rt, config, number, name, database);
     let control = folder.control(rt, node.control, asked);
     let now = ms_since_1970(rt);
-    let journal = Journal::open(rt, config, name, servers, pairs, now, &failure)?;
+    let journal = Journal::open(rt, config, name, servers, pairs, now, form, &failure)?;
     run_in_store(
         rt,
         config,

@@ -6,6 +6,7 @@ ghost use Rattle.lisp_turns.specs.Node.{Router};
 ghost use Rattle.lisp_sites.specs.Numbers.{node_count};
 ghost use Rattle.lisp_world.specs.Making.{StartsAt};
 
+use crate::line_form::LineForm;
 use crate::resolving::Answering;
 use crate::storage::Storage;
 use crate::subject::{Stretch, Subject, run_subject};
@@ -64,7 +65,10 @@ pub fn keep_router_running<T: SystemTable>(
 ) -> Result<(), RunFault> {
     let subject = Subject::Router {
         name,
-        stretch: Stretch::Endless { is_known },
+        stretch: Stretch::Endless {
+            is_known,
+            form: LineForm::Words,
+        },
         control: None,
         answering: Answering::USUAL,
     };

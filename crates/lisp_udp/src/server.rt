@@ -4,6 +4,7 @@ ghost use Rattle.std.specs.Prelude.{◌<◌, length};
 ghost use Rattle.lisp_turns.specs.Beginning.{Begins};
 ghost use Rattle.lisp_turns.specs.Node.{Server};
 
+use crate::line_form::LineForm;
 use crate::resolving::Answering;
 use crate::storage::Storage;
 use crate::subject::{Stretch, Subject, run_subject};
@@ -66,7 +67,10 @@ pub fn keep_server_running<T: SystemTable>(
 ) -> Result<(), RunFault> {
     let subject = Subject::Server {
         name,
-        stretch: Stretch::Endless { is_known },
+        stretch: Stretch::Endless {
+            is_known,
+            form: LineForm::Words,
+        },
         control: None,
         answering: Answering::USUAL,
     };

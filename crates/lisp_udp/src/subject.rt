@@ -1,6 +1,7 @@
 //! What runs on sockets: a node or a network.
 
 use crate::entry::NodeKind;
+use crate::line_form::LineForm;
 use crate::network::run_network;
 use crate::node::{NodeStart, keep_running, run};
 use crate::resolving::Answering;
@@ -50,6 +51,8 @@ pub enum Stretch {
     Endless {
         /// Whether its store is known to keep nonces.
         is_known: bool,
+        /// In which form it prints its lines.
+        form: LineForm,
     },
 }
 
@@ -93,6 +96,8 @@ pub fn run_subject<T: SystemTable, W: Write>(
     };
     match stretch {
         Stretch::Turns(turns) => run::<T, W>(rt, &config, node, u64::from(turns), writer),
-        Stretch::Endless { is_known } => keep_running::<T>(rt, &config, node, is_known),
+        Stretch::Endless { is_known, form } => {
+            keep_running::<T>(rt, &config, node, is_known, form)
+        }
     }
 }

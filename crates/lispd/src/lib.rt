@@ -22,7 +22,7 @@ pub use lisp_refusals::{ExplainFault, explain, explain_all};
 pub use lisp_script::{InputFault, PlayFault, RunFault};
 pub use lisp_sqlite::{Sqlite, Task, run_task};
 pub use lisp_udp::{
-    Answering, FolderUse, Forgetting, Storage, Stretch, Subject, keep_router_running,
+    Answering, FolderUse, Forgetting, LineForm, Storage, Stretch, Subject, keep_router_running,
     keep_server_running, run_loop, run_router, run_server, run_subject, use_folders,
 };
 pub use lispd_cli::{

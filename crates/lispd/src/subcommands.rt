@@ -7,7 +7,9 @@ use lisp_picture::{Form, draw};
 use lisp_player::{Untaken, play_noting};
 use lisp_script::PlayFault;
 use lisp_sqlite::{Task, run_task};
-use lisp_udp::{Answering, FolderUse, Forgetting, Storage, Stretch, Subject, use_folders};
+use lisp_udp::{
+    Answering, FolderUse, Forgetting, LineForm, Storage, Stretch, Subject, use_folders,
+};
 use lispd_cli::{
     CONFIG, DATABASE, Errand, FILE, Failure, ForgetWords, NAME, NodeWords, ProgramFault,
     RaiseWords, STORE, TEXT, ask_node, forget_words, is_given, look_up, node_words, raise_words,
@@ -105,6 +107,7 @@ fn node_run<'a>(kind: NodeKind, words: &ArgMatches<'a>) -> Result<Run<'a>, Progr
         dir,
         turns,
         is_known,
+        is_json,
         has_database,
         group,
         quiet,
@@ -117,7 +120,10 @@ fn node_run<'a>(kind: NodeKind, words: &ArgMatches<'a>) -> Result<Run<'a>, Progr
     };
     let stretch = match turns {
         Some(turns) => Stretch::Turns(turns),
-        None => Stretch::Endless { is_known },
+        None => Stretch::Endless {
+            is_known,
+            form: line_form(is_json),
+        },
     };
     let subject = node(kind, name, stretch, control, answering);
     Ok(Run {
@@ -125,6 +131,14 @@ fn node_run<'a>(kind: NodeKind, words: &ArgMatches<'a>) -> Result<Run<'a>, Progr
         storage: storage(has_database, group),
         wanted: FolderUse::Run { config, subject },
     })
+}
+
+fn line_form(is_json: bool) -> LineForm {
+    if is_json {
+        LineForm::Objects
+    } else {
+        LineForm::Words
+    }
 }
 
 fn node<'a>(

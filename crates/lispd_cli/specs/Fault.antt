@@ -15,7 +15,7 @@ use Rattle.lispd_cli.specs.declared.failure.Failure.{Failure}
 use Rattle.lispd_cli.specs.declared.fault.SetupFault.{SetupFault}
 use Rattle.lispd_cli.specs.declared.fault.SetupFault.TheVariants as setup_faults
 use Rattle.lispd_cli.specs.declared.fault.ProgramFault.{ProgramFault}
-use Rattle.lispd_cli.specs.declared.fault.ProgramFault.TheVariants.{Words, Setup, Answer, File, Play, Turns, Known, Group, GroupOfFiles, Quiet, Budget, NoList, By, TwoForms, Run, Explain, Unanswered, Refused, Question, Look, Reading, Warnings}
+use Rattle.lispd_cli.specs.declared.fault.ProgramFault.TheVariants.{Words, Setup, Answer, File, Play, Turns, Known, Json, Group, GroupOfFiles, Quiet, Budget, NoList, By, TwoForms, Run, Explain, Unanswered, Refused, Question, Look, Reading, Warnings}
 
 abbrev pub setup_fault_number : SetupFault → ℕ
 setup_fault_number (setup_faults.BadOption _) = 98
@@ -33,6 +33,7 @@ program_fault_number File = 93
 program_fault_number (Play fault) = play_fault_number fault
 program_fault_number Turns = 98
 program_fault_number Known = 98
+program_fault_number Json = 98
 program_fault_number Group = 98
 program_fault_number GroupOfFiles = 98
 program_fault_number Quiet = 98
@@ -57,6 +58,7 @@ program_fault_status File = 1
 program_fault_status (Play fault) = play_fault_status fault
 program_fault_status Turns = 2
 program_fault_status Known = 2
+program_fault_status Json = 2
 program_fault_status Group = 2
 program_fault_status GroupOfFiles = 2
 program_fault_status Quiet = 2

@@ -65,6 +65,7 @@ pub record ReadsNode (words : ArgMatches) (read : NodeWords) : Type 0 where
   pub dir : read.dir.now ≡ word_in words (codes "store")
   pub turns : turns_of (option_in words (codes "turns")) ≡ Some read.turns
   pub known : read.is_known ≡ is_given_in words (codes "known")
+  pub json : read.is_json ≡ is_given_in words (codes "json")
   pub database : read.has_database ≡ is_given_in words (codes "database")
   pub group : group_of (option_in words (codes "group")) ≡ Some read.group
   pub quiet : quiet_of (option_in words (codes "quiet")) ≡ Some read.quiet

@@ -190,6 +190,7 @@ from 0 to 3600; left out, 60",
             BUDGET_ARGUMENT,
             TURNS_ARGUMENT,
             KNOWN_ARGUMENT,
+            OBJECTS_ARGUMENT,
             CONTROL_ARGUMENT,
             WORDS_ARGUMENT,
         ],
@@ -206,6 +207,7 @@ from 0 to 3600; left out, 60",
             BUDGET_ARGUMENT,
             TURNS_ARGUMENT,
             KNOWN_ARGUMENT,
+            OBJECTS_ARGUMENT,
             CONTROL_ARGUMENT,
             WORDS_ARGUMENT,
         ],
@@ -499,6 +501,11 @@ until it is killed",
 const KNOWN_ARGUMENT: Argument = Argument::Switch {
     name: KNOWN,
     help: "Don't start where the store keeps no nonces; not with --turns",
+};
+
+const OBJECTS_ARGUMENT: Argument = Argument::Switch {
+    name: JSON,
+    help: "Print each line as a JSON object, with the time and a severity; not with --turns",
 };
 
 const CONTROL_ARGUMENT: Argument = Argument::Value {

@@ -82,6 +82,9 @@ pub enum ProgramFault {
     /// `--known` comes with `--turns`.
     #[error("--known isn't taken with --turns")]
     Known,
+    /// `--json` comes with `--turns`.
+    #[error("--json isn't taken with --turns")]
+    Json,
     /// `--group` has another form than it takes.
     #[error("--group takes a whole number from 1 to 64")]
     Group,
@@ -130,8 +133,8 @@ pub enum ProgramFault {
 }
 
 impl ProgramFault {
-    /// The number that operators see: `Words`, `Turns`, `Known`, `Group`, `GroupOfFiles`, `Quiet`, `Budget`, `NoList`, `By`, `TwoForms`
-    /// and `Question` 98, `File` 93, `Unanswered` 99, `Warnings` 25, or that of the fault or the refusal inside.
+    /// The number that operators see: `Words`, `Turns`, `Known`, `Json`, `Group`, `GroupOfFiles`, `Quiet`, `Budget`, `NoList`, `By`,
+    /// `TwoForms` and `Question` 98, `File` 93, `Unanswered` 99, `Warnings` 25, or that of the fault or the refusal inside.
     pub const fn number(&self) -> u16
         ensures { result ≡ program_fault_number self.now }
     {
@@ -139,6 +142,7 @@ impl ProgramFault {
             ProgramFault::Words
             | ProgramFault::Turns
             | ProgramFault::Known
+            | ProgramFault::Json
             | ProgramFault::Group
             | ProgramFault::GroupOfFiles
             | ProgramFault::Quiet
@@ -161,8 +165,8 @@ impl ProgramFault {
         }
     }
 
-    /// The exit status: `Words`, `Turns`, `Known`, `Group`, `GroupOfFiles`, `Quiet`, `Budget`, `NoList`, `By`, `TwoForms`, `Question`
-    /// and `Warnings` 2, `Refused` 3, `File` and `Unanswered` 1, or that of the fault inside.
+    /// The exit status: `Words`, `Turns`, `Known`, `Json`, `Group`, `GroupOfFiles`, `Quiet`, `Budget`, `NoList`, `By`, `TwoForms`,
+    /// `Question` and `Warnings` 2, `Refused` 3, `File` and `Unanswered` 1, or that of the fault inside.
     pub fn status(&self) -> u8
         ensures { result ≡ program_fault_status self.now }
     {
@@ -170,6 +174,7 @@ impl ProgramFault {
             ProgramFault::Words
             | ProgramFault::Turns
             | ProgramFault::Known
+            | ProgramFault::Json
             | ProgramFault::Group
             | ProgramFault::GroupOfFiles
             | ProgramFault::Quiet

@@ -5,8 +5,8 @@ ghost use Rattle.lispd_cli.specs.Words.{word_in, is_given_in, option_in, turns_o
 ghost use Rattle.lisp_texts.specs.Number.{number_of};
 
 use crate::command_line::{
-    BUDGET, CHECK, CONFIG, CONTROL, DATABASE, GROUP, KNOWN, LIST, NAME, NUMBER, QUESTION, QUIET,
-    RELOAD, REMOVE, STORE, TELL, TURNS, WORDS,
+    BUDGET, CHECK, CONFIG, CONTROL, DATABASE, GROUP, JSON, KNOWN, LIST, NAME, NUMBER, QUESTION,
+    QUIET, RELOAD, REMOVE, STORE, TELL, TURNS, WORDS,
 };
 use crate::fault::ProgramFault;
 use clap::ArgMatches;
@@ -86,6 +86,8 @@ pub struct NodeWords<'a> {
     pub turns: Option<u32>,
     /// It doesn't start where the store keeps no nonces.
     pub is_known: bool,
+    /// It prints each line as a JSON object.
+    pub is_json: bool,
     /// Its nonces are in a database, not in files.
     pub has_database: bool,
     /// How many datagrams it takes in a turn at most, whose nonces are committed together; 1 where they are in files.
@@ -99,12 +101,13 @@ pub struct NodeWords<'a> {
 }
 
 /// The words of `server` and `router`. Faults, all 98: `ProgramFault::Turns` where the turns have another form than they take,
-/// `ProgramFault::Known` where `--known` comes with them, `ProgramFault::Group` where the group has another form than it takes,
-/// `ProgramFault::GroupOfFiles` where `--group` comes without `--database`, `ProgramFault::Quiet` where `--quiet` has another form
-/// than it takes, `ProgramFault::Budget` where `--budget` has.
+/// `ProgramFault::Known` where `--known` comes with them, `ProgramFault::Json` where `--json` does, `ProgramFault::Group` where the
+/// group has another form than it takes, `ProgramFault::GroupOfFiles` where `--group` comes without `--database`,
+/// `ProgramFault::Quiet` where `--quiet` has another form than it takes, `ProgramFault::Budget` where `--budget` has.
 pub fn node_words<'a>(words: &ArgMatches<'a>) -> Result<NodeWords<'a>, ProgramFault>
     ensures words { IfOk result (ReadsNode words.now) }
     ensures known { IfOk result (λ w. w.is_known ≡ true → w.turns ≡ None) }
+    ensures json { IfOk result (λ w. w.is_json ≡ true → w.turns ≡ None) }
     ensures database { IfOk result (λ w. option_in words.now (codes "group") ≢ None
         → w.has_database ≡ true) }
     ensures group { IfOk result (λ w. (1 ≤ w.group) × (w.group ≤ 64)) }
@@ -116,6 +119,10 @@ pub fn node_words<'a>(words: &ArgMatches<'a>) -> Result<NodeWords<'a>, ProgramFa
     if is_known && turns.is_some() {
         return Err(ProgramFault::Known);
     }
+    let is_json = is_given(words, JSON);
+    if is_json && turns.is_some() {
+        return Err(ProgramFault::Json);
+    }
     let has_database = is_given(words, DATABASE);
     Ok(NodeWords {
         config: word(words, CONFIG),
@@ -123,6 +130,7 @@ pub fn node_words<'a>(words: &ArgMatches<'a>) -> Result<NodeWords<'a>, ProgramFa
         dir: word(words, STORE),
         turns,
         is_known,
+        is_json,
         has_database,
         group: group(words, has_database)?,
         quiet: quiet(words)?,
