@@ -76,8 +76,10 @@ def answers_go_to_their_source(here, stranger):
             check("from another port", (nonce_in(answer), source[1]), (5, PORT))
             check("its sender's address", ip(source[0]), ip(here.s1))
             check("no other answer", [heard(it, 0.05) for it in (r1, r2, other, s2, another)], [[]] * 5)
-    check("its lines", killed(process), [f"accepted s1 r1 key 1 nonce {nonce} from {told(address)}" for nonce, address
-                                         in enumerate((here.r1, here.r2, stranger, here.s2, stranger), 1)])
+    lines = [f"accepted s1 r1 key 1 nonce {nonce} from {told(address)}" for nonce, address
+             in enumerate((here.r1, here.r2, stranger, here.s2, stranger), 1)]
+    # (that it moved is said once a minute)
+    check("its lines", killed(process), [*lines[:2], f"moved s1 r1 from {told(here.r1)} to {told(here.r2)}", *lines[2:]])
 
 
 def ip(address):

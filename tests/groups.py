@@ -98,7 +98,7 @@ def one_address_takes_half(here):
                 for number in range(60):
                     it.sendto(map_register(nonce, xtr=1000 + number), (here.s1, PORT))
                 for number in range(40):
-                    beside.sendto(map_register(nonce, xtr=2000 + number), (here.s1, PORT))
+                    beside.sendto(map_register(nonce, xtr=2000 * nonce + number), (here.s1, PORT))
             check(f"groups beside {other}", sources(process, 100), [(here.r1, 32), (other, 32), (here.r1, 28), (other, 8)])
     killed(process)
 
