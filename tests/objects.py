@@ -19,7 +19,7 @@ import threading
 import time
 from pathlib import Path
 
-from nodes import LIMIT, PORT, check, failing, is_up, killed, map_register, nonce_in, peer, ran, run_tests, until
+from nodes import LIMIT, PORT, check, failing, identity, is_up, killed, map_register, nonce_in, peer, ran, run_tests, until
 
 HERE = Path(__file__).resolve().parent
 TOP = HERE.parent
@@ -208,7 +208,7 @@ def lines_of_a_server(here):
         for message, line in ((map_register(1), accepted(here, 1)), (b"junk", f"refused s1 50 read 1 from {here.r1}"),
                               (map_register(2, b"other"), f"refused s1 53 from {here.r1}"),
                               (map_register(1), f"refused s1 57 saved 1 from {here.r1}"),
-                              (map_register(2, xtr=99), f"accepted s1 other key 1 nonce 2 from {here.r1}")):
+                              (map_register(2, xtr=99), f"accepted s1 {identity(99)} key 1 nonce 2 from {here.r1}")):
             since = time.time()
             it.sendto(message, (here.s1, PORT))
             check_object(next(lines), line, since)
