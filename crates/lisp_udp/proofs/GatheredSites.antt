@@ -36,6 +36,7 @@ module _ (c : ConfigValue) (number : ℕ) (old new : Option (List SiteValue)) (b
   closes may text (stages.Takes wanted taken) none same is closing = absurd closing
   closes may text (stages.Asked answering) none same is closing = absurd closing
   closes may text stages.Told none same is closing = absurd closing
+  closes may text (stages.Copies file) none same is closing = absurd closing
 
   pub refused : {E : Type 0} (may : Type 0) (text : Result (String Global) E) (stage : Stage) → gathered_with old bytes ≡ None → new ≡ old
       → IfOk text (λ t. string_bytes t ≡ fault_text Record) → IfOk text (λ t. ClosesWith may (string_bytes t) stage) → OnErr text (stage ≡ stages.Ended)

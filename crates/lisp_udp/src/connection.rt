@@ -54,8 +54,6 @@ pub(crate) struct AskedNode<'a> {
     pub(crate) number: usize,
     /// Its name.
     pub(crate) name: &'a str,
-    /// Its folder, where it keeps a database there.
-    pub(crate) database: Option<DatabaseFolder<'a>>,
 }
 
 /// A connection, which is dropped at a moment.
@@ -280,11 +278,13 @@ impl Connection {
     }
 
     /// Answers by the node's core at a moment, in ms, what is counted of it, and the runs of Map-Registers
-    /// that it refuses as replays, or by what came of the order or of a copy; and writes what the connection takes. Of an
-    /// answer that has several parts it makes one, once what was made before is written.
+    /// that it refuses as replays, or by what came of the order or of a copy of its database, which is in a
+    /// folder; and writes what the connection takes. Of an answer that has several parts it makes one, once what
+    /// was made before is written.
     pub(crate) fn answer(
         &mut self,
         node: &AskedNode<'_>,
+        database: Option<DatabaseFolder<'_>>,
         core: NodeCore<'_>,
         statistics: &Statistics,
         runs: &[Replay],
@@ -298,7 +298,7 @@ impl Connection {
                 self.is_renewed = true;
             }
             Stage::Copies(file) => {
-                let text = backup(node.alloc, node.name, node.database, &file);
+                let text = backup(node.alloc, node.name, database, &file);
                 self.stage = Stage::answered(text);
                 self.is_renewed = true;
             }

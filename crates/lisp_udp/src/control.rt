@@ -1,5 +1,6 @@
 //! The Unix socket at which a node that runs is asked, and told what to do: one of the devices.
 
+use crate::backup::DatabaseFolder;
 use crate::bound_socket::BoundSocket;
 use crate::connection::{AskedNode, Connection, MOST_MS};
 use lisp_log::Replay;
@@ -13,6 +14,8 @@ use std::io;
 #[derive(Drop)]
 pub(crate) struct ControlSocket<'a> {
     node: AskedNode<'a>,
+    // Where the node keeps a database, if it keeps one.
+    database: Option<DatabaseFolder<'a>>,
     socket: BoundSocket<'a>,
     connection: Option<Connection>,
     // Until this moment somebody may ask again, in ms.
@@ -20,14 +23,16 @@ pub(crate) struct ControlSocket<'a> {
 }
 
 impl<'a> ControlSocket<'a> {
-    /// A socket in a folder, as `BoundSocket::bind` makes it.
+    /// A socket in a folder, as `BoundSocket::bind` makes it, of a node that keeps a database in a folder, or none.
     pub(crate) fn open(
         rt: &'a HostRuntime,
         folder: &'a str,
         node: AskedNode<'a>,
+        database: Option<DatabaseFolder<'a>>,
     ) -> io::Result<ControlSocket<'a>> {
         Ok(ControlSocket {
             node,
+            database,
             socket: BoundSocket::bind(rt, folder)?,
             connection: None,
             busy_until: 0,
@@ -70,7 +75,15 @@ impl<'a> ControlSocket<'a> {
         let Some(mut connection) = self.connection.take() else {
             return;
         };
-        connection.answer(&self.node, core, statistics, runs, now, outcome);
+        connection.answer(
+            &self.node,
+            self.database,
+            core,
+            statistics,
+            runs,
+            now,
+            outcome,
+        );
         if connection.goes_on(now) {
             self.connection = Some(connection);
         }

@@ -341,16 +341,17 @@ impl LockedFolder {
         }
     }
 
-    /// Where the node is asked: in a folder that is given, or in its own; `None` where that can't be
+    /// Where the node is asked, which keeps its nonces so: in a folder that is given, or in its own; `None` where that can't be
     /// made, which is a warning on standard error.
     pub(crate) fn control<'a>(
         &'a self,
         rt: &'a HostRuntime,
         folder: Option<&'a str>,
         node: AskedNode<'a>,
+        storage: Storage,
     ) -> Option<ControlSocket<'a>> {
         let path = folder.unwrap_or(self.path.as_str());
-        match ControlSocket::open(rt, path, node) {
+        match ControlSocket::open(rt, path, node, self.with_database(rt, storage)) {
             Ok(control) => Some(control),
             Err(error) => {
                 bound_socket::warn(rt, path, &error);
@@ -359,8 +360,8 @@ impl LockedFolder {
         }
     }
 
-    /// It, where its node keeps a database there.
-    pub(crate) fn with_database<'a>(
+    // It, where its node keeps a database there.
+    fn with_database<'a>(
         &'a self,
         rt: &'a HostRuntime,
         storage: Storage,

@@ -2,7 +2,6 @@
 
 ghost use Rattle.lisp_sites.specs.Numbers.{IsMapServer, IsNode};
 
-use crate::backup::DatabaseFolder;
 use crate::connection::AskedNode;
 use crate::control::ControlSocket;
 use crate::devices::Devices;
@@ -58,9 +57,8 @@ pub(crate) fn run<T: SystemTable, W: Write>(
     let failure = Cell::new(None);
     let folder = open_folder(rt, node.dir, name)?;
     let store = folder.open_store::<T>(rt, node.storage, &failure)?;
-    let database = folder.with_database(rt, node.storage);
-    let asked = asked_node(rt, config, number, name, database);
-    let control = folder.control(rt, node.control, asked);
+    let asked = asked_node(rt, config, number, name);
+    let control = folder.control(rt, node.control, asked, node.storage);
     let printer = LineWriter::new(rt.alloc(), config, name, writer);
     let printer = run_in_store(
         rt,
@@ -92,9 +90,8 @@ pub(crate) fn keep_running<T: SystemTable>(
     let mut store = folder.open_store::<T>(rt, node.storage, &failure)?;
     let pairs = folder.pairs(rt, &mut store, is_known)?;
     let servers = config.servers_of(number);
-    let database = folder.with_database(rt, node.storage);
-    let asked = asked_node(rt, config, number, name, database);
-    let control = folder.control(rt, node.control, asked);
+    let asked = asked_node(rt, config, number, name);
+    let control = folder.control(rt, node.control, asked, node.storage);
     let now = ms_since_1970(rt);
     let journal = Journal::open(rt, config, name, servers, pairs, now, form, &failure)?;
     run_in_store(
@@ -111,20 +108,18 @@ pub(crate) fn keep_running<T: SystemTable>(
     Ok(())
 }
 
-// The node with a number and a name, as its users ask it; with its folder, where that has a database.
+// The node with a number and a name, as its users ask it.
 fn asked_node<'a>(
     rt: &HostRuntime,
     config: &'a Config,
     number: usize,
     name: &'a str,
-    database: Option<DatabaseFolder<'a>>,
 ) -> AskedNode<'a> {
     AskedNode {
         alloc: rt.alloc(),
         config,
         number,
         name,
-        database,
     }
 }
 
