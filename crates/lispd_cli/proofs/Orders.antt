@@ -11,8 +11,10 @@ differs : (name word : List ℕ) → word ≢ name → is_word name word ≡ fal
 differs name word other = not_true (is_word name word) (λ alike. other (sym ((bytes_eq-Decides name word).0 alike)))
 
 -- a question that begins with another word is asked
-pub asked : (question word : List ℕ) → word ≡ first_word question → word ≢ codes "change" → word ≢ codes "notice" → word ≢ codes "reload" → word ≢ codes "rotate" → Ask ≡ errand_of question
-asked question word first change notice reload rotate = rw (sym first, differs _ word change, differs _ word notice, differs _ word reload, differs _ word rotate) refl
+pub asked : (question word : List ℕ) → word ≡ first_word question → word ≢ codes "backup" → word ≢ codes "change" → word ≢ codes "notice" → word ≢ codes "reload" → word ≢ codes "rotate"
+    → Ask ≡ errand_of question
+asked question word first backup change notice reload rotate =
+    rw (sym first, differs _ word backup, differs _ word change, differs _ word notice, differs _ word reload, differs _ word rotate) refl
 
 -- an answer that begins with another word tells of no refusal
 pub obeyed : (lines word : List ℕ) → word ≡ first_word lines → word ≢ codes "fault" → word ≢ codes "refused" → word ≢ codes "down" → None ≡ refused_in lines
