@@ -77,7 +77,7 @@ def files_of(folder):
 def helps():
     """What `--help` prints of the program, and of each subcommand by its name."""
     top = ran(program, "--help")[1]
-    names = re.findall(r"^  (\w+) ", top.partition("Commands:\n")[2].partition("\n\n")[0], re.M)
+    names = re.findall(r"^  ([\w-]+) ", top.partition("Commands:\n")[2].partition("\n\n")[0], re.M)
     return {"": top, **{name: ran(program, name, "--help")[1] for name in names if name != "help"}}
 
 
@@ -202,7 +202,7 @@ def zsh_has_the_options(root):
     text = (root / ZSH_COMPLETION).read_text()
     if shutil.which("zsh"):
         check("zsh -n", ran("zsh", "-n", f"{root}/{ZSH_COMPLETION}"), (0, ""))
-    cases = dict(re.findall(r"^ {16}(\w+)\)\n(.*?) ;;$", text, re.M | re.S))
+    cases = dict(re.findall(r"^ {16}([\w-]+)\)\n(.*?) ;;$", text, re.M | re.S))
     check("the subcommands of zsh", set(cases), {*filter(None, HELPS), "help"})
     for name in filter(None, HELPS):
         check(f"the options of {name} in zsh", set(re.findall(r"(?<=[{,'])--?[a-zA-Z-]+(?=[\[,}])", cases[name])), options_in(HELPS[name]))
