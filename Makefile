@@ -4,14 +4,15 @@
 # make demo     a Map-Server and two routers on loopback, of which the Map-Server is killed and comes back: some seconds
 # make test     the gate: proves everything from nothing, tries the wrong bodies, runs the tests and the samples. out/test.log has the details
 # make quick    NAME=lisp_server: proves that crate over what is kept of those below, and runs what is stored over the program built last
-# make mutants  tries all wrong bodies, over what the gate kept; NAME=lisp_server those of one crate. mutants/MUTANTS.log has the last answers
+# make mutants  tries the wrong bodies of mutants/*.toml, over what the gate kept; NAME=lisp_server those of one crate. mutants/MUTANTS.log
+#               has the last answers
 # make slips    prints the table of wrong definitions and plants them: an example of theirs has to refuse each; NAME=lisp_client those of one list
 # make docs     writes what is generated of the documents: docs/CONTRACTS.md, and tables of docs/ARCHITECTURE.md and docs/EMBEDDING.md
 # make fuzz     plays schedules that are drawn: COUNT of them from SEED on, over out/lispd; as many of which Map-Requests are made, whose
 #               replies an ITR keeps; reads as many drawn Map-Requests, Map-Replies and encapsulated messages; and sends
 #               DATAGRAMS that are drawn to nodes that answer Map-Requests
-# make bench    measures the codec, the tag and registrations, also through the library for C programs; and of out/lispd saves on a disk, the
-#               reading of configurations, plays, a server, one that takes other sites, and one that answers Map-Requests
+# make bench    measures the codec, the tag, registrations and look-ups, by the library for C programs; and of out/lispd saves on a disk,
+#               the reading of configurations, plays, a server, one that takes other sites, and one that answers Map-Requests
 # make install  installs the program (out/lispd), its manual pages, completions, units and samples: PREFIX=/usr/local, DESTDIR=
 # make install-library installs the library for C programs, with its header and its pkg-config file
 # make uninstall removes what both installed
@@ -65,12 +66,10 @@ fuzz: lispd
 	@tests/replies.py out/lispd $(SEED) $(COUNT)
 	@tests/noise.py out/lispd $(SEED) $(DATAGRAMS)
 	@mkdir -p out
-	@cd crates/lisp_fields && rt run < /dev/null > ../../out/fields.log 2>&1 || { cat ../../out/fields.log >&2; exit 1; }
-	@tests/requests.py crates/lisp_fields/out/lisp_fields $(SEED) $(COUNT)
+	@cd crates/lisp_readings && rt run < /dev/null > ../../out/readings.log 2>&1 || { cat ../../out/readings.log >&2; exit 1; }
+	@tests/requests.py crates/lisp_readings/out/lisp_readings $(SEED) $(COUNT)
 
 bench: lispd library
-	@mkdir -p out
-	@cd crates/lisp_bench && rt run -- measure 2> ../../out/bench.log || { cat ../../out/bench.log >&2; exit 1; }
 	@tools/bench_library
 	@tools/bench_saves
 	@tools/bench_play

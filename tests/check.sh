@@ -23,8 +23,8 @@ stage 'limits of a site' ./limits.py "$program"
 stage 'calls that fail' ./failing.py "$program"
 stage 'drawn schedules' ./fuzz.py "$program" 1 200
 stage 'replies that are kept' ./replies.py "$program" 1 300
-stage 'messages by which others ask' ./requests.py ../crates/lisp_fields/out/lisp_fields 1 300
-stage 'captures that are read' ./packets.py ../crates/lisp_packets/out/lisp_packets 1 300
+stage 'messages by which others ask' ./requests.py ../crates/lisp_readings/out/lisp_readings 1 300
+stage 'captures that are read' ./packets.py ../crates/lisp_readings/out/lisp_readings 1 300
 stage 'captures that are told' ./captures.py "$program"
 stage pictures ./draw.py "$program"
 stage 'running nodes' ./running.py "$program"

@@ -42,6 +42,8 @@ NODE, ASKERS, MEMBER, STRANGER = 64001, 64002, 64003, 64004
 # Sites as they follow site 1, which has no limits, in a configuration: their Site-IDs, and their limits.
 LIMITED = (("00000000000000ff", "most_rows = 9"), ("00000000000000fe", "most_ttl = 1440\nmost_jump = 9"), ("0000000000000002", "most_routers = 1"),
            ("0000000000000100", "most_routers = 9\nmost_rows = 9"), ("ffffffffffffffff", "most_rows = 4294967295"))
+# The metrics in their order: the nodes that have one, its name, its type, and what helps to read it.
+METRICS = [line.split("|") for line in (Path(__file__).parent / "metrics.txt").read_text().splitlines() if line[0] != "#"]
 # The metrics of sites, and of r1, where the counts of `what_is_held_of_sites` end.
 HELD = """\
 # HELP lisp_site_rows Live rows of each site.
@@ -111,6 +113,14 @@ def a_map_server_is_asked(here):
     check("it doesn't run", ask(here, "s1", "hold"), UNANSWERED)
 
 
+def check_heads(kind, text):
+    """Whether metrics of a node of this kind have the heads that `metrics.txt` lists, and no other ones; their samples follow each."""
+    wanted = [f"# HELP {name} {words}\n# TYPE {name} {form}\n" for nodes, name, form, words in METRICS if kind in nodes.split()]
+    check(f"heads of the metrics of a {kind}", re.findall("^# HELP .*\n# TYPE .*\n", text, re.M), wanted)
+    names = [re.search("TYPE ([a-z_]+) ", block)[1] for block in text.split("# HELP ")[1:] for line in block.splitlines()[2:]]
+    check(f"samples behind the heads of a {kind}", re.findall("^([a-z_]+)\\{", text, re.M), names)
+
+
 def counts(here, name):
     """What is counted of a node: of each word the number, and of refusals that of each number."""
     status, text, wrongs = ask(here, name, "counts")
@@ -148,6 +158,7 @@ def what_is_counted(here):
               f"replays s1 from {here.r1} times 1 saved 8 age\n", ""))
     check("their ages", all(0 <= int(age) < LIMIT * 1000 for age in ages), True)
     status, text, wrongs = ask(here, "s1", "counts", "--prometheus")
+    check_heads("server", text)
     lines = [line for line in text.splitlines() if line[0] != "#" and "resent" not in line]
     save, start, age = lines.pop(8), lines.pop(10), lines.pop(-3)
     check("metrics", (status, wrongs, lines), (0, "", [
@@ -287,6 +298,7 @@ def a_router_is_told(here):
     found = counts(here, "r1")
     check("what it counts", (found["change"], found["records"], int(found["sent"]) >= int(found["counted"]) >= 1, "rows" in found),
           ("1", "1", True, False))
+    check_heads("router", ask(here, "r1", "counts", "--prometheus")[1])
     check("its own key", tell(here, "r1", "rotate", "1"), refused(37, "refused r1 37"))
     check("no key of its site", tell(here, "r1", "rotate", "200"), refused(78, "fault 78"))
     status, line, wrongs = tell(here, "r1", "rotate", "200", "--words")
@@ -351,18 +363,26 @@ def a_router_that_is_down(here):
         check("its answer", answered(node, (tell, here, "r1", "rotate", "2"), ("rotate 2", f"down r1\n{CLOSING}")), refused(76, "down r1"))
 
 
+# What is advised where a line is no question, no order, or has an address or records that can't be read.
+QUESTIONS = ("a Map-Server is asked hold, ask ADDRESS, routers, due or counts, and a router records, acks, due, counts or disallowed RECORD ..; "
+             "an order is for `lispd tell`")
+ORDERS = ("a Map-Server is told notice ROUTER, a router of its configuration, or reload CONFIG, and a router change RECORD .. or rotate KEY; "
+          "each with --database backup FILE; a question is for `lispd ask`")
+ADDRESS = ("an address is four numbers with dots, as 10.1.2.3, or all eight groups with colons, as 2001:db8:1:0:0:0:0:5; "
+           "`::` isn't read here")
+RECORDS = ("write records as 10.1.0.0/16=1440+192.0.2.1 or 2001:db8:1:0:0:0:0:0/48=1440+192.0.2.1, of different prefixes, or empty; "
+           "all eight groups are written, since `::` isn't read here")
+
+
 def advice(here):
     """What is wrong with a question or an order is said in words."""
     process = up(here, "server", "s1", here.s1)
     router = up(here, "router", "r1", here.r1)
-    for call, name, words, said in (
-            (ask, "s1", ["ask", "2001:db8:1::5"], ("84\n", "all eight groups", "`::` isn't read here", "2001:db8:1:0:0:0:0:5")),
-            (ask, "r1", ["hold"], ("82\n", "a Map-Server is asked hold, ask ADDRESS, routers, due or counts", "a router records, acks, due, counts")),
-            (ask, "s1", ["nonsense"], ("80\n", "a Map-Server is asked hold, ask ADDRESS, routers, due or counts")),
-            (tell, "s1", ["nonsense"], ("80\n", "a Map-Server is told notice ROUTER", "a router change RECORD .. or rotate KEY")),
-            (tell, "r1", ["change", "2001:db8:1::/48=5"], ("84\n", "all eight groups are written, since `::` isn't read here"))):
+    for call, name, words, number, said in ((ask, "s1", ["ask", "2001:db8:1::5"], 84, ADDRESS), (ask, "r1", ["hold"], 82, QUESTIONS),
+                                            (ask, "s1", ["nonsense"], 80, QUESTIONS), (tell, "s1", ["nonsense"], 80, ORDERS),
+                                            (tell, "r1", ["change", "2001:db8:1::/48=5"], 84, RECORDS)):
         status, line, wrongs = call(here, name, *words, "--words")
-        check(f"{words}", (status, line, wrongs.startswith("lispd: fault "), [it for it in said if it not in wrongs]), (2, "", True, []))
+        check(f"{words}", (status, line, wrongs.splitlines()[0], wrongs.endswith(f" --words: {said}\n")), (2, "", f"lispd: fault {number}", True))
     killed(router)
     killed(process)
 

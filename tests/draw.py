@@ -77,14 +77,21 @@ def looks_at_colours(name, drawn, root):
 
 
 def looks_at_text(name, text):
-    """Lines of at most 100 printable characters of ASCII; those that begin with a number are those of the commands, in order."""
+    """Lines of at most 100 printable characters of ASCII; those that begin with a number are those of the commands, in order, and end with
+    the words that the first of its lines begins with."""
     done = run("draw", "--text", "-", text=text)
     check(f"{name} as text, status and standard error", (done.returncode, done.stderr), (0, b""))
     lines = done.stdout.decode("ascii").splitlines()
     check(f"{name} as text, lines", [line for line in lines if len(line) > MOST_CHARACTERS or not line.isprintable()], [])
-    numbers = [int(line.split(" ", 1)[0]) for line in lines if line[:1].isdigit()]
-    check(f"{name} as text, numbers", numbers, list(range(1, len(lines_of(text)) + 1)))
+    numbered, firsts = [line for line in lines if line[:1].isdigit()], lines_of(text)
+    check(f"{name} as text, numbers", [int(line.split(" ", 1)[0]) for line in numbered], list(range(1, len(firsts) + 1)))
+    check(f"{name} as text, words", [line for line, first in zip(numbered, firsts) if not ends_with_words(line, first)], [])
     return lines
+
+
+def ends_with_words(line, first):
+    word = first.split(" ", 1)[0]
+    return f" {word}" in line and first.startswith(line[line.index(f" {word}") + 1:])
 
 
 def picture_of(schedule):

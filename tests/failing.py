@@ -31,7 +31,7 @@ IN_WORDS = re.compile(r"lispd check \S+: (?:line \d+: )?(?:\S+ \S+(?:, \S+ \d+)?
 UNREADY = 3
 # How often an input is read at most, a byte at a time, the reads that were interrupted among them.
 MOST_READS = 2_097_152
-# Further growths that a script with one line more may ask for before it is played, besides two for each word of the line.
+# How many growths more, or fewer, a script with one line more may ask for before it is played, besides two for each word of the line.
 MORE = 40
 
 program = os.path.abspath(sys.argv[1])
@@ -90,7 +90,8 @@ def is_taken_again(folder, at, text, printed, place, refusal):
         again = (head + "".join(script[:number + 1] + [repeated] + script[number + 1:])).encode()
         if not plays_front(head + "".join(script[:number]), lines[:place]):
             continue
-        for later in range(at, at + MORE + 2 * len(repeated.split())):
+        # (with one line more the script may also be kept in fewer growths: lists that double are then longer from the start)
+        for later in [*range(at, at + MORE + 2 * len(repeated.split())), *range(max(1, at - MORE), at)]:
             _, status, output, _ = failing(folder, "growth", later, ["play", "-"], again)
             told = output.splitlines(keepends=True)
             if status == 0 and told[:place] + told[place + 1:] == [*lines[:place], line, *lines[place + 1:]] and TOLD.match(told[place]):

@@ -1,6 +1,6 @@
 #!/usr/bin/env -S python3 -B
-"""packets.py PACKETS SEED COUNT
-Compares the packets that PACKETS (crates/lisp_packets) reads of captures with those that a slow reader takes, which follows the two formats
+"""packets.py PROGRAM SEED COUNT
+Compares the packets that PROGRAM (crates/lisp_readings) reads of captures with those that a slow reader takes, which follows the two formats
 (draft-ietf-opsawg-pcap, draft-ietf-opsawg-pcapng), RFC 791, RFC 768, RFC 8200 and IEEE 802.1Q field by field. The captures are samples of
 each format, byte order, link type and header, each cut of some of them and each change of a byte; and COUNT that are drawn from SEED, each
 as it is and with one change. Where `tshark` is installed, it reads some that are plain, and its fields are compared. Prints each capture
@@ -434,7 +434,7 @@ differ = []
 
 
 def printed(program, captures):
-    text = "".join(it.hex() + "\n" for it in captures)
+    text = "".join(f"capture {it.hex()}\n" for it in captures)
     done = subprocess.run([program], input=text, capture_output=True, text=True, timeout=600, check=False)
     if done.returncode or done.stderr:
         sys.exit(f"packets.py: {program} ended with {done.returncode}: {done.stderr[:400]}")

@@ -1,6 +1,6 @@
 #!/usr/bin/env -S python3 -B
 """requests.py PROGRAM SEED COUNT
-Compares what PROGRAM (crates/lisp_fields) reads and writes of Map-Requests, Map-Replies and encapsulated messages with a slow reader, which
+Compares what PROGRAM (crates/lisp_readings) reads and writes of Map-Requests, Map-Replies and encapsulated messages with a slow reader, which
 takes a message bit by bit as RFC 9301 sections 5.2, 5.4, 5.5 and 5.8, RFC 791, RFC 768 and RFC 8200 lay it out. The messages are samples,
 each cut of them, each change of a bit, and others near them; and COUNT that are drawn from SEED, with free bits, options and bytes after
 them, each as it is and with one change. Then each growth of memory is refused in turn. Where `tshark` is installed, it reads what is
@@ -313,7 +313,7 @@ def compare_with_tshark(tshark, seed, count):
 def main():
     program, seed, count = sys.argv[1], int(sys.argv[2]), int(sys.argv[3])
     if not os.access(program, os.X_OK):
-        sys.exit(f"requests.py: no {program}: `rt run` in crates/lisp_fields proves and builds it")
+        sys.exit(f"requests.py: no {program}: `rt run` in crates/lisp_readings proves and builds it")
     compared = Compared(program)
     for kind, data in itertools.chain(samples(), drawn(seed, count)):
         compared.add(kind, data)

@@ -1,7 +1,8 @@
 #!/bin/sh
 # stored.sh PROGRAM
-# Runs the program over what is stored: the cases of answers.txt, the schedules, the lines of refused.txt, the configurations of checked/,
-# and files that can't be read or written. Prints each run that differs from what is wanted, and ends with 1 where one does.
+# Runs the program over what is stored: the cases of answers.txt, the schedules, the lines of refused.txt and told.txt, the helps of
+# helps.txt, the configurations of checked/, and files that can't be read or written. Prints each run that differs from what is wanted, and
+# ends with 1 where one does.
 program=$(realpath -e "$1") || exit 1
 cd "$(dirname "$0")" && mkdir -p ../out || exit 1
 configuration=../examples/configuration.toml
@@ -102,6 +103,24 @@ while IFS='|' read -r part fault text; do
     expect "refused.txt: $text" 2 '' "lispd: fault $fault" play ../out/schedule
 done < refused.txt
 
+# Each line of told.txt: words, how the program ends, its fault, and what it tells of that on standard error.
+while IFS='|' read -r words code fault text; do
+    case $words in
+        '#'* | '') continue ;;
+    esac
+    eval "set -- $words"
+    expect "told.txt: $words" "$code" '' "lispd: fault $fault
+lispd$text" --words "$@" < /dev/null
+done < told.txt
+
+# helps.txt: words for a help, each before what it prints.
+sed -n 's/^\$ lispd //p' helps.txt | while IFS= read -r words; do
+    echo "\$ lispd $words"
+    "$program" $words
+done | sed "s/^Usage: ${program##*/} /Usage: lispd /" > ../out/helps
+runs=$((runs + 1))
+diff -u helps.txt ../out/helps || failed=1
+
 expect 'a schedule on standard input' 0 @$exchange.out '' play - < $exchange.schedule
 expect 'a schedule that is not there' 1 '' 'lispd: fault 93' play no-such.schedule
 expect 'a directory as a schedule' 1 '' 'lispd: fault 87' play .
@@ -144,6 +163,18 @@ for file in checked/*.toml; do
         expect "$file" 0 "@$wanted.txt" '' check - < "$file"
     fi
 done
+
+# Each kind of warning is one of those that were compared.
+sed -n 's/^warning: -: \(line [0-9]*: \)\{0,1\}//p' checked/*.txt > ../out/warned
+while IFS='|' read -r kind words; do
+    case $kind in
+        '#'*) continue ;;
+    esac
+    grep -qxF -e "$words" ../out/warned || {
+        echo "warnings.txt: no configuration has '$words'"
+        failed=1
+    }
+done < checked/warnings.txt
 
 # Each line of faults.txt, by what it makes of the configuration.
 while IFS='|' read -r fault words edit; do

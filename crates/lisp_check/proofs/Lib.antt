@@ -1,10 +1,5 @@
-pub mod Added
-pub mod SiteWarnings
-pub mod AddressWarnings
-pub mod NodeWarnings
-pub mod RouterWarnings
-pub mod Whole
-mod Worded
+pub mod Each
+pub mod Exact
 pub mod Decided
 pub mod Repeats
 pub mod SecretWarnings

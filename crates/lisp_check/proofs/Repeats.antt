@@ -1,6 +1,6 @@
 -- What is warned of where two elements of a list are alike, and that it is so of addresses and identities.
 use Rattle.std.proofs.Common.{◌≡◌, ◌≢◌, ◌<◌, ◌⊎◌, ℕ, zero, suc, Bool, true, false, cond, List, [], ◌∷◌, Option, Some, None, length, get_or, inl, inr, subst, sym, ap, refl, ◌∙◌, arith}
-use Rattle.std.specs.Prelude.{◌↔◌, IsSomeAnd, slice_get}
+use Rattle.std.specs.Prelude.{◌↔◌, slice_get}
 use Rattle.std.specs.Bool.{Decides}
 use Rattle.std.specs.List.{AllPairs, position, find}
 use Rattle.std.proofs.lemmas.Bool.{cases_order}
@@ -12,8 +12,8 @@ use Rattle.lisp_records.specs.Router.{router_eq}
 use Rattle.lisp_records.proofs.RouterLaws.{router_eq-Decides}
 use Rattle.lisp_policy.proofs.Found.{nowhere}
 use Rattle.lisp_policy.specs.Configuration.{ConfigValue, RouterEntryValue}
-use Rattle.lisp_model.specs.Trace.{addresses}
-use Rattle.lisp_check.specs.Law.{AddressesAreWarned, IdentitiesAreWarned}
+use Rattle.lisp_sites.specs.Numbers.{addresses}
+use Rattle.lisp_check.specs.Warning.{AddressesAreWarned, IdentitiesAreWarned, IsOther}
 use Rattle.lisp_check.proofs.Decided.{addr_eq-Decides}
 
 found_head : {X : Type 0} (b : Bool) (x : X) (others : Option X) → b ≡ true → ¬ (cond b (Some x) others ≡ None)
@@ -31,18 +31,18 @@ passes p (x ∷ xs) zero d low e = found_head (p x) x (find p xs) e
 passes p (x ∷ xs) (suc i) d low e = later p x xs (p x) (passes p xs i d (omega (arith, low)) e)
 
 module _ {X K : Type 0} (key : X → K) (eq : K → K → Bool) (decides : (a b : K) → Decides (eq a b) (a ≡ b)) (xs : List X) where
-  -- a place whose element is like the first one of its kind, which stands elsewhere
-  abbrev Repeats : ℕ → ℕ → Type 0
-  Repeats first place = (first ≢ place) × IsSomeAnd (slice_get xs place) (λ x. position (λ y. eq (key y) (key x)) xs ≡ Some first)
-
   abbrev Alike : X → X → Bool
   Alike x y = eq (key y) (key x)
+
+  -- a place whose element is like the first one of its kind, which stands elsewhere
+  abbrev Repeats : ℕ → ℕ → Type 0
+  Repeats first place = IsOther xs Alike place first
 
   at_some : (o : Option ℕ) (i j : ℕ) (d : X) → i < j → j < length xs → key (get_or xs i d) ≡ key (get_or xs j d) → position (Alike (get_or xs j d)) xs ≡ o → ((first place : ℕ) → ¬ Repeats first place) → ⊥
   at_some None i j d low high same at never =
       passes (Alike (get_or xs j d)) xs i d (omega (arith, low, high)) ((decides _ _).1 same) (nowhere (Alike (get_or xs j d)) xs at)
   at_some (Some first) i j d low high same at never =
-      never first j ((λ e. before e), subst (λ (o : Option X). IsSomeAnd o (λ x. position (λ y. eq (key y) (key x)) xs ≡ Some first)) (sym (slice_get-get_or xs j d high)) at) where
+      never first j ((λ e. before e), (get_or xs j d, slice_get-get_or xs j d high, at)) where
         before : first ≡ j → ⊥
         before e =
             let passed : eq (key (get_or xs i d)) (key (get_or xs j d)) ≡ false = (position-Some (Alike (get_or xs j d)) xs first d at).2 i (subst (λ (n : ℕ). i < n) (sym e) low) in
@@ -51,9 +51,8 @@ module _ {X K : Type 0} (key : X → K) (eq : K → K → Bool) (decides : (a b 
   to : ((first place : ℕ) → ¬ Repeats first place) → AllPairs (λ x y. key x ≢ key y) xs
   to never i j d low high same = at_some (position (Alike (get_or xs j d)) xs) i j d low high same refl never
 
-  at_place : (first place : ℕ) (o : Option X) → slice_get xs place ≡ o → AllPairs (λ x y. key x ≢ key y) xs → first ≢ place → IsSomeAnd o (λ x. position (λ y. eq (key y) (key x)) xs ≡ Some first) → ⊥
-  at_place first place None at pairs ne h = h
-  at_place first place (Some x) at pairs ne h =
+  at_place : (first place : ℕ) (x : X) → slice_get xs place ≡ Some x → AllPairs (λ x y. key x ≢ key y) xs → first ≢ place → position (Alike x) xs ≡ Some first → ⊥
+  at_place first place x at pairs ne h =
       let found = position-Some (Alike x) xs first x h in
       let here : get_or xs place x ≡ x = get_or_from_slice_get xs place x x at in
       let like : key (get_or xs first x) ≡ key (get_or xs place x) = (decides _ _).0 found.1 ∙ ap key (sym here) in
@@ -68,7 +67,7 @@ module _ {X K : Type 0} (key : X → K) (eq : K → K → Bool) (decides : (a b 
         apart (inl (inr less)) low high like = pairs place first x less high (sym like)
 
   pub repeats : ((first place : ℕ) → ¬ Repeats first place) ↔ AllPairs (λ x y. key x ≢ key y) xs
-  repeats = (to, λ pairs first place (ne, h). at_place first place (slice_get xs place) refl pairs ne h)
+  repeats = (to, λ pairs first place (ne, (x, at, h)). at_place first place x at pairs ne h)
 
 pub addresses_are_warned : (c : ConfigValue) → AddressesAreWarned c
 addresses_are_warned c = repeats (λ (a : Addr). a) addr_eq addr_eq-Decides (addresses c)

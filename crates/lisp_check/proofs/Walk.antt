@@ -1,5 +1,5 @@
 -- The headers before one more byte.
-use Rattle.std.proofs.Common.{◌≡◌, ◌∙◌, ◌<◌, ◌+◌, ℕ, Bool, true, false, List, [], ◌∷◌, ◌++◌, length, take, get_or, cond, arith, ap, sym, refl}
+use Rattle.std.proofs.Common.{◌≡◌, ◌∙◌, ◌<◌, ◌+◌, ℕ, zero, suc, Bool, true, false, List, [], ◌∷◌, ◌++◌, length, take, get_or, cond, arith, ap, sym, refl}
 use Rattle.std.specs.Prelude.{◌==◌}
 use Rattle.std.specs.List.{flat_map, range_with_len}
 use Rattle.std.proofs.lemmas.List.{flat_map_more, take_more}
@@ -9,7 +9,17 @@ use Rattle.lisp_check.specs.declared.mode.Mode.TheVariants.{Start}
 use Rattle.lisp_check.specs.declared.header.Header.{Header}
 use Rattle.lisp_check.specs.Mode.{step, walked}
 use Rattle.lisp_check.specs.Header.{line_of, line_feeds, header_if, header_at, headers_before}
-use Rattle.lisp_check.proofs.Added.{numbers_more}
+
+-- numbers, and one more
+one_more : (a n : ℕ) → range_with_len a (suc n) ≡ range_with_len a n ++ (a + n) ∷ []
+one_more a zero = let same : a ≡ a + 0 = omega arith in ap (λ (k : ℕ). k ∷ []) same
+one_more a (suc n) = let same : a + 1 + n ≡ a + suc n = omega arith in ap (λ (l : List ℕ). a ∷ l) (one_more (a + 1) n ∙ ap (λ (k : ℕ). range_with_len (a + 1) n ++ k ∷ []) same)
+
+numbers_more : (n : ℕ) → range_with_len 0 (n + 1) ≡ range_with_len 0 n ++ n ∷ []
+numbers_more n =
+    let on : n + 1 ≡ suc n = omega arith in
+    let same : 0 + n ≡ n = omega arith in
+    ap (range_with_len 0) on ∙ one_more 0 n ∙ ap (λ (k : ℕ). range_with_len 0 n ++ k ∷ []) same
 
 -- the mode
 walked_more : (mode : Mode) (bs : List ℕ) (b : ℕ) → walked mode (bs ++ b ∷ []) ≡ step (walked mode bs) b

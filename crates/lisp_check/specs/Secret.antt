@@ -1,14 +1,12 @@
 -- What is warned of secrets.
-use Rattle.std.specs.Prelude.{◌≡◌, ℕ, ◌+◌, ◌-◌, ◌^◌, nat_lt, ◌==◌, ◌&&◌, min, Bool, List, [], ◌∷◌, ◌++◌, codes, length, Option, Some, None, Result, OnOk, Vec, if◌then◌else◌}
+use Rattle.std.specs.Prelude.{◌≡◌, ℕ, nat_lt, ◌==◌, ◌&&◌, Bool, List, [], ◌∷◌, ◌++◌, length, Option, Some, None, if◌then◌else◌}
 use Rattle.std.specs.BTreeMap.{BTreeMap, get_by}
 use Rattle.std.specs.Cmp.Lexicographic.{slice_cmp}
-use Rattle.std.specs.Fmt.{decimal}
 use Rattle.std.specs.List.{find, flat_map}
 use Rattle.std.specs.Option.{option_map, option_or}
 use Rattle.std.specs.Ordering.{nat_cmp}
 use Rattle.std.specs.Str.{bytes_eq}
 use denote.Ref.{Bor}
-use Rattle.lisp_check.specs.Words.{site_words}
 use Rattle.lisp_check.specs.declared.secret.KeyPlace.{KeyPlace}
 use Rattle.lisp_check.specs.declared.secret.SecretWarning.{SecretWarning}
 use Rattle.lisp_check.specs.declared.secret.SecretWarning.TheVariants.{Short, Same}
@@ -65,15 +63,3 @@ of_secret secrets s = short_of s ++ same_of s.place (first_like secrets s)
 
 abbrev pub of_secrets : List KeySecretValue → List SecretWarning
 of_secrets secrets = flat_map (of_secret secrets) secrets
-
--- these were added, where the call succeeds
-abbrev pub AddsSecret : {T E Z : Type 0} → Result T E → Vec SecretWarning Z → Vec SecretWarning Z → List SecretWarning → Type 0
-AddsSecret result old new those = OnOk result (new.items ≡ old.items ++ those)
-
--- a key of a site, both counted from 1; and a warning in words
-abbrev pub key_words : KeyPlace → List ℕ
-key_words place = site_words place.site ++ (codes ", key " ++ decimal (min (place.key + 1) (2 ^ 64 - 1)))
-
-abbrev pub secret_text : SecretWarning → List ℕ
-secret_text (Short place) = key_words place ++ codes ": the secret has fewer than 16 bytes: it can be guessed"
-secret_text (Same first place) = key_words place ++ (codes ": the secret is that of " ++ (key_words first ++ codes " too: each key needs its own"))

@@ -1,7 +1,7 @@
 //! Adding a warning to a list.
 
 ghost use Rattle.std.specs.Prelude.{OnErr};
-ghost use Rattle.lisp_check.specs.Adding.{AddsIf};
+ghost use Rattle.lisp_check.specs.Warning.{Adds, given_if};
 
 use crate::warning::Warning;
 use lisp_memory::{FallibleVec, Memory};
@@ -13,7 +13,7 @@ pub(crate) fn warn_if<M: Memory>(
     is_warned: bool,
     warning: Warning,
 ) -> Result<(), AllocError>
-    ensures added { AddsIf result warnings.old warnings.new warning is_warned }
+    ensures added { Adds result warnings.old warnings.new (given_if is_warned warning) }
     ensures memory { OnErr result M.may_refuse }
 {
     if is_warned {

@@ -1,10 +1,7 @@
 //! All warnings of a configuration.
 
-ghost use Rattle.std.specs.Prelude.{◌≡◌, ◌↔◌, [], IsTrue, IfOk, OnErr};
-ghost use Rattle.std.specs.List.{Contains};
-ghost use Rattle.lisp_check.specs.Warning.{IsWarned, AreThose, of_all};
-ghost use Rattle.lisp_check.specs.declared.warning.Warning.{Warning};
-ghost use Rattle.lisp_check.specs.declared.warning.Warning.TheVariants.{NoNodes};
+ghost use Rattle.std.specs.Prelude.{◌≡◌, IfOk, OnErr};
+ghost use Rattle.lisp_check.specs.Warning.{all_warnings};
 
 use crate::adding::warn_if;
 use crate::nodes::warn_of_nodes;
@@ -12,7 +9,6 @@ use crate::routers::warn_of_routers;
 use crate::sites::warn_of_sites;
 use crate::warning::Warning;
 use lisp_memory::Memory;
-use lisp_records::Addr;
 use lisp_sites::Config;
 use std::alloc::{AllocError, Allocator};
 
@@ -24,23 +20,16 @@ pub fn warnings<M: Memory + Copy, A: Allocator>(
     alloc: M,
     config: &Config<A>,
 ) -> Result<Vec<Warning, M>, AllocError>
-    ensures order { IfOk result
-        (λ given. AreThose (IsWarned config.now) (of_all config.now) given.items) }
-    ensures exact { IfOk result (λ given. (w : Warning) → Contains given.items w
-        ↔ IsWarned config.now w) }
+    ensures order { IfOk result (λ given. given.items ≡ all_warnings config.now) }
     ensures memory { OnErr result M.may_refuse }
 {
     let mut warnings = Vec::new(alloc);
     let addresses = config.addresses(alloc)?;
-    warn_if(&mut warnings, are_none(&addresses), Warning::NoNodes)?;
-    warn_of_sites(&mut warnings, config)?;
-    warn_of_nodes(&mut warnings, config, &addresses)?;
-    warn_of_routers(&mut warnings, config)?;
+    let addresses = addresses.as_slice();
+    warn_if(&mut warnings, addresses.is_empty(), Warning::NoNodes)?;
+    let (sites, routers) = (config.sites().as_slice(), config.routers());
+    warn_of_sites(&mut warnings, sites, routers)?;
+    warn_of_nodes(&mut warnings, config, addresses)?;
+    warn_of_routers(&mut warnings, config, routers)?;
     Ok(warnings)
-}
-
-fn are_none(addresses: &[Addr]) -> bool
-    ensures { IsTrue result ↔ (addresses.now ≡ []) }
-{
-    addresses.is_empty()
 }

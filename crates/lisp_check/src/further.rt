@@ -17,7 +17,7 @@ const MOST_FURTHER: usize = 20;
 const MOST_READ: usize = 100;
 
 /// The arrays that had a fault whose entries others name: what names them may be right.
-#[derive(Clone, Copy, Debug, PartialEq, Eq)]
+#[derive(Clone, Copy)]
 struct Lost {
     sites: bool,
     servers: bool,

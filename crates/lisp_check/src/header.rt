@@ -8,7 +8,7 @@ use lisp_memory::FallibleVec;
 use std::alloc::{AllocError, Global};
 
 /// Where a header such as `[[site]]` or `[site.key]` begins: its line, counted from 1, and how many bytes of the text stand before it.
-#[derive(Clone, Copy, Debug, PartialEq, Eq)]
+#[derive(Clone, Copy)]
 pub struct Header {
     pub line: usize,
     pub offset: usize,

@@ -2,12 +2,15 @@
 
 use crate::document::{Document, array_key, elements, place_words};
 use crate::line::{entry_line, table_line};
-use crate::nearest::nearest;
 use crate::places::{NOWHERE, entry_place, part_place};
 use lisp_memory::{FallibleString, FallibleVec};
 use lisp_sites::{Field, Place};
 use std::alloc::{AllocError, Global};
+use strsim::levenshtein;
 use toml::Value;
+
+/// How many letters a word that was meant may differ in.
+const MOST_EDITS: usize = 2;
 
 /// The arrays of a configuration.
 const ARRAYS: &[&str] = &["site", "server", "router"];
@@ -206,4 +209,22 @@ fn is_bare(key: &str) -> bool {
     !key.is_empty()
         && key.as_bytes().iter().all(|letter| letter.is_ascii_alphanumeric()
             || matches!(letter, b'_' | b'-'))
+}
+
+// The known word that is nearest to this one, in at most two letters and fewer than it has; the first one of several.
+fn nearest(
+    alloc: Global,
+    word: &str,
+    known: &[&'static str],
+) -> Result<Option<&'static str>, AllocError> {
+    let mut nearest = None;
+    let mut least = word.len().min(MOST_EDITS + 1);
+    for candidate in known {
+        let edits = levenshtein(alloc, word, candidate)?;
+        if edits < least {
+            least = edits;
+            nearest = Some(*candidate);
+        }
+    }
+    Ok(nearest)
 }

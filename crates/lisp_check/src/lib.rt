@@ -16,26 +16,22 @@
 //!   that are short or that two keys have.
 //! - A site's `from` is compared with its routers' addresses, as if their Map-Registers came from there: a configuration doesn't say
 //!   what a NAT makes of them.
+//! - The words of warnings are a table, and no contract has them: tests compare what `check` prints.
 //! - Warnings go to standard output, since they are the answer; with `--strict` they are a fault.
 #![tactic(auto)]
 
 mod adding;
-mod addresses;
 mod checking;
 mod document;
 mod further;
 mod header;
-mod itr_rlocs;
 mod keys;
 mod law;
-mod limit_words;
 mod limits;
 mod line;
 mod mode;
-mod nearest;
 mod nodes;
 mod note;
-mod place;
 mod places;
 mod position;
 mod prefixes;
@@ -51,12 +47,12 @@ pub use document::{Document, read_document};
 pub use further::further_faults;
 pub use header::{Header, headers};
 pub use keys::{Unknown, unknown_keys};
-pub use law::repeats_are_warned;
+pub use law::{repeats_are_warned, warnings_are_exact};
 pub use line::entry_line;
 pub use mode::Mode;
 pub use note::{FaultNote, fault_note};
 pub use places::{secret_place, warning_place};
 pub use position::{Position, position_at};
-pub use secret::{KeyPlace, KeySecret, SecretWarning, key_secrets, secret_line, secret_warnings};
+pub use secret::{KeyPlace, KeySecret, SecretWarning, key_secrets, secret_warnings};
 pub use warning::Warning;
-pub use words::{lined, warning_line};
+pub use words::{lined, secret_line, warning_line};

@@ -4,7 +4,7 @@ ghost use Rattle.std.specs.Prelude.{◌≡◌};
 ghost use Rattle.lisp_check.specs.Mode.{step, is_start, at_start, in_line, in_comment, is_escape, in_text, in_long};
 
 /// What a place of a text is in, by the bytes before it. A string is told by the quotes that it stands in.
-#[derive(Clone, Copy, Debug, PartialEq, Eq)]
+#[derive(Clone, Copy)]
 pub enum Mode {
     /// A line, behind blanks alone.
     Start,

@@ -44,7 +44,8 @@ pub fn secret_place(warning: SecretWarning) -> Place {
     part_place(site, Field::SiteKey, key)
 }
 
-fn node_place(config: &Config, node: usize) -> Place {
+/// The entry of a node, by its number.
+pub(crate) fn node_place(config: &Config, node: usize) -> Place {
     match config.router_place(node) {
         Some(router) => entry_place(Field::Router, router),
         None => entry_place(Field::Server, node),

@@ -4,7 +4,7 @@ ghost use Rattle.std.specs.Prelude.{◌≡◌, ◌+◌, ◌==◌, not, take, cou
 ghost use Rattle.std.specs.Int.{is_in_range};
 
 /// A place in a text. Both numbers are counted from 1; a column counts characters.
-#[derive(Clone, Copy, Debug, PartialEq, Eq)]
+#[derive(Clone, Copy)]
 pub struct Position {
     pub line: usize,
     pub column: usize,

@@ -97,7 +97,7 @@ pub(crate) fn field_of(fault: ConfigFault) -> Option<Field> {
 }
 
 /// What was left out of a document.
-#[derive(Clone, Copy, Debug, PartialEq, Eq)]
+#[derive(Clone, Copy, PartialEq)]
 enum Left {
     Nothing,
     /// A key or a value.

@@ -1,97 +1,89 @@
 //! Warnings of routers.
 
-ghost use Rattle.std.specs.Prelude.{◌≡◌, ◌↔◌, length, IsTrue, OnErr, slice_get, position};
-ghost use Rattle.std.specs.Option.{option_map};
-ghost use Rattle.lisp_records.specs.Router.{router_eq};
-ghost use Rattle.lisp_check.specs.Warning.{IsWarned, IsFirstTwin, IsFirstSharer, MayRegister, IsRefused, IsOfOtherFamily, same_key, of_router, of_records, of_servers, of_sharing, of_routers};
-ghost use Rattle.lisp_check.specs.declared.warning.Warning.TheVariants.{NoServers};
-ghost use Rattle.lisp_check.specs.Adding.{AddsWarned, NamesFirst};
+ghost use Rattle.std.specs.Prelude.{◌≡◌, OnErr, position};
+ghost use Rattle.lisp_check.specs.Warning.{Adds, each, is_of_other_family, is_twin, may_register, of_record, of_router, of_server, same_key};
 
 use crate::adding::warn_if;
 use crate::limits::{is_out_of_bounds, warn_of_limits};
-use crate::place::at;
+use crate::nodes::is_like;
 use crate::warning::Warning;
 use lisp_memory::Memory;
 use lisp_policy::Sites;
-use lisp_records::{Prefix, RouterId};
-use lisp_sites::{Config, RouterEntry};
+use lisp_records::{MapRecord, Prefix};
+use lisp_sites::{Config, RouterEntry, ServerEntry};
 use std::alloc::{AllocError, Allocator};
 
-/// Adds the warnings of all routers.
+/// Adds the warnings of these routers of a configuration.
 pub(crate) fn warn_of_routers<M: Memory, A: Allocator>(
     warnings: &mut Vec<Warning, M>,
     config: &Config<A>,
+    routers: &[RouterEntry<A>],
 ) -> Result<(), AllocError>
-    ensures added { AddsWarned result warnings.old warnings.new config.now (of_routers config.now) }
+    ensures added { Adds result warnings.old warnings.new (each (of_router config.now) routers.now) }
     ensures memory { OnErr result M.may_refuse }
 {
-    for place in 0..config.routers().len() {
-        warn_of_router(warnings, config, place)?;
+    for place in 0..routers.len() {
+        warn_of_router(warnings, config, place, &routers[place])?;
     }
     Ok(())
 }
 
+// Adds the warnings of a router: of its identity, its records, its Map-Servers, its key, and its site's limits.
+#[tactic(auto, using(crate::proofs::Each::steps))]
 fn warn_of_router<M: Memory, A: Allocator>(
     warnings: &mut Vec<Warning, M>,
     config: &Config<A>,
     router: usize,
+    entry: &RouterEntry<A>,
 ) -> Result<(), AllocError>
-    ensures added { AddsWarned result warnings.old warnings.new config.now
-        (of_router config.now.routers router) }
+    ensures added { Adds result warnings.old warnings.new (of_router config.now router entry.now) }
     ensures memory { OnErr result M.may_refuse }
 {
-    let first = first_like(config, router);
+    let routers = config.routers();
+    let first = first_identical(routers, entry).unwrap_or(router);
     warn_if(
         warnings,
         first != router,
         Warning::SameIdentity { first, router },
     )?;
-    warn_of_records(warnings, config, router)?;
-    warn_of_servers(warnings, config, router)?;
-    warn_of_sharing(warnings, config, router)?;
-    warn_of_limits(warnings, config, router)
-}
-
-// Adds that a router has the key of another one, and that it has no Map-Servers.
-fn warn_of_sharing<M: Memory, A: Allocator>(
-    warnings: &mut Vec<Warning, M>,
-    config: &Config<A>,
-    router: usize,
-) -> Result<(), AllocError>
-    ensures added { AddsWarned result warnings.old warnings.new config.now
-        (of_sharing (length config.now.routers) router) }
-    ensures memory { OnErr result M.may_refuse }
-{
-    let first = first_sharer(config, router);
+    let sites = config.sites();
+    warn_of_records(warnings, sites, router, entry, entry.database.records())?;
+    let servers = entry.servers.as_slice();
+    warn_of_servers(warnings, config.servers(), router, entry, servers)?;
+    let first = first_with_key(routers, entry).unwrap_or(router);
     warn_if(
         warnings,
         first != router,
         Warning::SameKey { first, router },
     )?;
-    warn_if(
-        warnings,
-        has_no_servers(config, router),
-        Warning::NoServers { router },
-    )
+    warn_if(warnings, servers.is_empty(), Warning::NoServers { router })?;
+    warn_of_limits(warnings, sites, router, entry)
 }
 
-// The first router that uses the key of this one; this one, where there is none.
-fn first_sharer<A: Allocator>(config: &Config<A>, router: usize) -> usize
-    ensures { NamesFirst (IsFirstSharer config.now.routers router) router result }
+// The first router with the identity of this one.
+fn first_identical<A: Allocator>(
+    routers: &[RouterEntry<A>],
+    router: &RouterEntry<A>,
+) -> Option<usize>
+    ensures { result ≡ position (is_twin router.now) routers.now }
 {
-    match router_at(config, router) {
-        Some(entry) => first_with_key(config, entry).unwrap_or(router),
-        None => router,
-    }
+    routers.iter().position(|other| is_twin(router, other))
 }
 
-fn first_with_key<A: Allocator>(config: &Config<A>, router: &RouterEntry<A>) -> Option<usize>
-    ensures { result ≡ position (same_key router.now) config.now.routers }
+fn is_twin<A: Allocator>(router: &RouterEntry<A>, other: &RouterEntry<A>) -> bool
+    ensures { result ≡ is_twin router.now other.now }
 {
-    config
-        .routers()
-        .iter()
-        .position(|other| has_same_key(router, other))
+    other.me == router.me
+}
+
+// The first router of the site of this one that uses its key.
+fn first_with_key<A: Allocator>(
+    routers: &[RouterEntry<A>],
+    router: &RouterEntry<A>,
+) -> Option<usize>
+    ensures { result ≡ position (same_key router.now) routers.now }
+{
+    routers.iter().position(|other| has_same_key(router, other))
 }
 
 fn has_same_key<A: Allocator>(router: &RouterEntry<A>, other: &RouterEntry<A>) -> bool
@@ -100,89 +92,59 @@ fn has_same_key<A: Allocator>(router: &RouterEntry<A>, other: &RouterEntry<A>) -
     other.me.site == router.me.site && other.key_id == router.key_id
 }
 
-fn has_no_servers<A: Allocator>(config: &Config<A>, router: usize) -> bool
-    ensures { IsTrue result ↔ IsWarned config.now (NoServers router) }
-{
-    match router_at(config, router) {
-        Some(entry) => servers_of(entry).is_empty(),
-        None => false,
-    }
-}
-
-// The first router with the identity of this one; this one, where there is none.
-fn first_like<A: Allocator>(config: &Config<A>, router: usize) -> usize
-    ensures { NamesFirst (IsFirstTwin config.now.routers router) router result }
-{
-    match router_at(config, router) {
-        Some(entry) => first_identical(config, entry).unwrap_or(router),
-        None => router,
-    }
-}
-
-// The first router with the identity.
-fn first_identical<A: Allocator>(config: &Config<A>, router: &RouterEntry<A>) -> Option<usize>
-    ensures { result ≡ position (λ r. router_eq r.me router.now.me) config.now.routers }
-{
-    let me = router.me;
-    config
-        .routers()
-        .iter()
-        .position(|other| is_router(other, me))
-}
-
-fn is_router<A: Allocator>(router: &RouterEntry<A>, me: RouterId) -> bool
-    ensures { result ≡ router_eq router.now.me me }
-{
-    router.me == me
-}
-
-// Adds the warnings of a router's records.
+// Adds the warnings of these records of a router.
 fn warn_of_records<M: Memory, A: Allocator>(
     warnings: &mut Vec<Warning, M>,
-    config: &Config<A>,
+    sites: &Sites<A>,
     router: usize,
+    entry: &RouterEntry<A>,
+    records: &[MapRecord<A>],
 ) -> Result<(), AllocError>
-    ensures added { AddsWarned result warnings.old warnings.new config.now
-        (of_records router (slice_get config.now.routers router)) }
+    ensures added { Adds result warnings.old warnings.new
+        (each (of_record sites.now router entry.now) records.now) }
     ensures memory { OnErr result M.may_refuse }
 {
-    let Some(entry) = router_at(config, router) else {
-        return Ok(());
-    };
-    for place in 0..record_count(entry) {
-        warn_if(
-            warnings,
-            is_refused(config, entry, place),
-            Warning::NotAllowed {
-                router,
-                record: place,
-            },
-        )?;
-        warn_if(
-            warnings,
-            is_out_of_bounds(config, entry, place),
-            Warning::OutOfBounds {
-                router,
-                record: place,
-            },
-        )?;
+    for place in 0..records.len() {
+        warn_of_record(warnings, sites, router, entry, place, &records[place])?;
     }
     Ok(())
 }
 
-// Whether the router's site doesn't allow the record at this place.
-fn is_refused<A: Allocator>(config: &Config<A>, router: &RouterEntry<A>, place: usize) -> bool
-    ensures { IsTrue result ↔ IsRefused config.now.sites router.now place }
+// Adds that its site doesn't allow a record, and that the site's limits don't.
+#[tactic(auto, using(crate::proofs::Each::steps))]
+fn warn_of_record<M: Memory, A: Allocator>(
+    warnings: &mut Vec<Warning, M>,
+    sites: &Sites<A>,
+    router: usize,
+    entry: &RouterEntry<A>,
+    place: usize,
+    record: &MapRecord<A>,
+) -> Result<(), AllocError>
+    ensures added { Adds result warnings.old warnings.new
+        (of_record sites.now router entry.now place «record».now) }
+    ensures memory { OnErr result M.may_refuse }
 {
-    match at(router.database.records(), place) {
-        Some(record) => !may_register(config.sites(), router.me.site, record.eid_ref()),
-        None => false,
-    }
+    warn_if(
+        warnings,
+        !may_register(sites, entry.me.site, record.eid_ref()),
+        Warning::NotAllowed {
+            router,
+            record: place,
+        },
+    )?;
+    warn_if(
+        warnings,
+        is_out_of_bounds(sites, entry, record.ttl()),
+        Warning::OutOfBounds {
+            router,
+            record: place,
+        },
+    )
 }
 
 // Whether the site of a Site-ID allows the prefix.
 fn may_register<A: Allocator>(sites: &Sites<A>, id: u64, eid: &Prefix) -> bool
-    ensures { IsTrue result ↔ MayRegister sites.now id eid.now }
+    ensures { result ≡ may_register sites.now id eid.now }
 {
     match sites.site(id) {
         Some(site) => site.allows(eid),
@@ -190,24 +152,23 @@ fn may_register<A: Allocator>(sites: &Sites<A>, id: u64, eid: &Prefix) -> bool
     }
 }
 
-// Adds the warnings of the Map-Servers that a router registers with.
+// Adds the warnings of the Map-Servers at these places, with which a router registers.
 fn warn_of_servers<M: Memory, A: Allocator>(
     warnings: &mut Vec<Warning, M>,
-    config: &Config<A>,
+    servers: &[ServerEntry<A>],
     router: usize,
+    entry: &RouterEntry<A>,
+    places: &[usize],
 ) -> Result<(), AllocError>
-    ensures added { AddsWarned result warnings.old warnings.new config.now
-        (of_servers router (slice_get config.now.routers router)) }
+    ensures added { Adds result warnings.old warnings.new
+        (each (of_server servers.now router entry.now) places.now) }
     ensures memory { OnErr result M.may_refuse }
 {
-    let Some(entry) = router_at(config, router) else {
-        return Ok(());
-    };
-    for place in servers_of(entry) {
+    for place in places {
         let server = *place;
         warn_if(
             warnings,
-            is_of_other_family(config, entry, server),
+            is_of_other_family(servers, entry, server),
             Warning::OtherFamily { router, server },
         )?;
     }
@@ -216,34 +177,14 @@ fn warn_of_servers<M: Memory, A: Allocator>(
 
 // Whether the router and the Map-Server at this place are of different address families.
 fn is_of_other_family<A: Allocator>(
-    config: &Config<A>,
+    servers: &[ServerEntry<A>],
     router: &RouterEntry<A>,
     place: usize,
 ) -> bool
-    ensures { IsTrue result ↔ IsOfOtherFamily config.now.servers router.now place }
+    ensures { result ≡ is_of_other_family servers.now router.now place }
 {
-    match at(config.servers(), place) {
-        Some(server) => server.address.family() != router.address.family(),
+    match servers.get(place) {
+        Some(server) => !is_like(&server.address, &router.address),
         None => false,
     }
-}
-
-fn router_at<A: Allocator>(config: &Config<A>, place: usize) -> Option<&RouterEntry<A>>
-    ensures { option_map (λ r. r.now) result ≡ slice_get config.now.routers place }
-{
-    at(config.routers(), place)
-}
-
-// How many records a router registers.
-fn record_count<A: Allocator>(router: &RouterEntry<A>) -> usize
-    ensures { result ≡ length router.now.database }
-{
-    router.database.records().len()
-}
-
-// The places of the Map-Servers that a router registers with.
-fn servers_of<A: Allocator>(router: &RouterEntry<A>) -> &[usize]
-    ensures { result.now ≡ router.now.servers }
-{
-    router.servers.as_slice()
 }

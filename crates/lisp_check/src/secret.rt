@@ -1,12 +1,11 @@
 //! Secrets that are short, or alike.
 
 ghost use Rattle.std.specs.Prelude.{◌≡◌, ◌++◌, List, IfOk, OnOk};
-ghost use Rattle.lisp_check.specs.Words.{GivesText};
-ghost use Rattle.lisp_check.specs.Secret.{KeySecretValue, AreFirsts, AddsFirst, AddsSecret, is_short, is_place, unless_own, first_like, short_of, same_of, of_secret, of_secrets, secret_text};
+ghost use Rattle.lisp_check.specs.Warning.{Adds};
+ghost use Rattle.lisp_check.specs.Secret.{KeySecretValue, AreFirsts, AddsFirst, is_short, is_place, unless_own, first_like, short_of, same_of, of_secret, of_secrets};
 
 use crate::document::{Document, elements};
-use crate::words::SiteNumber;
-use lisp_memory::{FallibleMap, FallibleString, FallibleVec};
+use lisp_memory::{FallibleMap, FallibleVec};
 use lisp_records::Bytes;
 use lisp_texts::secret_from_text;
 use std::alloc::{AllocError, Global};
@@ -19,23 +18,17 @@ use toml::Value;
 const ENOUGH: usize = 16;
 
 /// A key of a site, both from 0 on.
-#[derive(Clone, Copy, Debug, PartialEq, Eq)]
+#[derive(Clone, Copy)]
 pub struct KeyPlace {
     pub site: usize,
     pub key: usize,
 }
 
 impl Display for KeyPlace {
-    ghost use Rattle.std.specs.Prelude.{Some};
-    ghost use Rattle.lisp_check.specs.Secret.{key_words};
-
-    ghost output = { λ place. Some (key_words place) };
-
     // Both are counted from 1.
     fn fmt<W: Write>(&self, formatter: &mut Formatter<W>) -> fmt::Result {
-        let site = SiteNumber { place: self.site };
-        let number = self.key.saturating_add(1);
-        write!(formatter, "{site}, key {number}")
+        let (site, key) = (self.site.saturating_add(1), self.key.saturating_add(1));
+        write!(formatter, "site {site}, key {key}")
     }
 }
 
@@ -55,7 +48,7 @@ impl Model for KeySecret {
 }
 
 /// A warning of a secret.
-#[derive(Clone, Copy, Debug, PartialEq, Eq)]
+#[derive(Clone, Copy)]
 pub enum SecretWarning {
     /// It has fewer than 16 bytes.
     Short { place: KeyPlace },
@@ -149,7 +142,7 @@ fn warn_of_secret(
 }
 
 fn warn_of_length(warnings: &mut Vec<SecretWarning>, secret: &KeySecret) -> Result<(), AllocError>
-    ensures { AddsSecret result warnings.old warnings.new (short_of secret.now) }
+    ensures { Adds result warnings.old warnings.new (short_of secret.now) }
 {
     if is_short(secret) {
         let place = secret.place;
@@ -163,7 +156,7 @@ fn warn_of_like(
     place: KeyPlace,
     first: Option<KeyPlace>,
 ) -> Result<(), AllocError>
-    ensures { AddsSecret result warnings.old warnings.new (same_of place first) }
+    ensures { Adds result warnings.old warnings.new (same_of place first) }
 {
     if let Some(first) = first {
         warnings.try_push(SecretWarning::Same { first, place })?;
@@ -203,20 +196,4 @@ fn is_place(place: KeyPlace, other: KeyPlace) -> bool
     ensures { result ≡ is_place place other }
 {
     other.site == place.site && other.key == place.key
-}
-
-/// A warning of a secret in words, after its key.
-pub fn secret_line(alloc: Global, warning: SecretWarning) -> Result<String, AllocError>
-    ensures words { GivesText result (secret_text warning) }
-{
-    match warning {
-        SecretWarning::Short { place } => String::try_format(
-            alloc,
-            format_args!("{place}: the secret has fewer than 16 bytes: it can be guessed"),
-        ),
-        SecretWarning::Same { first, place } => String::try_format(
-            alloc,
-            format_args!("{place}: the secret is that of {first} too: each key needs its own"),
-        ),
-    }
 }

@@ -1,76 +1,104 @@
 //! Warnings of sites.
 
-ghost use Rattle.std.specs.Prelude.{◌≡◌, ◌↔◌, [], length, IsTrue, OnErr};
-ghost use Rattle.lisp_check.specs.Warning.{IsWarned, of_site, of_sites};
-ghost use Rattle.lisp_check.specs.Adding.{AddsWarned};
-ghost use Rattle.lisp_check.specs.declared.warning.Warning.TheVariants.{NoKeys, NoPrefixes};
+ghost use Rattle.std.specs.Prelude.{◌≡◌, OnErr};
+ghost use Rattle.std.specs.List.{list_any};
+ghost use Rattle.lisp_policy.specs.Limits.{is_at_most};
+ghost use Rattle.lisp_check.specs.Warning.{Adds, each, has_more_routers, is_unbounded, may_get_many, of_site, routers_of};
 
 use crate::adding::warn_if;
-use crate::limits::warn_of_counts;
-use crate::place::at;
 use crate::prefixes::warn_of_prefixes;
 use crate::warning::Warning;
 use lisp_memory::Memory;
-use lisp_sites::{Config, Site};
+use lisp_sites::{RouterEntry, Site, SitePrefix};
 use std::alloc::{AllocError, Allocator};
 
-/// Adds the warnings of all sites.
+/// Adds the warnings of all sites of a configuration, which has these routers.
 pub(crate) fn warn_of_sites<M: Memory, A: Allocator>(
     warnings: &mut Vec<Warning, M>,
-    config: &Config<A>,
+    sites: &[Site<A>],
+    routers: &[RouterEntry<A>],
 ) -> Result<(), AllocError>
-    ensures added { AddsWarned result warnings.old warnings.new config.now (of_sites config.now) }
+    ensures added { Adds result warnings.old warnings.new
+        (each (of_site sites.now routers.now) sites.now) }
     ensures memory { OnErr result M.may_refuse }
 {
-    for place in 0..config.sites().as_slice().len() {
-        warn_of_site(warnings, config, place)?;
+    for place in 0..sites.len() {
+        warn_of_site(warnings, sites, routers, place, &sites[place])?;
     }
     Ok(())
 }
 
+// Adds the warnings of a site: of its keys, its prefixes, and how many rows and routers it may have.
+#[tactic(auto, using(crate::proofs::Each::steps))]
 fn warn_of_site<M: Memory, A: Allocator>(
     warnings: &mut Vec<Warning, M>,
-    config: &Config<A>,
+    sites: &[Site<A>],
+    routers: &[RouterEntry<A>],
     site: usize,
+    entry: &Site<A>,
 ) -> Result<(), AllocError>
-    ensures added { AddsWarned result warnings.old warnings.new config.now
-        (of_site config.now.sites site) }
+    ensures added { Adds result warnings.old warnings.new
+        (of_site sites.now routers.now site entry.now) }
     ensures memory { OnErr result M.may_refuse }
 {
+    warn_if(warnings, entry.keys().is_empty(), Warning::NoKeys { site })?;
     warn_if(
         warnings,
-        has_no_keys(config, site),
-        Warning::NoKeys { site },
-    )?;
-    warn_if(
-        warnings,
-        has_no_prefixes(config, site),
+        entry.prefixes().is_empty(),
         Warning::NoPrefixes { site },
     )?;
-    warn_of_prefixes(warnings, config, site)?;
-    warn_of_counts(warnings, config, site)
+    warn_of_prefixes(warnings, sites, site, entry.id(), entry.prefixes())?;
+    warn_if(warnings, is_unbounded(entry), Warning::NoMostRows { site })?;
+    warn_if(
+        warnings,
+        has_more_routers(routers, entry),
+        Warning::ManyRouters { site },
+    )
 }
 
-fn has_no_keys<A: Allocator>(config: &Config<A>, site: usize) -> bool
-    ensures { IsTrue result ↔ IsWarned config.now (NoKeys site) }
+// Whether a site may get many rows, and nothing bounds them.
+fn is_unbounded<A: Allocator>(site: &Site<A>) -> bool
+    ensures { result ≡ is_unbounded site.now }
 {
-    match at(config.sites().as_slice(), site) {
-        Some(site) => is_without_keys(site),
-        None => false,
-    }
+    may_get_many(site) && site.limits().most_rows.is_none()
 }
 
-fn is_without_keys<A: Allocator>(site: &Site<A>) -> bool
-    ensures { IsTrue result ↔ (site.now.keys ≡ []) }
+// Whether it has a prefix with more-specifics, or several keys.
+fn may_get_many<A: Allocator>(site: &Site<A>) -> bool
+    ensures { result ≡ may_get_many site.now }
 {
-    site.keys().is_empty()
+    has_more_specifics(site.prefixes()) || site.keys().len() > 1
 }
 
-fn has_no_prefixes<A: Allocator>(config: &Config<A>, site: usize) -> bool
-    ensures { IsTrue result ↔ IsWarned config.now (NoPrefixes site) }
+fn has_more_specifics(prefixes: &[SitePrefix]) -> bool
+    ensures { result ≡ list_any (λ p. p.more_specifics) prefixes.now }
 {
-    match at(config.sites().as_slice(), site) {
-        Some(site) => site.prefixes().is_empty(),
-        None => false,
+    prefixes.iter().any(|prefix| prefix.more_specifics)
+}
+
+// Whether a site has more routers than may have rows.
+fn has_more_routers<A: Allocator>(routers: &[RouterEntry<A>], site: &Site<A>) -> bool
+    ensures { result ≡ has_more_routers routers.now site.now }
+{
+    !is_at_most(site.limits().most_routers, routers_of(routers, site.id()))
+}
+
+// How many routers of a site there are.
+fn routers_of<A: Allocator>(routers: &[RouterEntry<A>], site: u64) -> usize
+    ensures { result ≡ routers_of routers.now site }
+{
+    routers
+        .iter()
+        .filter(|router| router.me.site == site)
+        .count()
+}
+
+/// Whether a number isn't above a limit, where there is one.
+pub(crate) fn is_at_most(most: Option<u32>, count: usize) -> bool
+    ensures { result ≡ is_at_most most count }
+{
+    match most {
+        Some(most) => count <= most as usize,
+        None => true,
     }
 }

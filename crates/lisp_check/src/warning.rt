@@ -2,7 +2,7 @@
 
 /// A warning of a configuration. Each number is a place in a list of the configuration, from 0 on; a node's counts the
 /// Map-Servers, then the routers.
-#[derive(Clone, Copy, Debug, PartialEq, Eq)]
+#[derive(Clone, Copy)]
 pub enum Warning {
     /// There are no Map-Servers and no routers.
     NoNodes,

@@ -18,10 +18,9 @@ use Rattle.lisp_model.proofs.Locality.{same_number}
 use Rattle.lisp_model.proofs.ListLemmas.{at_head, in_tail}
 use Rattle.lisp_client.specs.Steps.{IsIn}
 use Rattle.lisp_client.specs.Promised.{AcceptedWereSent, CountedWasAccepted, CountedWereAccepted, DoneWasNoticed}
-use Rattle.lisp_client.proofs.Steps.{goes_up, each_at}
-use Rattle.lisp_client.proofs.Arrivals.{taken_of}
-use Rattle.lisp_client.proofs.AcceptedSteps.{stays_accepted, was_accepted}
-use Rattle.lisp_client.proofs.Entries.{was_entered, was_sent, router_sends, one_router}
+use Rattle.lisp_client.proofs.Steps.{goes_up, each_at, taken_of, stays_accepted, was_accepted}
+use Rattle.lisp_client.proofs.Rows.{was_entered, was_sent, router_sends}
+use Rattle.lisp_model.proofs.CleanLaws.{one_router}
 
 -- each Map-Register that was accepted was sent
 pub accepted_were_sent : (o : Opening) (T : List Step) → AcceptedWasSent o T → AcceptedWereSent o T

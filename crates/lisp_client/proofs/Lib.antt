@@ -1,11 +1,5 @@
-pub mod Promise
 pub mod Steps
-pub mod Arrivals
-pub mod AcceptedSteps
-pub mod Rises
-pub mod Tries
-pub mod Entries
 pub mod Rows
 pub mod Counts
-pub mod Stores
+pub mod Promise
 pub mod Looking

@@ -5,7 +5,7 @@ use Rattle.lisp_records.specs.Address.{masked}
 use Rattle.lisp_budget.specs.Budget.{destination}
 use Rattle.lisp_budget.specs.Sent.{KeepsBudget}
 use Rattle.lisp_policy.specs.Configuration.{ConfigValue}
-use Rattle.lisp_resolve.specs.Sends.{DatagramValue}
+use Rattle.lisp_mapping.specs.Sends.{DatagramValue}
 use Rattle.lisp_turns.specs.Outside.{Nothing, Call, Receives, Reads, Prints, Replies}
 use Rattle.lisp_turns.specs.Requests.{counted}
 use Rattle.lisp_turns.specs.Turn.{UncutTurns}

@@ -8,8 +8,8 @@ use Rattle.lisp_budget.specs.Sent.{SentValue}
 use Rattle.lisp_mapping.specs.Handling.{HandledValue}
 use Rattle.lisp_mapping.specs.declared.outcome.Outcome.{Outcome}
 use Rattle.lisp_policy.specs.Configuration.{ConfigValue}
-use Rattle.lisp_resolve.specs.Sends.{DatagramValue}
-use Rattle.lisp_resolve.specs.declared.unasked.Unasked.{Unasked}
+use Rattle.lisp_mapping.specs.Sends.{DatagramValue}
+use Rattle.lisp_mapping.specs.declared.unasked.Unasked.{Unasked}
 use Rattle.lisp_turns.specs.Node.{NodeState}
 use Rattle.lisp_turns.specs.Outside.{Call, Prints, Requests}
 use Rattle.lisp_turns.specs.Requests.{Passage, Held, Sent, is_sent, counted, PassesEach, PassesOf, RequestDeed, DoesRequests, passage_calls, passages_calls, outcome_calls, made_calls, deed_calls, deeds_calls, end_calls, answered_calls}

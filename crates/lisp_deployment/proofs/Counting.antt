@@ -23,7 +23,7 @@ use Rattle.lisp_model.proofs.CleanLemmas.{server_of}
 use Rattle.lisp_model.proofs.HeardLines.{IsCounted, counted_of}
 use Rattle.lisp_model.proofs.HearingLemmas.{IsHeard, is_heard, knows_own, router_of as one_router}
 use Rattle.lisp_model.proofs.ListLemmas.{head_or_tail}
-use Rattle.lisp_model.proofs.OriginLaws.{were_sent}
+use Rattle.lisp_model.proofs.Origins.{were_sent}
 use Rattle.lisp_model.proofs.ReplyOrigins.{entry_is}
 use Rattle.lisp_refinement.specs.World.{DatagramValue}
 use Rattle.lisp_refinement.proofs.Places.{all_at}

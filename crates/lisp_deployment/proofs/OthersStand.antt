@@ -18,8 +18,7 @@ use Rattle.lisp_model.proofs.Locality.{leaves_others}
 use Rattle.lisp_refinement.specs.World.{ServerNodeState, RouterNodeState, WorldState}
 use Rattle.lisp_refinement.specs.Stands.{Shows, StandsForServer, StandsForRouter, Stands}
 use Rattle.lisp_refinement.proofs.Gets.{AtSet, get_set}
-use Rattle.lisp_refinement.proofs.Going.{StandsForRows, server_rows, server_goes, router_stays}
-use Rattle.lisp_refinement.proofs.Acting.{server_is, router_is, router_number}
+use Rattle.lisp_refinement.proofs.Acting.{StandsForRows, server_rows, server_goes, router_stays, server_is, router_is, router_number}
 use Rattle.lisp_turns.specs.Node.{NodeState, Server, Router, HasNode, with_node}
 use Rattle.lisp_turns.specs.Part.{IsOwn}
 use Rattle.lisp_turns.proofs.Acting.{get_set_there}

@@ -20,9 +20,8 @@ use Rattle.lisp_model.specs.Trace.{Step, Opening}
 use Rattle.lisp_model.proofs.ListLemmas.{at_head, in_tail, head_or_tail, in_none}
 use Rattle.lisp_refinement.specs.World.{WorldState}
 use Rattle.lisp_client.specs.Steps.{Arrives}
-use Rattle.lisp_client.proofs.AcceptedSteps.{adds}
-use Rattle.lisp_client.proofs.Arrivals.{taken_of, accepting}
-use Rattle.lisp_client.proofs.Rises.{pair_at, nonces_of-own}
+use Rattle.lisp_client.proofs.Steps.{adds, taken_of, accepting}
+use Rattle.lisp_client.proofs.Promise.{pair_at, nonces_of-own}
 use Rattle.lisp_turns.specs.Act.{numbered}
 use Rattle.lisp_turns.specs.Acts.{acts_calls}
 use Rattle.lisp_turns.specs.Part.{ArePrinted, lines_of}

@@ -32,8 +32,7 @@ use Rattle.lisp_refinement.specs.World.{DatagramValue, WorldState}
 use Rattle.lisp_refinement.specs.Stands.{Stands}
 use Rattle.lisp_refinement.proofs.Gets.{none_is_some, same_some}
 use Rattle.lisp_refinement.proofs.ServerArrivals.{carries_arrival}
-use Rattle.lisp_client.proofs.AcceptedSteps.{adds}
-use Rattle.lisp_client.proofs.Arrivals.{taken_of, taken_alone, accepting}
+use Rattle.lisp_client.proofs.Steps.{adds, taken_of, taken_alone, accepting}
 use Rattle.lisp_deployment.proofs.Adding.{carried}
 use Rattle.lisp_deployment.proofs.Standing.{goes_out, are_high}
 

@@ -19,10 +19,9 @@ use Rattle.lisp_model.proofs.ListLemmas.{at_head, in_tail, head_or_tail, in_none
 use Rattle.lisp_refinement.specs.Headline.{Lists}
 use Rattle.lisp_refinement.specs.World.{ServerNodeState, WorldState}
 use Rattle.lisp_client.specs.Steps.{WasSent}
-use Rattle.lisp_client.proofs.AcceptedSteps.{stays_accepted}
-use Rattle.lisp_client.proofs.Arrivals.{taken_of}
-use Rattle.lisp_client.proofs.Entries.{entry_of, was_entered, enters, router_sends, one_router}
-use Rattle.lisp_client.proofs.Rows.{registered, agree}
+use Rattle.lisp_client.proofs.Steps.{stays_accepted, taken_of}
+use Rattle.lisp_model.proofs.CleanLaws.{one_router}
+use Rattle.lisp_client.proofs.Rows.{entry_of, was_entered, enters, router_sends, registered, agree}
 use Rattle.lisp_turns.specs.Act.{numbered}
 use Rattle.lisp_turns.specs.Acts.{acts_calls}
 use Rattle.lisp_turns.specs.Node.{NodeState, Server, HasNode}

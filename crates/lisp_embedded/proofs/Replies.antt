@@ -22,8 +22,8 @@ use Rattle.lisp_replies.specs.declared.reply.Reply.{Reply}
 use Rattle.lisp_replies.specs.declared.reply.Reply.TheVariants.{Records, Negative as NegativeReply, Forward, Silent}
 use Rattle.lisp_replies.specs.Own.{IsOwnReply, OwnRepliesFor, OwnRepliesNone}
 use Rattle.lisp_replies.specs.Reply.{IsReply, RepliesFor, RepliesNone}
-use Rattle.lisp_resolve.specs.Sends.{replied}
-use Rattle.lisp_resolve.specs.declared.replier.Replier.{Replier}
+use Rattle.lisp_mapping.specs.Sends.{replied}
+use Rattle.lisp_mapping.specs.declared.replier.Replier.{Replier}
 use Rattle.lisp_mapping.specs.Handling.{outcome_of}
 use Rattle.lisp_embedded.specs.Replying.{Fits, HostedReplyValue, Says, SendsTheSame, map_reply_of, negative_of, spelled_reply}
 

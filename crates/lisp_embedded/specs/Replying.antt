@@ -6,9 +6,9 @@ use Rattle.lisp_requests.specs.Reply.{MapReplyValue, written_reply}
 use Rattle.lisp_replies.specs.declared.reply.Negative.{Negative}
 use Rattle.lisp_replies.specs.declared.reply.Reply.{Reply}
 use Rattle.lisp_replies.specs.declared.reply.Reply.TheVariants.{Records, Negative as NegativeReply, Forward, Silent}
-use Rattle.lisp_resolve.specs.Asked.{AskedValue, is_router}
-use Rattle.lisp_resolve.specs.Sends.{DatagramValue, forwarded, sent_for}
-use Rattle.lisp_resolve.specs.declared.replier.Replier.{Replier}
+use Rattle.lisp_mapping.specs.Asked.{AskedValue, is_router}
+use Rattle.lisp_mapping.specs.Sends.{DatagramValue, forwarded, sent_for}
+use Rattle.lisp_mapping.specs.declared.replier.Replier.{Replier}
 use Rattle.lisp_mapping.specs.Handling.{outcome_of}
 use Rattle.lisp_mapping.specs.declared.outcome.Outcome.{Outcome}
 use Rattle.lisp_mapping.specs.declared.outcome.Outcome.TheVariants as outcomes

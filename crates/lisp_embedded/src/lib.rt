@@ -12,8 +12,7 @@
 #![tactic(auto)]
 
 mod host_store;
-mod hosted_router;
-mod hosted_server;
+mod hosted;
 pub mod laws;
 mod notice;
 mod pair;
@@ -25,8 +24,7 @@ mod router_send;
 mod router_start;
 mod server_handle;
 
-pub use hosted_router::HostedRouter;
-pub use hosted_server::HostedServer;
+pub use hosted::{HostedRouter, HostedServer};
 pub use notice::{HostedNotice, notify_kept};
 pub use pair::pair_needed;
 pub use parts::BoxParts;

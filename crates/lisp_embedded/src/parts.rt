@@ -34,14 +34,3 @@ impl<T: Drop, A: Allocator> BoxParts<T, A> {
         unsafe { Box::from_raw(alloc, at) }
     }
 }
-
-#[cfg(test)]
-mod tests {
-    use super::*;
-
-    #[test]
-    fn a_box_taken_apart_is_made_again(rt: HostRuntime) {
-        let whole = Box::new(rt.alloc(), 7u32).expect(&rt, "the room");
-        assert_eq!(rt; *BoxParts::of(whole).into_box(), 7);
-    }
-}

@@ -6,15 +6,14 @@ ghost use Rattle.lisp_mapping.specs.Handling.{outcome_of};
 ghost use Rattle.lisp_replies.specs.Own.{IsOwnReply};
 ghost use Rattle.lisp_replies.specs.Reply.{IsReply};
 ghost use Rattle.lisp_requests.specs.Reply.{IsMapReply, written_reply};
-ghost use Rattle.lisp_resolve.specs.declared.replier.Replier.TheVariants.{MapServer, Router};
+ghost use Rattle.lisp_mapping.specs.declared.replier.Replier.TheVariants.{MapServer, Router};
 
 use lisp_etr::Etr;
-use lisp_mapping::Outcome;
+use lisp_mapping::{Outcome, Replier};
 use lisp_memory::{FallibleVec, Memory};
 use lisp_records::{Addr, MapRecord, Prefix, Records};
 use lisp_replies::{Negative, Reply};
 use lisp_requests::{MapReply, write_reply};
-use lisp_resolve::Replier;
 use lisp_server::Server;
 use std::alloc::{AllocError, Allocator, Global};
 use std::marker::Model;

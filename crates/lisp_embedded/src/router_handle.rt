@@ -6,10 +6,10 @@ ghost use Rattle.std.specs.declared.option.Option.{Option};
 ghost use Rattle.std.specs.declared.option.Option.TheVariants.{None, Some};
 ghost use Rattle.std.specs.Coded.{codes};
 ghost use Rattle.lisp_embedded.specs.Held.{held};
-ghost use Rattle.lisp_embedded.specs.contracts.hosted_router.HostedRouter.{the_row as core_row};
-ghost use Rattle.lisp_embedded.specs.declared.hosted_router.HostedRouter.{HostedRouter as State};
+ghost use Rattle.lisp_embedded.specs.contracts.hosted.HostedRouter.{the_row as core_row};
+ghost use Rattle.lisp_embedded.specs.declared.hosted.HostedRouter.{HostedRouter as State};
 
-use crate::hosted_router::HostedRouter;
+use crate::hosted::HostedRouter;
 use crate::parts::BoxParts;
 use std::alloc::Global;
 use std::marker::Model;

@@ -7,10 +7,10 @@ ghost use Rattle.std.specs.declared.option.Option.TheVariants.{None, Some};
 ghost use Rattle.std.specs.Coded.{codes};
 ghost use Rattle.lisp_embedded.specs.Held.{held};
 ghost use Rattle.lisp_server.specs.LastNonces.{nonces_code};
-ghost use Rattle.lisp_embedded.specs.contracts.hosted_server.HostedServer.{the_row as core_row};
-ghost use Rattle.lisp_embedded.specs.declared.hosted_server.HostedServer.{HostedServer as State};
+ghost use Rattle.lisp_embedded.specs.contracts.hosted.HostedServer.{the_row as core_row};
+ghost use Rattle.lisp_embedded.specs.declared.hosted.HostedServer.{HostedServer as State};
 
-use crate::hosted_server::HostedServer;
+use crate::hosted::HostedServer;
 use crate::parts::BoxParts;
 use std::alloc::Global;
 use std::marker::Model;

@@ -8,7 +8,7 @@
 //!   system's error. Of a database it is std's word for the error's kind, since SQLite keeps no more.
 //! - Readers and writers are watched (`WatchedReader`, `WatchedWriter`), so that `play` and `answer` need not pass an error on.
 //!   `RunFault` stays a number and a line, and an `Ending` has the words too.
-//! - The line that closes an answer stands here, since the node that writes it (`lisp_udp`) and the program that reads it
+//! - The line that closes an answer stands here, since the node that writes it (`lisp_control_socket`) and the program that reads it
 //!   (`lispd_cli`) both stand on this crate. The program judges by it alone whether an answer is whole, and by none of its words.
 #![tactic(auto)]
 

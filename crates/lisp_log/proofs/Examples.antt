@@ -6,7 +6,7 @@ use Rattle.lisp_records.specs.declared.address.Addr.TheVariants.{V4}
 use Rattle.lisp_records.specs.Address.{PrefixValue}
 use Rattle.lisp_records.specs.declared.router.RouterId.{RouterId}
 use Rattle.lisp_requests.specs.declared.fault.RequestFault.TheVariants.{Security}
-use Rattle.lisp_resolve.specs.declared.unasked.Unasked.TheVariants.{Request, Unlisted}
+use Rattle.lisp_mapping.specs.declared.unasked.Unasked.TheVariants.{Request, Unlisted}
 use Rattle.lisp_turns.specs.declared.outside.Printed.TheVariants as printed
 use Rattle.lisp_log.specs.declared.repeats.Repeated.TheVariants as repeated
 use Rattle.lisp_log.specs.Log.{repeating}

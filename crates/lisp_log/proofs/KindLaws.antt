@@ -16,9 +16,9 @@ use Rattle.lisp_model.specs.declared.line.Line.TheVariants as lines
 use Rattle.lisp_model.specs.declared.refusal.Refusal.{Refusal}
 use Rattle.lisp_model.specs.declared.refusal.Refusal.TheVariants as refusals
 use Rattle.lisp_requests.specs.declared.fault.RequestFault.TheVariants as requests
-use Rattle.lisp_resolve.specs.Unasked.{unasked_number}
-use Rattle.lisp_resolve.specs.declared.unasked.Unasked.{Unasked}
-use Rattle.lisp_resolve.specs.declared.unasked.Unasked.TheVariants as unasked
+use Rattle.lisp_mapping.specs.Unasked.{unasked_number}
+use Rattle.lisp_mapping.specs.declared.unasked.Unasked.{Unasked}
+use Rattle.lisp_mapping.specs.declared.unasked.Unasked.TheVariants as unasked
 use Rattle.lisp_turns.specs.declared.outside.Printed.TheVariants as printed
 use Rattle.lisp_log.specs.declared.repeats.Repeated.TheVariants.{Refused, Replied}
 use Rattle.lisp_log.specs.Few.{kinds, KindsAreAll}

@@ -14,7 +14,7 @@ use Rattle.lisp_model.specs.declared.refusal.Refusal.TheVariants as refusals
 use Rattle.lisp_model.specs.declared.line.Line.TheVariants as lines
 use Rattle.lisp_mapping.specs.declared.outcome.Outcome.{Outcome}
 use Rattle.lisp_mapping.specs.declared.outcome.Outcome.TheVariants as outcomes
-use Rattle.lisp_resolve.specs.Unasked.{unasked_number}
+use Rattle.lisp_mapping.specs.Unasked.{unasked_number}
 use Rattle.lisp_turns.specs.declared.outside.Printed.{Printed}
 use Rattle.lisp_turns.specs.declared.outside.Printed.TheVariants as printed
 use Rattle.lisp_log.specs.declared.moves.Whereabouts.{Whereabouts}

@@ -21,7 +21,7 @@ use Rattle.lisp_lines.specs.Name.{node_name, router_word}
 use Rattle.lisp_lines.specs.declared.wording.Wording.TheVariants.{Node}
 use Rattle.lisp_mapping.specs.declared.outcome.Outcome.{Outcome}
 use Rattle.lisp_mapping.specs.declared.outcome.Outcome.TheVariants as outcomes
-use Rattle.lisp_resolve.specs.Unasked.{unasked_number}
+use Rattle.lisp_mapping.specs.Unasked.{unasked_number}
 use Rattle.lisp_turns.specs.declared.outside.Printed.{Printed}
 use Rattle.lisp_turns.specs.declared.outside.Printed.TheVariants as printed
 use Rattle.lisp_turns.specs.declared.outside.SocketCall.{SocketCall}

@@ -5,9 +5,8 @@ use Rattle.std.specs.Ordering.{is_lt, ordering_reverse}
 use Rattle.std.specs.Cmp.{IsTotalOrder, on_total, then_total, nat_cmp_total, bool_cmp_total}
 use Rattle.std.specs.declared.cmp.Ordering.{Ordering}
 use Rattle.std.specs.declared.cmp.Ordering.TheVariants.{Less, Equal, Greater}
-use Rattle.lisp_records.specs.declared.address.Addr.{Addr}
-use Rattle.lisp_records.specs.Row.{RowValue}
 use Rattle.std.specs.Option.{option_map}
+use Rattle.lisp_records.specs.{declared.address.Addr.Addr, Row.RowValue}
 use Rattle.lisp_lookup.specs.Answer.{may_answer, rank_cmp, greater, IsBest, NoneAnswers, IsBestOf}
 use Rattle.lisp_lookup.proofs.Orders.{router_total}
 
@@ -17,8 +16,7 @@ rank_total = then_total (then_total (then_total (on_total (λ (h : RowValue). h.
 module _ {K : Type 0} {R : K → K → Ordering} (total : IsTotalOrder R) where
   tied : (x : K) → (o : Ordering) → R x x ≡ o → o ≡ ordering_reverse o → o ≢ Greater
   tied x Less e turned = λ above. absurd cc
-  tied x Equal e turned = λ above. absurd cc
-  tied x Greater e turned = λ above. absurd cc
+  tied x _ e turned = λ above. absurd cc
 
   -- no row is above itself
   not_above_itself : (x : K) → R x x ≢ Greater
@@ -35,8 +33,7 @@ module _ {K : Type 0} {R : K → K → Ordering} (total : IsTotalOrder R) where
 
   turned_case : (x y : K) (o : Ordering) → R y x ≡ o → is_lt o ≡ false → R x y ≢ Greater
   turned_case x y Less e not_less above = absurd cc
-  turned_case x y Equal e not_less above = (let turned = total.antisymm x y in absurd cc)
-  turned_case x y Greater e not_less above = (let turned = total.antisymm x y in absurd cc)
+  turned_case x y _ e not_less above = (let turned = total.antisymm x y in absurd cc)
 
   -- what a row is not less than is not above it
   turned : (x y : K) → is_lt (R y x) ≡ false → R x y ≢ Greater
@@ -44,8 +41,7 @@ module _ {K : Type 0} {R : K → K → Ordering} (total : IsTotalOrder R) where
 
 pub less : (o : Ordering) → is_lt o ≡ true → o ≡ Less
 less Less is = refl
-less Equal is = absurd cc
-less Greater is = absurd cc
+less _ is = absurd cc
 
 -- the row is the greatest of those that were seen and may answer
 pub record IsBestIn (Seen : RowValue → Type 0) (addr : Addr) (now : ℕ) (h : RowValue) : Type 0 where

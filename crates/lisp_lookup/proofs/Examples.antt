@@ -1,7 +1,5 @@
 -- Examples: a few rows, what the definitions make of them, and what they don't allow.
 pub mod Rows
 pub mod Covering
-pub mod Inside
-pub mod Records
 pub mod Holes
 pub mod Growth

@@ -1,17 +1,19 @@
 -- Numbers of rows in rising order: what is sought in them, and what an edit leaves.
-use Rattle.std.proofs.Common.{◌≡◌, ◌≢◌, ◌⊎◌, inl, inr, ℕ, zero, suc, ◌+◌, ◌-◌, ◌<◌, ◌≤◌, true, false, List, [], ◌∷◌, ◌++◌, length, slice_index, slice_index_or, Option, Some, None, Result, Ok, Err, refl, sym, ap, ◌∙◌, subst, true≢false, arith, IfSome, is_some}
-use Rattle.std.specs.List.{Contains, insert, remove}
+use Rattle.std.proofs.Common.{◌≡◌, ◌≢◌, ◌⊎◌, inl, inr, ℕ, zero, suc, ◌+◌, ◌-◌, ◌<◌, ◌≤◌, true, false, List, [], ◌∷◌, ◌++◌, length, slice_index, slice_index_or, Option, Some, None, Result, Ok, Err, refl, sym, ap, ◌∙◌, subst, true≢false, arith, is_some, slice_set, ◌*◌, ◌^◌}
+use Rattle.std.proofs.lemmas.Bool.{cases_eq, cases_lt, cases_order}
+use Rattle.std.proofs.lemmas.List.{get_or_read, get_or_default, get_or-take, length-set, length-take-le, get_or-set_same, get_or-set_other}
+use Rattle.std.proofs.lemmas.List.Edits.{insert_end, length-insert, length-remove, get_or-insert_below, get_or-insert_at, get_or-insert_above, get_or-remove_below, get_or-remove_above}
+use Rattle.std.proofs.lemmas.List.Sorted.{IsPermutation-insert, IsPermutation-remove, Contains-permutation}
+use Rattle.std.proofs.lemmas.Map.Lookups.{exact_pairs}
+use Rattle.std.proofs.lemmas.Nat.{pow-add}
+use Rattle.std.proofs.Math.Nat.{mul-le-mul_left}
+use Rattle.std.specs.List.{Contains, insert, remove, swap_remove}
 use Rattle.std.specs.Option.{OnSome, IsSome}
 use Rattle.std.specs.Result.{OnOk, OnErr}
 use Rattle.std.specs.Ordering.{is_lt, is_ge, nat_cmp, ordering_reverse, ordering_then}
 use Rattle.std.specs.Cmp.{IsTotalOrder, on_total, then_total, nat_cmp_total}
 use Rattle.std.specs.declared.cmp.Ordering.{Ordering}
 use Rattle.std.specs.declared.cmp.Ordering.TheVariants.{Less, Equal, Greater}
-use Rattle.std.proofs.lemmas.Bool.{cases_eq, cases_lt, cases_order}
-use Rattle.std.proofs.lemmas.List.{get_or_read, get_or_default}
-use Rattle.std.proofs.lemmas.List.Edits.{insert_end, length-insert, length-remove, get_or-insert_below, get_or-insert_at, get_or-insert_above, get_or-remove_below, get_or-remove_above}
-use Rattle.std.proofs.lemmas.List.Sorted.{IsPermutation-insert, IsPermutation-remove, Contains-permutation}
-use Rattle.std.proofs.lemmas.Map.Lookups.{exact_pairs}
 use Rattle.lisp_records.specs.Address.{PrefixValue, prefix_cmp}
 use Rattle.lisp_records.specs.Router.{router_cmp}
 use Rattle.lisp_records.specs.Row.{RowValue}
@@ -20,10 +22,11 @@ use Rattle.lisp_lookup.specs.declared.order.Order.TheVariants.{ByPrefix, ByDeadl
 use Rattle.lisp_lookup.specs.declared.probe.Probe.{Probe}
 use Rattle.lisp_lookup.specs.declared.probe.Probe.TheVariants.{Prefix}
 use Rattle.lisp_lookup.specs.Table.{row_key}
-use Rattle.lisp_lookup.specs.Index.{deadline, row_prefix_cmp, row_deadline_cmp, order_cmp, is_before, row_at_place, Falls, IsBound, Rises, IsIndex, Indexed, IsTakenOut, IsPutIn, IsFresh}
+use Rattle.lisp_lookup.specs.Index.{deadline, row_prefix_cmp, row_deadline_cmp, order_cmp, is_before, row_at_place, Falls, IsBound, Rises, IsIndex, Indexed, IsTakenOut, IsPutIn, IsFresh, IsRenumbered}
 use Rattle.lisp_lookup.proofs.AnswerLaws.{less}
 use Rattle.lisp_lookup.proofs.Orders.{block_total, router_total, same_block, same_router}
 use Rattle.lisp_lookup.proofs.TableLaws.{less_from}
+use Rattle.lisp_policy.proofs.Found.{not_true}
 
 -- what follows from an answer that can't be an error
 pub made : {T E P Q : Type 0} (result : Result T E) → OnOk result P → OnErr result Q → (Q → ⊥) → P
@@ -120,8 +123,7 @@ order_tie ByDeadline a b tie = prefix_tie a b (then_tie (nat_cmp (deadline a) (d
 
 not_ge : (o : Ordering) → is_ge o ≡ false → o ≡ Less
 not_ge Less before = refl
-not_ge Equal before = absurd cc
-not_ge Greater before = absurd cc
+not_ge _ before = absurd cc
 
 reverse_case : (o : Ordering) → o ≡ ordering_reverse o → o ≡ Equal
 reverse_case Less turned = absurd cc
@@ -311,12 +313,123 @@ left_at order [] numbers number place rises row lt was = absurd (omega (arith, r
 left_at order (x ∷ xs) numbers number place rises row lt was = left_of order (x ∷ xs) numbers number x rises place lt was
 
 -- an answer that there is none has nothing to show
-pub none_shows : {X : Type 0} (answer : Option X) (P : X → Type 0) → answer ≡ None → IfSome answer P
-none_shows answer P is = subst (λ (o : Option _). IfSome o P) (sym is) tt
-
 pub some_is_found : {X P : Type 0} (x : X) → ◌≡◌ {A = Option X} (Some x) None → P
 some_is_found x clash = absurd (true≢false (ap is_some clash))
 
 -- what is below an end is at most the end
 pub below_most : (i n : ℕ) → i < n → i ≤ n
 below_most i n lt = omega (arith, lt)
+
+-- ---- What is left of rows and their orders where the last row takes the number of one that is taken out.
+
+module _ (rows : List RowValue) (number : ℕ) (d : RowValue) (within : number < length rows) where
+  abbrev last : ℕ
+  last = length rows - 1
+
+  abbrev left_rows : List RowValue
+  left_rows = swap_remove rows number d
+
+  abbrev filled : List RowValue
+  filled = slice_set rows number (slice_index_or rows last d)
+
+  pub length_moved : length left_rows + 1 ≡ length rows
+  length_moved = omega (arith, length-take-le last filled (omega (arith, length-set rows number (slice_index_or rows last d))))
+
+  moved_other : (k : ℕ) (e : RowValue) → k ≢ number → k < last → slice_index_or left_rows k e ≡ slice_index_or rows k e
+  moved_other k e other lt = get_or-take last filled k e lt ∙ get_or-set_other rows number k (slice_index_or rows last d) e other
+
+  moved_here : (e : RowValue) → number < last → slice_index_or left_rows number e ≡ slice_index_or rows last e
+  moved_here e lt = get_or-take last filled number e lt ∙ get_or-set_same rows number (slice_index_or rows last d) e within ∙ get_or_default rows last d e (omega (arith, within))
+
+  module _ (order : Order) (old : List ℕ) (index : IsIndex (order_cmp order) rows old) where
+    -- the last row was taken out
+    pub without_last : (new : List ℕ) → number ≡ last → IsTakenOut order rows old new number → IsIndex (order_cmp order) left_rows new
+    without_last new at left = record {
+      rises = rises_same (order_cmp order) (order_total order) rows new left_rows new refl (λ k lt. omega (arith, below k lt, length_moved)) (λ k e lt. moved_other (slice_index new k) e (left.gone k lt) (below k lt)) left.rises;
+      each = λ n lt. left.others n (index.each n (omega (arith, lt, length_moved))) (λ same. omega (arith, same, at, lt, length_moved));
+    }
+      where
+        below : (k : ℕ) → k < length new → slice_index new k < last
+        below k lt = (let other = left.gone k lt in omega (arith, left.rises.below k lt, other, at))
+
+    -- another row was taken out, and the last one has its number
+    module _ (mid new : List ℕ) (other : number ≢ last) (left : IsTakenOut order rows old mid number) (renamed : IsRenumbered mid new last number) where
+      long : length new ≡ length mid
+      long = ap length renamed.is ∙ length-set mid renamed.place number
+
+      here : slice_index new renamed.place ≡ number
+      here = ap (λ (l : List ℕ). slice_index l renamed.place) renamed.is ∙ get_or-set_same mid renamed.place number 0 renamed.within
+
+      there : (k : ℕ) → k ≢ renamed.place → slice_index new k ≡ slice_index mid k
+      there k off = ap (λ (l : List ℕ). slice_index l k) renamed.is ∙ get_or-set_other mid renamed.place k number 0 off
+
+      below_other : (k : ℕ) → k < length mid → k ≢ renamed.place → slice_index mid k < last
+      below_other k lt off =
+          let not_last : slice_index mid k ≢ last = λ same. off (one_place (order_cmp order) (order_total order) rows mid k renamed.place d left.rises lt renamed.within (same ∙ sym renamed.was)) in
+          omega (arith, left.rises.below k lt, not_last)
+
+      below : (k : ℕ) → k < length new → (k ≡ renamed.place) ⊎ (k ≢ renamed.place) → slice_index new k < length left_rows
+      below k lt (inl at) = omega (arith, ap (λ (j : ℕ). slice_index new j) at, here, other, within, length_moved)
+      below k lt (inr off) = omega (arith, there k off, below_other k (omega (arith, lt, long)) off, length_moved)
+
+      same_row : (k : ℕ) (e : RowValue) → k < length new → (k ≡ renamed.place) ⊎ (k ≢ renamed.place) → row_at_place left_rows new k e ≡ row_at_place rows mid k e
+      same_row k e lt (inl at) = subst (λ (j : ℕ). row_at_place left_rows new j e ≡ row_at_place rows mid j e) (sym at) (ap (λ (n : ℕ). slice_index_or left_rows n e) here ∙ moved_here e (omega (arith, other, within)) ∙ ap (λ (n : ℕ). slice_index_or rows n e) (sym renamed.was))
+      same_row k e lt (inr off) =
+          let lt_mid : k < length mid = omega (arith, lt, long) in
+          ap (λ (n : ℕ). slice_index_or left_rows n e) (there k off) ∙ moved_other (slice_index mid k) e (left.gone k lt_mid) (below_other k lt_mid off)
+
+      each : (n : ℕ) → n < length left_rows → (n ≡ number) ⊎ (n ≢ number) → Contains new n
+      each n lt (inl at) = (renamed.place, omega (arith, long, renamed.within), get_or_default new renamed.place n 0 (omega (arith, long, renamed.within)) ∙ here ∙ sym at)
+      each n lt (inr off) =
+          let (k, lt_k, at) = left.others n (index.each n (omega (arith, lt, length_moved))) off in
+          let named = number_at mid k n lt_k at in
+          let aside : k ≢ renamed.place = λ same. omega (arith, sym (ap (λ (j : ℕ). slice_index mid j) same) ∙ named, renamed.was, lt, length_moved) in
+          (k, omega (arith, long, lt_k), get_or_default new k n 0 (omega (arith, long, lt_k)) ∙ there k aside ∙ named)
+
+      pub without : IsIndex (order_cmp order) left_rows new
+      without = record {
+        rises = rises_same (order_cmp order) (order_total order) rows mid left_rows new long (λ k lt. below k lt (cases_eq k renamed.place)) (λ k e lt. same_row k e lt (cases_eq k renamed.place)) left.rises;
+        each = λ n lt. each n lt (cases_eq n number);
+      }
+
+-- ---- What a halving search does at one look.
+
+-- looks made, rows left, rows in all
+abbrev pub Cost : ℕ → ℕ → ℕ → Type 0
+Cost looks left all = (2 ^ looks * left ≤ all) × (2 ^ looks ≤ 2 * all + 1)
+
+-- a look leaves at most half of the rows
+pub cost_more : (looks left next all : ℕ) → Cost looks left all → 0 < left → 2 * next ≤ left → Cost (looks + 1) next all
+cost_more looks left next all cost some halves =
+    let twice : 2 ^ (looks + 1) ≡ 2 ^ looks * 2 = pow-add 2 looks 1 in
+    let all_next : 2 ^ (looks + 1) * next ≡ (2 ^ looks * 2) * next = ap (λ (p : ℕ). p * next) twice in
+    let fits = mul-le-mul_left (2 ^ looks) halves in
+    let one = mul-le-mul_left (2 ^ looks) some in
+    (omega (arith, all_next, fits, cost.0), omega (arith, twice, one, cost.0))
+
+-- the same of a count that a look raises
+pub cost_look : (start steps ticked left next all : ℕ) → ticked ≡ steps + 1 → start ≤ steps → Cost (steps - start) left all → 0 < left → 2 * next ≤ left → Cost (ticked - start) next all
+cost_look start steps ticked left next all is grown cost some halves =
+    let looks : ticked - start ≡ (steps - start) + 1 = omega (arith, is, grown) in
+    subst (λ (n : ℕ). Cost n next all) (sym looks) (cost_more (steps - start) left next all cost some halves)
+
+-- the row that is read at a place of an order
+module _ {A : Type 0} (probe : Probe A) (rows : List RowValue) (numbers : List ℕ) (p : ℕ) (x : RowValue) (within : p < length numbers) (falls : Falls probe rows numbers) (at_any : (d : RowValue) → x ≡ row_at_place rows numbers p d) where
+  -- no row up to one that stands before what is sought does otherwise
+  pub before_too : is_before probe x ≡ true → (i : ℕ) (d : RowValue) → i < p + 1 → is_before probe (row_at_place rows numbers i d) ≡ true
+  before_too holds i d le = either (cases_eq i p)
+    where
+      either : (i ≡ p) ⊎ (i ≢ p) → is_before probe (row_at_place rows numbers i d) ≡ true
+      either (inl same) = subst (λ (k : ℕ). is_before probe (row_at_place rows numbers k d) ≡ true) (sym same) (ap (is_before probe) (sym (at_any d)) ∙ holds)
+      either (inr other) = falls i p d (omega (arith, le, other)) within (ap (is_before probe) (sym (at_any d)) ∙ holds)
+
+  -- no row from one on that doesn't stand before what is sought does so
+  pub after_too : is_before probe x ≡ false → (i : ℕ) (d : RowValue) → p ≤ i → i < length numbers → is_before probe (row_at_place rows numbers i d) ≡ false
+  after_too fails i d le lt = either (cases_eq i p)
+    where
+      here : is_before probe (row_at_place rows numbers p d) ≡ false
+      here = ap (is_before probe) (sym (at_any d)) ∙ fails
+
+      either : (i ≡ p) ⊎ (i ≢ p) → is_before probe (row_at_place rows numbers i d) ≡ false
+      either (inl same) = subst (λ (k : ℕ). is_before probe (row_at_place rows numbers k d) ≡ false) (sym same) here
+      either (inr other) = not_true (is_before probe (row_at_place rows numbers i d)) (λ holds. true≢false (sym (falls p i d (omega (arith, le, other)) lt holds) ∙ here))

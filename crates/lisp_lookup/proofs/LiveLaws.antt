@@ -1,23 +1,25 @@
 -- The records of a router's live rows: going through the rows, and what they make.
-use Rattle.std.proofs.Common.{◌≡◌, ◌≢◌, ℕ, suc, ◌+◌, ◌<◌, ◌≤◌, ◌⊎◌, inl, inr, Bool, true, false, true≢false, cond, ◌&&◌, nat_le, List, [], ◌∷◌, ◌++◌, length, map, take, take_all, drop, slice_index_or, Option, Some, None, refl, sym, ap, ◌∙◌, subst, arith}
-use Rattle.std.specs.List.{All, AllPairs, Contains, filter}
-use Rattle.std.specs.List.Sorted.{IsPermutation, IsSortedByKey}
-use Rattle.std.specs.Ordering.{is_lt}
+use Rattle.std.proofs.Common.{◌≡◌, ◌≢◌, ℕ, suc, ◌+◌, ◌<◌, ◌≤◌, ◌⊎◌, inl, inr, Bool, true, false, true≢false, cond, ◌&&◌, nat_le, List, [], ◌∷◌, ◌++◌, length, map, take, take_all, drop, slice_index_or, Option, Some, None, refl, sym, ap, ◌∙◌, subst, arith, not, nat_lt, get_or}
 use Rattle.std.proofs.Math.Seq.{take-suc}
 use Rattle.std.proofs.lemmas.List.Sorted.{ranks_by, sorted_far}
-use Rattle.std.proofs.lemmas.Bool.{leb-true, le-leb}
-use Rattle.std.proofs.lemmas.List.{append-nil, take-append-drop, map-append, length-append, length-map, get_or-map}
+use Rattle.std.proofs.lemmas.List.{append-nil, take-append-drop, map-append, length-append, length-map, get_or-map, drop-drop, drop_all, get_or-drop}
 use Rattle.std.proofs.lemmas.List.Kept.{AllPairs-filter}
 use Rattle.std.proofs.lemmas.List.Elements.{filter-append, filter_more, filter_passes}
 use Rattle.std.proofs.lemmas.List.Sums.{sum_by-append}
+use Rattle.std.proofs.lemmas.List.Folds.{drop_split}
+use Rattle.std.proofs.lemmas.Bool.{leb-true, le-leb, ltb-false}
+use Rattle.std.proofs.lemmas.Option.{slice_get_read}
+use Rattle.std.specs.List.{All, AllPairs, Contains, filter, position, position_or_len, slice_range}
+use Rattle.std.specs.List.Sorted.{IsPermutation, IsSortedByKey}
+use Rattle.std.specs.Ordering.{is_lt}
 use Rattle.lisp_records.proofs.RouterLaws.{router_eq-Decides}
 use Rattle.lisp_records.specs.declared.router.RouterId.{RouterId}
 use Rattle.lisp_records.specs.Address.{PrefixValue, prefix_cmp}
 use Rattle.lisp_records.specs.Record.{MapRecordValue}
-use Rattle.lisp_records.specs.Row.{RowValue}
+use Rattle.lisp_records.specs.Row.{RowValue, is_alive}
 use Rattle.lisp_records.specs.Written.{written}
 use Rattle.lisp_records.specs.Parts.{size, fits_message}
-use Rattle.lisp_lookup.specs.Table.{is_row_of, row_key, row_at, OneEach}
+use Rattle.lisp_lookup.specs.Table.{is_row_of, row_key, row_at, OneEach, IsNextLive}
 use Rattle.lisp_lookup.specs.Records.{is_live_of, live_of, ByPrefix}
 use Rattle.lisp_policy.proofs.Found.{not_true}
 use Rattle.lisp_lookup.proofs.Orders.{block_total, same_block}
@@ -189,3 +191,54 @@ none_passes test rows i h within at is none =
 -- the same of the records
 pub none_recorded : (rows : List RowValue) (i : ℕ) (h : RowValue) (router : RouterId) (now : ℕ) → i < length rows → h ≡ slice_index_or rows i h → is_live_of router now h ≡ true → live_of rows router now ≡ [] → ⊥
 none_recorded rows i h router now within at is none = none_passes (is_live_of router now) rows i h within at is (sym (length-map (filter (is_live_of router now) rows) (λ (h : RowValue). h.mapping)) ∙ ap length none)
+
+-- ---- The first row that is alive from a place on, and those behind it.
+
+module _ {X : Type 0} (p : X → Bool) where
+  -- none passes
+  none_at : (xs : List X) → length xs ≤ position_or_len p xs → filter p xs ≡ []
+  none_at [] long = refl
+  none_at (x ∷ xs) long = by (p x) (none_at xs) long
+    where
+      by : (b : Bool) → (length xs ≤ position_or_len p xs → filter p xs ≡ []) → suc (length xs) ≤ cond (not b) (1 + position_or_len p xs) 0 → cond b (x ∷ filter p xs) (filter p xs) ≡ []
+      by true rest le = absurd (omega (arith, le))
+      by false rest le = rest (omega (arith, le))
+
+  -- one does
+  first_at : (xs : List X) (d : X) → position_or_len p xs < length xs → filter p xs ≡ get_or xs (position_or_len p xs) d ∷ filter p (drop (suc (position_or_len p xs)) xs)
+  first_at [] d lt = absurd (omega (arith, lt))
+  first_at (x ∷ xs) d lt = by (p x) (first_at xs d) lt
+    where
+      one_more : suc (position_or_len p xs) ≡ 1 + position_or_len p xs
+      one_more = omega arith
+
+      by : (b : Bool) → (position_or_len p xs < length xs → filter p xs ≡ get_or xs (position_or_len p xs) d ∷ filter p (drop (suc (position_or_len p xs)) xs)) → cond (not b) (1 + position_or_len p xs) 0 < suc (length xs)
+          → cond b (x ∷ filter p xs) (filter p xs) ≡ get_or (x ∷ xs) (cond (not b) (1 + position_or_len p xs) 0) d ∷ filter p (drop (suc (cond (not b) (1 + position_or_len p xs) 0)) (x ∷ xs))
+      by true rest below = refl
+      by false rest below = subst (λ (k : ℕ). filter p xs ≡ get_or (x ∷ xs) k d ∷ filter p (drop (suc k) (x ∷ xs))) one_more (rest (omega (arith, below)))
+
+  pub none_at_place : (xs : List X) → position p xs ≡ None → filter p xs ≡ []
+  none_at_place xs none = by (nat_lt (position_or_len p xs) (length xs)) refl none
+    where
+      by : (b : Bool) → nat_lt (position_or_len p xs) (length xs) ≡ b → cond b (Some (position_or_len p xs)) None ≡ None → filter p xs ≡ []
+      by true e none = (let clash : ◌≡◌ {A = Option ℕ} (Some (position_or_len p xs)) None = none in absurd cc)
+      by false e none = none_at xs (ltb-false _ _ e)
+
+  pub first_passes : (xs : List X) (k : ℕ) (d : X) → position p xs ≡ Some k → k < length xs → filter p xs ≡ get_or xs k d ∷ filter p (drop (suc k) xs)
+  first_passes xs k d some lt = by (nat_lt (position_or_len p xs) (length xs)) some
+    where
+      by : (b : Bool) → cond b (Some (position_or_len p xs)) None ≡ Some k → filter p xs ≡ get_or xs k d ∷ filter p (drop (suc k) xs)
+      by true same = (let is : position_or_len p xs ≡ k = cc in subst (λ (n : ℕ). filter p xs ≡ get_or xs n d ∷ filter p (drop (suc n) xs)) is (first_at xs d (omega (arith, lt, is))))
+      by false none = (let clash : ◌≡◌ {A = Option ℕ} None (Some k) = none in absurd cc)
+
+-- all from a place on, of which there are so many
+pub rest_of : {X : Type 0} (xs : List X) (at : ℕ) → at ≤ length xs → slice_range xs at (length xs) ≡ drop at xs
+rest_of xs at le = sym (drop_split xs at (length xs) le ∙ ap (λ ys. slice_range xs at (length xs) ++ ys) (drop_all (length xs) xs (omega arith)) ∙ append-nil (slice_range xs at (length xs)))
+
+-- the first row that is alive from a place on
+pub next_is : (rows rest : List RowValue) (place now k : ℕ) (h : RowValue) → rest ≡ drop place rows → length rest + place ≡ length rows → k < length rest → position (λ r. is_alive r now) rest ≡ Some k → h ≡ get_or rest k h → IsNextLive rows place now (place + k) h
+next_is rows rest place now k h is long below at value = record {
+  on = omega arith;
+  there = slice_get_read rows (length rows) (place + k) h refl (omega (arith, below, long)) (value ∙ ap (λ (xs : List RowValue). get_or xs k h) is ∙ get_or-drop place rows k h);
+  first = ap (λ (xs : List RowValue). filter (λ r. is_alive r now) xs) (sym is) ∙ first_passes (λ r. is_alive r now) rest k h at below ∙ ap (λ (x : RowValue). x ∷ filter (λ r. is_alive r now) (drop (suc k) rest)) (sym value) ∙ ap (λ (ys : List RowValue). h ∷ filter (λ r. is_alive r now) ys) (ap (λ (xs : List RowValue). drop (suc k) xs) is ∙ drop-drop (suc k) place rows ∙ ap (λ (n : ℕ). drop n rows) (omega arith));
+}

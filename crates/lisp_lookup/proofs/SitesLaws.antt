@@ -1,15 +1,19 @@
 -- How wide a prefix around an address is: tests that hold of it and of all longer ones.
-use Rattle.std.proofs.Common.{◌≡◌, ◌≢◌, ◌⊎◌, inl, inr, ℕ, ◌+◌, ◌<◌, ◌≤◌, Bool, true, false, nat_le, max, List, length, slice_index_or, sym, ap, ◌∙◌, subst, true≢false, arith}
-use Rattle.std.specs.List.{All}
+use Rattle.std.proofs.Common.{◌≡◌, ◌≢◌, ◌⊎◌, inl, inr, ℕ, ◌+◌, ◌<◌, ◌≤◌, Bool, true, false, nat_le, max, List, length, slice_index_or, sym, ap, ◌∙◌, subst, true≢false, arith, ◌↔◌, Option, Some, None, IfSome, refl}
 use Rattle.std.proofs.lemmas.Bool.{cases_eq, and_from, and_parts, le-leb, leb-true}
 use Rattle.std.proofs.lemmas.List.{get_or_read}
+use Rattle.std.proofs.lemmas.List.Elements.{All-contains}
+use Rattle.std.specs.List.{All, Contains}
+use Rattle.std.specs.Option.{IsSome, option_map, is_some}
 use Rattle.lisp_policy.specs.Site.{SiteValue}
 use Rattle.lisp_policy.specs.declared.site.SitePrefix.{SitePrefix}
+use Rattle.lisp_policy.proofs.Found.{not_true}
 use Rattle.lisp_records.specs.declared.address.Addr.{Addr}
 use Rattle.lisp_records.specs.Address.{PrefixValue, IsPrefix, addr_eq, cleared, covers, holds, max_len, prefix_around}
+use Rattle.lisp_records.specs.Row.{RowValue, is_alive}
 use Rattle.lisp_records.proofs.AddressLemmas.{cleared-wider}
-use Rattle.lisp_policy.proofs.Found.{not_true}
-use Rattle.lisp_lookup.specs.Hole.{IsWidest, KeepsBeside}
+use Rattle.lisp_lookup.specs.Hole.{IsWidest, KeepsBeside, IsEmptyIn, IsHole, IsHoleOf, KeepsSites}
+use Rattle.lisp_lookup.specs.Answer.{IsBestOf, NoneAnswers}
 use Rattle.lisp_lookup.proofs.BestLaws.{same_family}
 use Rattle.lisp_lookup.proofs.Blocks.{addr_is, is_addr}
 
@@ -38,18 +42,8 @@ in_longest addr other block covered =
 abbrev pub WasIn : Addr → PrefixValue → ℕ → Type 0
 WasIn addr other length = (m : ℕ) → m < length → covers (prefix_around addr m) other ≡ true
 
-pub was_in_more : (addr : Addr) (other : PrefixValue) (length : ℕ) → covers (prefix_around addr length) other ≡ true → WasIn addr other length → WasIn addr other (length + 1)
-was_in_more addr other length is was m lt = either (cases_eq m length)
-  where
-    either : (m ≡ length) ⊎ (m ≢ length) → covers (prefix_around addr m) other ≡ true
-    either (inl same) = ap (λ (k : ℕ). covers (prefix_around addr k) other) same ∙ is
-    either (inr off) = was m (omega (arith, lt, off))
-
 pub without : (addr : Addr) (other : PrefixValue) (length : ℕ) → WasIn addr other length → covers (prefix_around addr length) other ≡ false → IsWidest (λ eid. covers eid other ≡ false) addr length
 without addr other length was stop n within = (λ out. omega (arith, λ (lt : n < length). true≢false (sym (was n lt) ∙ out)), λ le. not_true (covers (prefix_around addr n) other) (λ is. true≢false (sym (in_wider addr other n length le is) ∙ stop)))
-
-pub without_longest : (addr : Addr) (other : PrefixValue) (length : ℕ) → length ≡ max_len addr → IsPrefix other → holds other addr ≡ false → WasIn addr other length → IsWidest (λ eid. covers eid other ≡ false) addr length
-without_longest addr other length full block apart was = without addr other length was (not_true (covers (prefix_around addr length) other) (λ is. true≢false (sym (in_longest addr other block (ap (λ (k : ℕ). covers (prefix_around addr k) other) (sym full) ∙ is)) ∙ apart)))
 
 -- ---- beside one prefix of a site
 
@@ -62,17 +56,8 @@ beside_has of_site addr configured is has n within = (
   ),
 )
 
-pub beside_within : (of_site : PrefixValue) (addr : Addr) → IsPrefix of_site → holds of_site addr ≡ true → of_site.mask_len ≤ max_len addr
-beside_within of_site addr block has = omega (arith, block.0, same_family addr of_site.mask_len, ap max_len (addr_is (cleared addr of_site.mask_len) of_site.addr has))
-
 pub beside_in : (of_site : PrefixValue) (addr : Addr) (configured : Bool) → (holds of_site addr ≡ true → configured ≡ true) → holds of_site addr ≡ true → IsWidest (KeepsBeside of_site addr configured) addr of_site.mask_len
 beside_in of_site addr configured known has = beside_has of_site addr configured (known has) has
-
-pub beside_other : (of_site : PrefixValue) (addr : Addr) (configured : Bool) → configured ≡ true → holds of_site addr ≡ false → IsWidest (KeepsBeside of_site addr configured) addr 0
-beside_other of_site addr configured is apart n within = (λ keeps. omega arith, λ le. (λ has. absurd (true≢false (sym has ∙ apart)), λ none. absurd (true≢false (sym is ∙ none))))
-
-pub beside_none : (of_site : PrefixValue) (addr : Addr) (configured : Bool) (widest : ℕ) → configured ≡ false → holds of_site addr ≡ false → IsWidest (λ eid. covers eid of_site ≡ false) addr widest → IsWidest (KeepsBeside of_site addr configured) addr widest
-beside_none of_site addr configured widest none apart is n within = (λ keeps. (is n within).0 (keeps.1 none), λ le. (λ has. absurd (true≢false (sym has ∙ apart)), λ _. (is n within).1 le))
 
 -- ---- beside all of some
 
@@ -85,9 +70,6 @@ abbrev pub IsWidestUpTo : {X : Type 0} → (X → PrefixValue → Type 0) → Li
 IsWidestUpTo P xs addr upto widest = (widest ≤ max_len addr) × IsWidest (λ eid. EachUpTo (λ x. P x eid) xs upto) addr widest
 
 module _ {X : Type 0} (P : X → PrefixValue → Type 0) (xs : List X) (addr : Addr) where
-  pub widest_none : IsWidestUpTo P xs addr 0 0
-  widest_none = (omega arith, λ n within. (λ each. omega arith, λ le i d lt. absurd (omega (arith, lt))))
-
   pub widest_more : (k widest other : ℕ) (x : X) → ((d : X) → x ≡ slice_index_or xs k d) → IsWidestUpTo P xs addr k widest → other ≤ max_len addr → IsWidest (P x) addr other → IsWidestUpTo P xs addr (k + 1) (max widest other)
   widest_more k widest other x known before within its = (
     omega (arith, before.0, within),
@@ -120,3 +102,53 @@ widest_next P xs addr k widest other next x lt read is before within its = subst
 
 pub widest_of_all : {X : Type 0} (P : X → PrefixValue → Type 0) (xs items : List X) (addr : Addr) (k widest : ℕ) → items ≡ xs → k ≤ length items → length items ≤ k → IsWidestUpTo P items addr k widest → IsWidest (λ eid. All (λ x. P x eid) xs) addr widest
 widest_of_all P xs items addr k widest same low high is = widest_all P xs addr k widest (omega (arith, low, high, ap length same)) (subst (λ (ys : List _). IsWidestUpTo P ys addr k widest) same is)
+
+-- ---- Prefixes around an address in which no live row has one.
+
+module _ (rows : List RowValue) (addr : Addr) (now : ℕ) where
+  -- where none has a prefix in one, none has in a longer one
+  pub empty_longer : (n m : ℕ) → m ≤ n → IsEmptyIn rows (prefix_around addr m) now → IsEmptyIn rows (prefix_around addr n) now
+  empty_longer n m le empty h held alive = not_true (covers (prefix_around addr n) h.mapping.eid) (λ is. true≢false (sym (in_wider addr h.mapping.eid n m le is) ∙ empty h held alive))
+
+  -- where none has the address, none has a prefix in that of the address alone
+  pub empty_alone : All (λ h. IsPrefix h.mapping.eid) rows → NoneAnswers rows addr now → (n : ℕ) → n ≡ max_len addr → IsEmptyIn rows (prefix_around addr n) now
+  empty_alone blocks none n full h held alive = not_true (covers (prefix_around addr n) h.mapping.eid) (λ is.
+      (let has = in_longest addr h.mapping.eid (All-contains (λ h. IsPrefix h.mapping.eid) rows h blocks held) (ap (λ (k : ℕ). covers (prefix_around addr k) h.mapping.eid) (sym full) ∙ is) in
+      true≢false (sym (and_from (is_alive h now) (holds h.mapping.eid addr) alive has) ∙ none h held)))
+
+  -- nor does one lie over a prefix around it
+  pub bare : NoneAnswers rows addr now → (n : ℕ) (h : RowValue) → Contains rows h → is_alive h now ≡ true → covers h.mapping.eid (prefix_around addr n) ≡ false
+  bare none n h held alive = not_true (covers h.mapping.eid (prefix_around addr n)) (λ is.
+      (let parts = and_parts (nat_le h.mapping.eid.mask_len n) (addr_eq (cleared (cleared addr n) h.mapping.eid.mask_len) h.mapping.eid.addr) is in
+      let short = leb-true h.mapping.eid.mask_len n parts.0 in
+      let has = is_addr (cleared addr h.mapping.eid.mask_len) h.mapping.eid.addr (sym (cleared-wider addr n h.mapping.eid.mask_len short) ∙ addr_is (cleared (cleared addr n) h.mapping.eid.mask_len) h.mapping.eid.addr parts.1) in
+      true≢false (sym (and_from (is_alive h now) (holds h.mapping.eid addr) alive has) ∙ none h held)))
+
+-- the middle of two lengths was looked at
+abbrev pub Wider : List RowValue → Addr → ℕ → ℕ → ℕ → Type 0
+Wider rows addr now least low = (n : ℕ) → least ≤ n → n < low → IsEmptyIn rows (prefix_around addr n) now → ⊥
+
+pub wider_up : (rows : List RowValue) (addr : Addr) (now least middle : ℕ) → (IsEmptyIn rows (prefix_around addr middle) now → ⊥) → Wider rows addr now least (middle + 1)
+wider_up rows addr now least middle some n low lt empty = some (empty_longer rows addr now middle n (omega (arith, lt)) empty)
+
+module _ (rows : List RowValue) (sites : List SiteValue) (addr : Addr) (now : ℕ) where
+  -- the hole
+  pub hole_is : (least n : ℕ) → NoneAnswers rows addr now → IsWidest (KeepsSites sites addr) addr least → least ≤ n → n ≤ max_len addr → IsEmptyIn rows (prefix_around addr n) now → Wider rows addr now least n → IsHole rows sites addr now (prefix_around addr n)
+  hole_is least n none by_sites low within empty wider = record {
+    around = (within, refl);
+    alike = record {
+      empty = empty;
+      bare = bare rows addr now none n;
+      keeps = (by_sites n within).1 low;
+    };
+    widest = λ m lt alike. wider m ((by_sites m (omega (arith, lt, within))).0 alike.keeps) lt alike.empty;
+  }
+
+  pub hole_of : (n : ℕ) → n ≤ max_len addr → IsHole rows sites addr now (prefix_around addr n) → (made : Option PrefixValue) → IsSome made ↔ (n ≤ max_len addr) → IfSome made (λ eid. eid ≡ prefix_around addr n) → IsHoleOf rows sites addr now made
+  hole_of n within hole None valid value = absurd (true≢false (sym (valid.1 within)))
+  hole_of n within hole (Some eid) valid value = subst (λ (b : PrefixValue). IsHole rows sites addr now b) (sym value) hole
+
+-- where none was found none has the address
+pub none_of : {R : Type 0} (view : R → RowValue) (rows : List RowValue) (addr : Addr) (now : ℕ) (found : Option R) → IsBestOf rows addr now (option_map view found) → is_some found ≡ false → NoneAnswers rows addr now
+none_of view rows addr now None none is = none
+none_of view rows addr now (Some x) best is = absurd cc

@@ -12,7 +12,7 @@ use std::alloc::Allocator;
 
 /// Rows, one for each router and prefix, have one answer for an address at a moment (RFC 9301 section 8.3): any two show
 /// the same, and two replies the same record, wherever it lies.
-#[tactic(auto, using(crate::proofs::OneAnswerLaws::one_answer))]
+#[tactic(auto, using(crate::proofs::BestLaws::one_answer))]
 pub fn one_answer<A: Allocator, B: Allocator>()
     ensures { (rows : List RowValue) → OneEach rows → HaveOneAnswer A B rows }
 {}

@@ -5,9 +5,9 @@ use Rattle.std.proofs.lemmas.List.{take_all}
 use Rattle.lisp_records.specs.Address.{PrefixValue}
 use Rattle.lisp_replies.specs.declared.reply.Reply.{Reply}
 use Rattle.lisp_replies.proofs.OwnWalkLaws.{one_more}
-use Rattle.lisp_resolve.specs.Asked.{AskedValue}
-use Rattle.lisp_resolve.specs.Sends.{sends}
-use Rattle.lisp_resolve.specs.declared.unasked.Unasked.{Unasked}
+use Rattle.lisp_mapping.specs.Asked.{AskedValue}
+use Rattle.lisp_mapping.specs.Sends.{sends}
+use Rattle.lisp_mapping.specs.declared.unasked.Unasked.{Unasked}
 use Rattle.lisp_mapping.specs.Handling.{HandledValue, Handles, IsHandled, RepliesEach, outcome_of}
 
 module _ {A : Type 0} (Says : PrefixValue → Reply A → Type 0) where

@@ -5,10 +5,10 @@ use Rattle.lisp_records.specs.Address.{PrefixValue}
 use Rattle.lisp_replies.specs.declared.reply.Reply.{Reply}
 use Rattle.lisp_replies.specs.declared.reply.Reply.TheVariants as replies
 use Rattle.lisp_requests.specs.declared.fault.RequestFault.TheVariants.{OutOfMemory}
-use Rattle.lisp_resolve.specs.Asked.{AskedValue}
-use Rattle.lisp_resolve.specs.Sends.{DatagramValue, sends}
-use Rattle.lisp_resolve.specs.declared.unasked.Unasked.{Unasked}
-use Rattle.lisp_resolve.specs.declared.unasked.Unasked.TheVariants.{Request}
+use Rattle.lisp_mapping.specs.Asked.{AskedValue}
+use Rattle.lisp_mapping.specs.Sends.{DatagramValue, sends}
+use Rattle.lisp_mapping.specs.declared.unasked.Unasked.{Unasked}
+use Rattle.lisp_mapping.specs.declared.unasked.Unasked.TheVariants.{Request}
 use Rattle.lisp_mapping.specs.declared.outcome.Outcome.{Outcome}
 use Rattle.lisp_mapping.specs.declared.outcome.Outcome.TheVariants as outcomes
 

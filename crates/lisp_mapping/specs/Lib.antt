@@ -1,2 +1,5 @@
+pub mod Unasked
+pub mod Asked
+pub mod Sends
 pub mod Handling
 pub mod Promises

@@ -1,18 +1,33 @@
--- What is promised of what a node does for a datagram with a Map-Request.
-use Rattle.std.specs.Prelude.{◌≡◌, ℕ, Bool, true, List, Ok}
+-- What is promised of Map-Requests that are taken, of what is sent for them, and of what a node does for a datagram with one.
+use Rattle.std.specs.Prelude.{◌≡◌, ◌⊎◌, ℕ, ◌<◌, true, List, [], Ok, length, Bool}
 use Rattle.std.specs.List.{All, list_any}
-use Rattle.lisp_policy.specs.Site.{SiteValue}
 use Rattle.lisp_records.specs.declared.address.Addr.{Addr}
 use Rattle.lisp_records.specs.declared.address.Family.{Family}
-use Rattle.lisp_records.specs.Address.{PrefixValue, family, holds}
+use Rattle.lisp_records.specs.Address.{PrefixValue, holds, family}
 use Rattle.lisp_records.specs.Record.{MapRecordValue}
+use Rattle.lisp_requests.specs.Request.{MapRequestValue}
+use Rattle.lisp_replies.specs.declared.reply.Reply.{Reply}
+use Rattle.lisp_mapping.specs.Asked.{AskedValue, asked_of, encapsulated_asked, router_asked}
+use Rattle.lisp_mapping.specs.Sends.{DatagramValue, forwarded, replied, sends}
+use Rattle.lisp_mapping.specs.declared.replier.Replier.{Replier}
+use Rattle.lisp_policy.specs.Site.{SiteValue}
 use Rattle.lisp_records.specs.Row.{RowValue}
 use Rattle.lisp_replies.specs.Own.{IsOwnReply}
 use Rattle.lisp_replies.specs.Reply.{IsReply}
-use Rattle.lisp_resolve.specs.Asked.{encapsulated_asked, router_asked}
-use Rattle.lisp_resolve.specs.Promises.{IsReplyOrGoesOn}
-use Rattle.lisp_resolve.specs.declared.replier.Replier.TheVariants.{MapServer}
+use Rattle.lisp_mapping.specs.declared.replier.Replier.TheVariants.{MapServer}
 use Rattle.lisp_mapping.specs.Handling.{HandledValue, Handles, probed}
+
+-- where a Map-Request is taken, one of the prefixes has the address to which Map-Replies go
+abbrev pub RepliesAreListed : List PrefixValue → Type 0
+RepliesAreListed resolve = (of : Replier) (own : Family) (port : ℕ) (m : MapRequestValue) (asked : AskedValue) → asked_of of resolve own port m ≡ Ok asked → list_any (λ p. holds p asked.to) resolve ≡ true
+
+-- a datagram is a Map-Reply to where the Map-Request came from, or the datagram that came, on its way to a router
+abbrev pub IsReplyOrGoesOn : AskedValue → List ℕ → DatagramValue → Type 0
+IsReplyOrGoesOn asked bytes d = ((records : List MapRecordValue) × (length records < 256) × (d ≡ replied asked records)) ⊎ ((to : Addr) × (d ≡ forwarded to bytes))
+
+-- each that is sent is so
+abbrev pub RepliesOrGoesOn : Type 0 → Type 0
+RepliesOrGoesOn A = (asked : AskedValue) (bytes : List ℕ) (replies : List (Reply A)) → All (IsReplyOrGoesOn asked bytes) (sends asked bytes [] replies)
 
 -- it was asked from an ITR-RLOC that one of the prefixes has, and each datagram is a Map-Reply to there, or the datagram that came, on its way
 -- to a router

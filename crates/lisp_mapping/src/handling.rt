@@ -2,12 +2,12 @@
 
 ghost use Rattle.std.specs.Prelude.{◌≡◌, [], map, IfOk, OnErr};
 ghost use Rattle.lisp_mapping.specs.Handling.{outcome_of};
-ghost use Rattle.lisp_resolve.specs.Sends.{sends};
+ghost use Rattle.lisp_mapping.specs.Sends.{sends};
 
 use crate::outcome::Outcome;
+use crate::{Asked, Datagram, sends};
 use lisp_memory::{FallibleVec, Memory};
 use lisp_replies::Reply;
-use lisp_resolve::{Asked, Datagram, sends};
 use std::alloc::{AllocError, Allocator, Global};
 use std::marker::Model;
 

@@ -5,22 +5,22 @@ ghost use Rattle.lisp_mapping.specs.Handling.{Handles, IsHandled, RepliesEach, p
 ghost use Rattle.lisp_records.specs.Address.{family};
 ghost use Rattle.lisp_replies.specs.Own.{IsOwnReply};
 ghost use Rattle.lisp_requests.specs.declared.fault.RequestFault.TheVariants.{OutOfMemory};
-ghost use Rattle.lisp_resolve.specs.Asked.{router_asked};
-ghost use Rattle.lisp_resolve.specs.declared.unasked.Unasked.TheVariants.{Request};
+ghost use Rattle.lisp_mapping.specs.Asked.{router_asked};
+ghost use Rattle.lisp_mapping.specs.declared.unasked.Unasked.TheVariants.{Request};
 
 use crate::handling::{Handled, handle};
+use crate::{Asked, Unasked, router_asked};
 use lisp_etr::Etr;
 use lisp_memory::{FallibleVec, Memory};
 use lisp_records::{Addr, Prefix};
 use lisp_replies::Reply;
 use lisp_requests::RequestFault;
-use lisp_resolve::{Asked, Unasked, router_asked};
 use std::alloc::{AllocError, Allocator};
 
 /// What a router at an address sends for a datagram that is an Encapsulated Map-Request, or a Map-Request that came alone from a UDP port,
 /// by its present database (RFC 9301 sections 5.5, 7.1 and 8.2), in memory of `alloc`. `resolve` are the prefixes of ITR-RLOCs to which it
 /// sends Map-Replies; the address family of its address is that of the ITR-RLOC. The faults come in the order of
-/// [`Unasked`](lisp_resolve::Unasked).
+/// [`Unasked`](crate::Unasked).
 pub fn router_handles<A: Memory + Copy, B: Memory + Copy>(
     alloc: A,
     router: &Etr<B>,

@@ -4,23 +4,23 @@ ghost use Rattle.std.specs.Prelude.{◌≡◌, Err, IfOk, OnErr};
 ghost use Rattle.lisp_mapping.specs.Handling.{Handles, IsHandled, RepliesEach};
 ghost use Rattle.lisp_replies.specs.Reply.{IsReply};
 ghost use Rattle.lisp_requests.specs.declared.fault.RequestFault.TheVariants.{OutOfMemory};
-ghost use Rattle.lisp_resolve.specs.Asked.{encapsulated_asked};
-ghost use Rattle.lisp_resolve.specs.declared.replier.Replier.TheVariants.{MapServer};
-ghost use Rattle.lisp_resolve.specs.declared.unasked.Unasked.TheVariants.{Request};
+ghost use Rattle.lisp_mapping.specs.Asked.{encapsulated_asked};
+ghost use Rattle.lisp_mapping.specs.declared.replier.Replier.TheVariants.{MapServer};
+ghost use Rattle.lisp_mapping.specs.declared.unasked.Unasked.TheVariants.{Request};
 
 use crate::handling::{Handled, handle};
+use crate::{Asked, Unasked, server_asked};
 use lisp_memory::{FallibleVec, Memory};
 use lisp_records::{Family, Prefix};
 use lisp_replies::Reply;
 use lisp_requests::RequestFault;
-use lisp_resolve::{Asked, Unasked, server_asked};
 use lisp_server::Server;
 use std::alloc::AllocError;
 
 /// What a Map-Server sends at a time, in ms, for a datagram that is an Encapsulated Map-Request, by the rows that are held, in memory of
 /// `alloc` (RFC 9301 sections 5.8 and 8.3). `resolve` are the prefixes of ITR-RLOCs to which it sends Map-Replies, `own` is its address
 /// family; `starting` says whether its life has just begun, so that rows may not have come back yet. The faults come in the order of
-/// [`Unasked`](lisp_resolve::Unasked).
+/// [`Unasked`](crate::Unasked).
 pub fn server_handles<A: Memory + Copy>(
     alloc: A,
     server: &Server<A>,

@@ -7,11 +7,12 @@ use Rattle.lisp_records.specs.Record.{MapRecordValue}
 use Rattle.lisp_model.specs.declared.event.Event.TheVariants as events
 use Rattle.lisp_model.specs.declared.line.Line.{Line}
 use Rattle.lisp_model.specs.declared.line.Line.TheVariants as lines
-use Rattle.lisp_model.specs.Trace.{EventValue, Step, Opening, ShownStore, database, database_after}
+use Rattle.lisp_model.specs.Trace.{EventValue, Step, Opening, database, database_after}
 use Rattle.lisp_model.specs.History.{SentRegister, sent_registers_in, history}
 use Rattle.lisp_model.specs.Change.{gives_database, Keeps}
-use Rattle.lisp_model.specs.Legal.{MayCome, Legal, LegalTrace, context_of}
+use Rattle.lisp_model.specs.Legal.{Legal, LegalTrace, context_of}
 use Rattle.lisp_model.proofs.ListLemmas.{head_or_tail, in_none}
+use Rattle.lisp_model.proofs.Rows.{Following, tells}
 
 -- an event that gives nothing
 given_none : (e : EventValue) (line : Line) (r : ℕ) (old : List MapRecordValue) → gives_database e r ≡ false → database_after e line r old ≡ old
@@ -19,20 +20,6 @@ given_none (events.Change router db) (lines.Changed _ _) r old none = ap (λ b. 
 given_none (events.Restart node pick (Some db)) line r old none = ap (λ b. if b then db else old) none
 given_none (events.Lose node key (Some db)) line r old none = ap (λ b. if b then db else old) none
 given_none e line r old none = refl
-
--- a Map-Register that goes out gives nothing
-sent_none : (o : Opening) (T : List Step) (actor : ℕ) (after : ShownStore) (e : EventValue) (router server part key nonce datagram r : ℕ) → MayCome (context_of o T (record { event = e; line = lines.Sent router server part key nonce datagram; actor = actor; shown = after })) e (lines.Sent router server part key nonce datagram) → gives_database e r ≡ false
-sent_none o T actor after (events.Send _ _ _ _) router server part key nonce datagram r row = refl
-sent_none o T actor after (events.Change _ _) router server part key nonce datagram r row = absurd row
-sent_none o T actor after (events.Deliver _ _) router server part key nonce datagram r row = absurd row.arrives
-sent_none o T actor after (events.Junk _ _ _) router server part key nonce datagram r row = absurd row.arrives
-sent_none o T actor after (events.Tick _) router server part key nonce datagram r row = absurd row
-sent_none o T actor after (events.Restart _ _ _) router server part key nonce datagram r row = absurd row
-sent_none o T actor after (events.Rotate _ _ _) router server part key nonce datagram r row = absurd row
-sent_none o T actor after (events.Lose _ _ _) router server part key nonce datagram r row = absurd row
-sent_none o T actor after (events.Notice _ _ _) router server part key nonce datagram r row = absurd row
-sent_none o T actor after (events.Resend _ _) router server part key nonce datagram r row = absurd row
-sent_none o T actor after (events.Reload _ _) router server part key nonce datagram r row = absurd row
 
 -- places in a list with one more element at its end
 module _ {X : Type 0} where
@@ -90,8 +77,12 @@ module _ (o : Opening) where
   nothing_before : (s : Step) (T : List Step) (r p : ℕ) → NothingAfter (s ∷ T) r p → NothingAfter T r p
   nothing_before s T r p none place x low high is = none place x low (omega (arith, high)) (earlier_place s T place high ∙ is)
 
+  -- its event is a send, which gives nothing
+  pub new_follows : (T : List Step) (s : Step) → Legal o T s → (d : SentRegister) → (new : IsNew o T s.line d) → Following (context_of o T s) s.event (lines.Sent new.router new.server new.part new.key new.nonce new.datagram)
+  new_follows T s l d new = subst (λ (line : Line). Following (context_of o T s) s.event line) new.sent (tells (context_of o T s) s.event s.line l.row).follows
+
   new_sent : (T : List Step) (s : Step) → Legal o T s → (d : SentRegister) → (new : IsNew o T s.line d) → gives_database s.event d.router ≡ false
-  new_sent T s l d new = sent_none o T s.actor s.shown s.event new.router new.server new.part new.key new.nonce new.datagram d.router (subst (λ (line : Line). MayCome (context_of o T s) s.event line) new.sent l.row)
+  new_sent T s l d new = subst (λ (e : EventValue). gives_database e d.router ≡ false) (new_follows T s l d new).1 refl
 
   kept_since : (T : List Step) → LegalTrace o T → (d : SentRegister) → Contains (history o T) d → NothingAfter T d.router d.position → d.database ≡ database o T d.router
   kept_since [] legal d has none = absurd (in_none d has)

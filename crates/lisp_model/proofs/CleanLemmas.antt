@@ -1,6 +1,6 @@
 -- Addresses, secrets and spellings, for what a clean trace promises.
-use Rattle.std.proofs.Common.{◌≡◌, ℕ, zero, suc, ◌<◌, ◌≤◌, Bool, true, false, cond, List, [], ◌∷◌, ◌++◌, length, map, Option, Some, None, Ok, refl, sym, ap, subst, inl, inr, ◌∙◌, true≢false, arith}
-use Rattle.std.specs.Prelude.{◌≢◌, ◌⊎◌, ◌==◌, slice_get}
+use Rattle.std.proofs.Common.{◌≡◌, ℕ, zero, suc, ◌<◌, ◌≤◌, Bool, true, false, cond, List, [], ◌∷◌, ◌++◌, length, map, Option, Some, None, Ok, refl, sym, ap, subst, inl, inr, ◌∙◌, true≢false, arith, Err, ◌^◌}
+use Rattle.std.specs.Prelude.{◌≢◌, ◌⊎◌, ◌==◌, slice_get, Result, drop, slice_index, ◌||◌}
 use Rattle.std.specs.List.{AllPairs, Contains, find, flat_map}
 use Rattle.std.specs.Option.{option_map, option_to_list}
 use Rattle.std.proofs.lemmas.Bool.{ltb-true, cases_lt}
@@ -8,16 +8,29 @@ use Rattle.std.proofs.lemmas.List.{length-append, length-map}
 use Rattle.std.proofs.lemmas.List.Elements.{Contains-append_left, Contains-append_right}
 use Rattle.std.proofs.lemmas.List.Quantifiers.{position-Some}
 use Rattle.std.proofs.lemmas.Slice.Eq.{bytes_eq-Decides}
+use Rattle.std.proofs.lemmas.Option.{none-some}
+use Rattle.std.proofs.lemmas.Nat.{from_be_bytes-to_be_bytes_8}
 use Rattle.lisp_records.specs.declared.address.Addr.{Addr}
 use Rattle.lisp_records.specs.declared.address.Addr.TheVariants.{V4, V6}
 use Rattle.lisp_records.specs.Address.{addr_eq}
 use Rattle.lisp_policy.specs.Configuration.{ConfigValue}
 use Rattle.lisp_policy.specs.Site.{SiteValue, SiteKeyValue, secret_of, key_of}
-use Rattle.lisp_messages.specs.Message.{MapRegisterValue}
-use Rattle.lisp_messages.specs.Authentic.{is_authentic}
+use Rattle.lisp_messages.specs.Message.{MapRegisterValue, MessageValue, MapNotifyValue, Registers, Notifies}
+use Rattle.lisp_messages.specs.Authentic.{is_authentic, signed}
 use Rattle.lisp_admission.specs.Checks.{secret_under}
 use Rattle.lisp_admission.proofs.Secrets.{stands_under}
+use Rattle.lisp_records.specs.Record.{MapRecordValue}
+use Rattle.lisp_records.specs.Reading.{number_at}
+use Rattle.lisp_messages.specs.declared.kind.Kind.{Kind}
+use Rattle.lisp_messages.specs.declared.kind.Kind.TheVariants as kinds
+use Rattle.lisp_messages.specs.declared.fault.ReadFault.{ReadFault}
+use Rattle.lisp_messages.specs.declared.fault.ReadFault.TheVariants as faults
+use Rattle.lisp_messages.specs.Written.{written, written_notify}
+use Rattle.lisp_records.specs.Result.{◌>>=◌}
+use Rattle.lisp_messages.specs.Reading.{after, require, records_at, notify_at, tail_at, kind_at, message_at, nonce_of, map_notify_of}
+use Rattle.lisp_messages.proofs.Fields.{bind_ok}
 use Rattle.lisp_model.specs.Trace.{addresses, address_at, node_at, is_server}
+use Rattle.lisp_model.specs.Bag.{Item, bytes_of}
 use Rattle.lisp_model.proofs.ListLemmas.{at_head, in_tail, head_or_tail, in_none}
 
 pub addr_same : (a b : Addr) → addr_eq a b ≡ true → a ≡ b
@@ -52,19 +65,16 @@ server_of c distinct k server same is kind = one_node c distinct server k (serve
 
 -- what a look-up finds is there
 module _ {X : Type 0} where
-  none_clash : (x : X) → ◌≡◌ {A = Option X} None (Some x) → ⊥
-  none_clash x e = absurd cc
-
   found_case : (y x : X) (ys : List X) (b : Bool) (rest : Option X) → cond b (Some y) rest ≡ Some x → (rest ≡ Some x → Contains ys x) → Contains (y ∷ ys) x
   found_case y x ys true rest e later = let same : y ≡ x = cc in subst (λ (z : X). Contains (y ∷ ys) z) same (at_head y ys)
   found_case y x ys false rest e later = in_tail y ys x (later e)
 
   pub in_find : (p : X → Bool) (xs : List X) (x : X) → find p xs ≡ Some x → Contains xs x
-  in_find p [] x e = absurd (none_clash x e)
+  in_find p [] x e = absurd (none-some x e)
   in_find p (y ∷ ys) x e = found_case y x ys (p y) (find p ys) e (in_find p ys x)
 
   pub in_get : (xs : List X) (k : ℕ) (x : X) → slice_get xs k ≡ Some x → Contains xs x
-  in_get [] k x e = absurd (none_clash x e)
+  in_get [] k x e = absurd (none-some x e)
   in_get (y ∷ ys) zero x e = let same : y ≡ x = cc in subst (λ (z : X). Contains (y ∷ ys) z) same (at_head y ys)
   in_get (y ∷ ys) (suc k) x e = in_tail y ys x (in_get ys k x e)
 
@@ -106,7 +116,7 @@ pub secret_in : (site : SiteValue) (key : ℕ) (secret : List ℕ) → secret_of
 secret_in site key secret e = at (key_of site.keys key) refl e
   where
     at : (found : Option SiteKeyValue) → key_of site.keys key ≡ found → option_map (λ k. k.secret) found ≡ Some secret → Contains (map (λ k. k.secret) site.keys) secret
-    at None is e = absurd (none_clash secret e)
+    at None is e = absurd (none-some secret e)
     at (Some k) is e = let same : k.secret ≡ secret = cc in subst (Contains (map (λ k. k.secret) site.keys)) same (in_map (λ k. k.secret) site.keys k (in_find (λ k. k.id == key) site.keys k is))
 
 pub record Checked (sites : List SiteValue) (bytes : List ℕ) : Type 0 where
@@ -122,3 +132,116 @@ checked sites from bytes m key e =
       known = in_flat_map (λ s. map (λ k. k.secret) s.keys) sites its.site key (in_find (λ s. s.id == m.site) sites its.site its.found) (secret_in its.site m.key_id key its.known);
       authentic = its.authentic;
     }
+
+-- A Map-Notify is not read as a Map-Register.
+
+err_clash : {X : Type 0} {fault : ReadFault} {x : X} → ◌≡◌ {A = Result X ReadFault} (Err fault) (Ok x) → ⊥
+err_clash e = absurd cc
+
+-- the checks after the type keep it
+pub kept_kind : (kind other : Kind) (a : Result (List ℕ) ReadFault) (b c : Result Bool ReadFault) (d : Result (List ℕ) ReadFault)
+    → (a >>= λ _. Ok kind >>= λ k. b >>= λ _. c >>= λ _. d >>= λ _. Ok k) ≡ Ok other → kind ≡ other
+kept_kind kind other (Err f) b c d e = absurd (err_clash e)
+kept_kind kind other (Ok x) (Err f) c d e = absurd (err_clash e)
+kept_kind kind other (Ok x) (Ok y) (Err f) d e = absurd (err_clash e)
+kept_kind kind other (Ok x) (Ok y) (Ok z) (Err f) e = absurd (err_clash e)
+kept_kind kind other (Ok x) (Ok y) (Ok z) (Ok w) e = cc
+
+said_clash : {m : MapRegisterValue} {n : MapNotifyValue} → ◌≡◌ {A = Result MessageValue ReadFault} (Ok (Notifies n)) (Ok (Registers m)) → ⊥
+said_clash e = absurd cc
+
+tail_case : (n : MapNotifyValue) (m : MapRegisterValue) (r : Result Bool ReadFault) → (r >>= λ _. Ok (Notifies n)) ≡ Ok (Registers m) → ⊥
+tail_case n m (Ok x) e = said_clash e
+tail_case n m (Err f) e = err_clash e
+
+notify_tail : (ack : Bool) (bytes : List ℕ) (records : List MapRecordValue) (tail : List ℕ) (m : MapRegisterValue) → notify_at ack bytes records tail ≡ Ok (Registers m) → ⊥
+unfolding notify_at
+notify_tail ack bytes records tail m e = tail_case _ m (require faults.Trailing (length tail == 0 || length tail == 24)) e
+
+records_case : (kind : Kind) (bytes : List ℕ) (m : MapRegisterValue) → ((rs : List MapRecordValue × List ℕ) → tail_at kind bytes rs.0 rs.1 ≡ Ok (Registers m) → ⊥) → (r : Result (List MapRecordValue × List ℕ) ReadFault) → (r >>= λ rs. tail_at kind bytes rs.0 rs.1) ≡ Ok (Registers m) → ⊥
+records_case kind bytes m none (Ok rs) e = none rs e
+records_case kind bytes m none (Err f) e = err_clash e
+
+-- whatever is read behind the head, a type that is no Map-Register's leads to none
+kind_case : (bytes : List ℕ) (m : MapRegisterValue) (r : Result Kind ReadFault) → (r ≡ Ok kinds.Register → ⊥) → (r >>= λ kind. records_at 0 (slice_index bytes 3) (drop 32 bytes) >>= λ rs. tail_at kind bytes rs.0 rs.1) ≡ Ok (Registers m) → ⊥
+kind_case bytes m (Ok kinds.Register) none e = none refl
+kind_case bytes m (Ok kinds.Notify) none e = records_case kinds.Notify bytes m (λ rs. notify_tail false bytes rs.0 rs.1 m) (records_at 0 (slice_index bytes 3) (drop 32 bytes)) e
+kind_case bytes m (Ok kinds.NotifyAck) none e = records_case kinds.NotifyAck bytes m (λ rs. notify_tail true bytes rs.0 rs.1 m) (records_at 0 (slice_index bytes 3) (drop 32 bytes)) e
+kind_case bytes m (Err f) none e = err_clash e
+
+notify_clash : kinds.Notify ≡ kinds.Register → ⊥
+notify_clash e = absurd cc
+
+ack_clash : kinds.NotifyAck ≡ kinds.Register → ⊥
+ack_clash e = absurd cc
+
+abbrev pub notification : Bool → ℕ → ℕ → List MapRecordValue → MapNotifyValue
+notification ack nonce key records = record { ack = ack; nonce = nonce; key_id = key; records = records }
+
+no_register_kind : (ack : Bool) (nonce key : ℕ) (records : List MapRecordValue) (auth : List ℕ) → kind_at (written_notify (notification ack nonce key records) auth) ≡ Ok kinds.Register → ⊥
+unfolding written_notify kind_at
+no_register_kind false nonce key records auth e = let bytes = written_notify (notification false nonce key records) auth in
+    notify_clash (kept_kind kinds.Notify kinds.Register (after 16 bytes) (require faults.Algorithm (slice_index bytes 13 == 2)) (require faults.AuthLength (number_at bytes 14 == 16)) (after 32 bytes) e)
+no_register_kind true nonce key records auth e = let bytes = written_notify (notification true nonce key records) auth in
+    ack_clash (kept_kind kinds.NotifyAck kinds.Register (after 16 bytes) (require faults.Algorithm (slice_index bytes 13 == 2)) (require faults.AuthLength (number_at bytes 14 == 16)) (after 32 bytes) e)
+
+pub no_register : (n : MapNotifyValue) (auth : List ℕ) (m : MapRegisterValue) → message_at (written_notify n auth) ≡ Ok (Registers m) → ⊥
+unfolding message_at
+no_register n auth m e = kind_case (written_notify n auth) m (kind_at (written_notify n auth)) (no_register_kind n.ack n.nonce n.key_id n.records auth) e
+
+pub notifies_no_register : (i : Item) (n : MapNotifyValue) (m : MapRegisterValue) → i.message ≡ Notifies n → message_at (bytes_of i) ≡ Ok (Registers m) → ⊥
+unfolding bytes_of
+notifies_no_register i n m is e = no_register n _ m (subst (λ (s : MessageValue). message_at (signed i.secret (written s)) ≡ Ok (Registers m)) is e)
+
+-- What is read of the head of a Map-Notify or Map-Notify-Ack that was written.
+
+abbrev notify_kind : Bool → Kind
+notify_kind false = kinds.Notify
+notify_kind true = kinds.NotifyAck
+
+kind_is : (ack : Bool) (nonce key : ℕ) (records : List MapRecordValue) (auth : List ℕ) (k : Kind) → kind_at (written_notify (notification ack nonce key records) auth) ≡ Ok k → notify_kind ack ≡ k
+unfolding written_notify kind_at
+kind_is false nonce key records auth k e = let bytes = written_notify (notification false nonce key records) auth in
+    kept_kind kinds.Notify k (after 16 bytes) (require faults.Algorithm (slice_index bytes 13 == 2)) (require faults.AuthLength (number_at bytes 14 == 16)) (after 32 bytes) e
+kind_is true nonce key records auth k e = let bytes = written_notify (notification true nonce key records) auth in
+    kept_kind kinds.NotifyAck k (after 16 bytes) (require faults.Algorithm (slice_index bytes 13 == 2)) (require faults.AuthLength (number_at bytes 14 == 16)) (after 32 bytes) e
+
+nonce_again : (n : MapNotifyValue) (auth : List ℕ) → n.nonce < 2 ^ 64 → nonce_of (written_notify n auth) ≡ n.nonce
+unfolding written_notify
+nonce_again n auth below = from_be_bytes-to_be_bytes_8 n.nonce below
+
+key_again : (n : MapNotifyValue) (auth : List ℕ) → slice_index (written_notify n auth) 12 ≡ n.key_id
+unfolding written_notify
+key_again n auth = refl
+
+-- its bit, its Key ID and its nonce
+pub record SameHead (m n : MapNotifyValue) : Type 0 where
+  pub ack : m.ack ≡ n.ack
+  pub key : m.key_id ≡ n.key_id
+  pub nonce : m.nonce ≡ n.nonce
+
+same_said : (m n : MapNotifyValue) → ◌≡◌ {A = Result MessageValue ReadFault} (Ok (Notifies n)) (Ok (Notifies m)) → n ≡ m
+same_said m n e = cc
+
+tail_is : (ack : Bool) (bytes : List ℕ) (records : List MapRecordValue) (tail : List ℕ) (m : MapNotifyValue) → tail_at (notify_kind ack) bytes records tail ≡ Ok (Notifies m) → map_notify_of ack bytes records ≡ m
+unfolding notify_at
+tail_is false bytes records tail m e = same_said m _ (bind_ok (require faults.Trailing (length tail == 0 || length tail == 24)) (λ _. Ok (Notifies (map_notify_of false bytes records))) (Notifies m) e).2
+tail_is true bytes records tail m e = same_said m _ (bind_ok (require faults.Trailing (length tail == 0 || length tail == 24)) (λ _. Ok (Notifies (map_notify_of true bytes records))) (Notifies m) e).2
+
+pub same_head : (n : MapNotifyValue) (auth : List ℕ) (m : MapNotifyValue) → n.nonce < 2 ^ 64 → message_at (written_notify n auth) ≡ Ok (Notifies m) → SameHead m n
+unfolding message_at
+same_head n auth m below e =
+    let bytes : List ℕ = written_notify n auth in
+    let k = bind_ok (kind_at bytes) (λ kind. records_at 0 (slice_index bytes 3) (drop 32 bytes) >>= λ rs. tail_at kind bytes rs.0 rs.1) (Notifies m) e in
+    let l = bind_ok (records_at 0 (slice_index bytes 3) (drop 32 bytes)) (λ rs. tail_at k.0 bytes rs.0 rs.1) (Notifies m) k.2 in
+    let is : map_notify_of n.ack bytes l.0.0 ≡ m = tail_is n.ack bytes l.0.0 l.0.1 m (subst (λ (kind : Kind). tail_at kind bytes l.0.0 l.0.1 ≡ Ok (Notifies m)) (sym (kind_is n.ack n.nonce n.key_id n.records auth k.0 k.1)) l.2) in
+    record {
+      ack = sym (ap (λ (x : MapNotifyValue). x.ack) is);
+      key = sym (ap (λ (x : MapNotifyValue). x.key_id) is) ∙ key_again n auth;
+      nonce = sym (ap (λ (x : MapNotifyValue). x.nonce) is) ∙ nonce_again n auth below;
+    }
+
+-- so is that of an item
+pub item_head : (i : Item) (n m : MapNotifyValue) → i.message ≡ Notifies n → n.nonce < 2 ^ 64 → message_at (bytes_of i) ≡ Ok (Notifies m) → SameHead m n
+unfolding bytes_of
+item_head i n m is below e = same_head n _ m below (subst (λ (s : MessageValue). message_at (signed i.secret (written s)) ≡ Ok (Notifies m)) is e)

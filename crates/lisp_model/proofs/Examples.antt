@@ -1,8 +1,5 @@
 -- Examples: a small network, what the definitions make of its traces, and what they don't allow.
 pub mod Samples
-pub mod Traces
-pub mod Arrivals
-pub mod Wholes
 pub mod Steps
 pub mod LegalRows
 pub mod Story
@@ -13,10 +10,7 @@ pub mod BrokenPromises
 pub mod Premises
 pub mod Answers
 pub mod Meanings
-pub mod PartMeanings
 pub mod TwoParts
-pub mod LargeDatabases
-pub mod Indices
 pub mod Networks
 pub mod MemoryLines
 pub mod Limits

@@ -51,8 +51,6 @@ IsBy (lines.Accepted server _ _ _ _) node = server ≡ node
 IsBy (lines.Done server _ _) node = server ≡ node
 IsBy (lines.Counted router _ _ _ _) node = router ≡ node
 IsBy (lines.Noticed router _ _ _) node = router ≡ node
-IsBy (lines.Nowhere _) node = Unit {0}
-IsBy (lines.Ticked _ _) node = Unit {0}
 IsBy (lines.Restarted named) node = named ≡ node
 IsBy (lines.Rotated router _) node = router ≡ node
 IsBy (lines.Emptied router _) node = router ≡ node
@@ -62,6 +60,7 @@ IsBy (lines.Reloaded server _) node = server ≡ node
 IsBy (lines.Renewed server _) node = server ≡ node
 IsBy (lines.Down router) node = router ≡ node
 IsBy (lines.Refused named _) node = named ≡ node
+IsBy _ node = Unit {0}
 
 module _ (t : Context) (a : Arrival) where
   module _ (router server part key nonce : ℕ) where

@@ -5,6 +5,7 @@ use Rattle.std.specs.List.{AllPairs, Contains, find, flat_map}
 use Rattle.std.proofs.lemmas.Bool.{and_parts, ltb-true, leb-true}
 use Rattle.std.proofs.lemmas.Bool.Decides.{Decides-eqb}
 use Rattle.std.proofs.lemmas.List.{length-append, length-map}
+use Rattle.std.proofs.lemmas.Option.{none-some}
 use Rattle.lisp_records.specs.Address.{addr_eq}
 use Rattle.lisp_policy.specs.Configuration.{ConfigValue}
 use Rattle.lisp_messages.specs.declared.fault.ReadFault.{ReadFault}
@@ -36,10 +37,7 @@ find_case p y x true rest is e later = let same : y ≡ x = cc in ap p (sym same
 find_case p y x false rest is e later = later e
 
 pub find_true : {X : Type 0} (p : X → Bool) (xs : List X) (x : X) → find p xs ≡ Some x → p x ≡ true
-find_true p [] x e = absurd (none_clash e)
-  where
-    none_clash : ◌≡◌ {A = Option _} None (Some x) → ⊥
-    none_clash e = absurd cc
+find_true p [] x e = absurd (none-some _ e)
 find_true p (y ∷ ys) x e = find_case p y x (p y) (find p ys) refl e (find_true p ys x)
 
 some_of : {X : Type 0} (o : Option X) (x : X) → ok_or o NotMine ≡ Ok x → o ≡ Some x

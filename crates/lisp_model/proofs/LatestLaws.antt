@@ -1,19 +1,68 @@
--- The latest nonce of a part is that of an entry, under the router's key while it is up.
-use Rattle.std.proofs.Common.{◌≡◌, ℕ, Bool, true, false, List, [], ◌∷◌, ◌++◌, length, refl, sym, ap, subst, inl, inr, ◌∙◌, true≢false}
-use Rattle.std.specs.Prelude.{◌⊎◌, ◌==◌, ◌&&◌, if◌then◌else◌}
-use Rattle.std.specs.List.{Contains}
-use Rattle.std.proofs.lemmas.Bool.{and_parts}
+-- Of some numbers, part by part, the least part that passes a test.
+use Rattle.std.proofs.Common.{◌≡◌, ℕ, zero, suc, ◌+◌, ◌<◌, Bool, true, List, length, map, get_or, Some, refl, sym, ap, subst, ◌∙◌, true≢false, arith, false, [], ◌∷◌, ◌++◌, inl, inr, ◌≤◌, None}
+use Rattle.std.specs.Prelude.{position, ◌⊎◌, ◌==◌, ◌&&◌, if◌then◌else◌}
+use Rattle.std.specs.List.{position_or_len, Contains}
+use Rattle.std.proofs.lemmas.Bool.{lt-ltb, and_parts}
+use Rattle.std.proofs.lemmas.List.Quantifiers.{position-Some}
+use Rattle.std.proofs.lemmas.List.Sums.{fails_before_first}
 use Rattle.std.proofs.lemmas.Bool.Decides.{Decides-eqb}
 use Rattle.std.proofs.lemmas.List.Elements.{Contains-append_right}
+use Rattle.lisp_records.specs.Parts.{most_parts, part_count}
+use Rattle.lisp_etr.specs.Rounds.{is_latest, part_with}
+use Rattle.lisp_records.specs.Record.{MapRecordValue}
+use Rattle.lisp_model.specs.Trace.{Step, EventValue, Opening, ShownStore, key as key_of, key_after, database, is_up, up_after, clock, database_after}
+use Rattle.lisp_model.specs.Counted.{latest_nonce, latest_nonces, latest_nonce_after}
+use Rattle.lisp_model.specs.Numbers.{numbers_from, numbers_below}
 use Rattle.lisp_model.specs.declared.event.Event.TheVariants as events
 use Rattle.lisp_model.specs.declared.line.Line.{Line}
 use Rattle.lisp_model.specs.declared.line.Line.TheVariants as lines
 use Rattle.lisp_model.specs.declared.refusal.Refusal.TheVariants as refusals
-use Rattle.lisp_model.specs.Trace.{EventValue, Step, Opening, ShownStore, key as key_of, key_after, database, is_up, up_after}
 use Rattle.lisp_model.specs.History.{SentRegister, sent_registers_in, history}
-use Rattle.lisp_model.specs.Counted.{latest_nonce, latest_nonce_after}
 use Rattle.lisp_model.specs.Legal.{MayCome, LegalTrace, context_of}
+use Rattle.lisp_model.specs.Timers.{RoundTimes, with_renewal, round, round_after}
+use Rattle.lisp_model.specs.Promises.{AbsentPartsRest}
 use Rattle.lisp_model.proofs.ListLemmas.{at_head}
+
+module _ (f : ℕ → ℕ) where
+  long : (first n : ℕ) → length (map f (numbers_from first n)) ≡ n
+  long first zero = refl
+  long first (suc n) = ap suc (long (suc first) n)
+
+  get_number : (first n k d : ℕ) → k < n → get_or (map f (numbers_from first n)) k d ≡ f (first + k)
+  get_number first zero k d low = absurd (omega (arith, low))
+  get_number first (suc n) zero d low = ap f (omega arith)
+  get_number first (suc n) (suc k) d low = get_number (suc first) n k d (omega (arith, low)) ∙ ap f (omega arith)
+
+  module _ (p : ℕ → Bool) where
+    -- the least place that passes is one of them, and passes
+    pub passes_there : (n part : ℕ) → position p (map f (numbers_from 0 n)) ≡ Some part → (part < n) × (p (f part) ≡ true)
+    passes_there n part e =
+        let found = position-Some p (map f (numbers_from 0 n)) part 0 e in
+        let low : part < n = subst (λ (k : ℕ). part < k) (long 0 n) found.0 in
+        let same : part ≡ 0 + part = omega arith in
+        (low, ap (λ (k : ℕ). p (f k)) same ∙ ap p (sym (get_number 0 n part 0 low)) ∙ found.1)
+
+    -- where one passes, there is a least one
+    pub passes_somewhere : (n k : ℕ) → k < n → p (f k) ≡ true → (part : ℕ) × (position p (map f (numbers_from 0 n)) ≡ Some part)
+    passes_somewhere n k low e = (position_or_len p (map f (numbers_from 0 n)), rw (lt-ltb (position_or_len p (map f (numbers_from 0 n))) (length (map f (numbers_from 0 n))) inside) refl)
+      where
+        not_before : ¬ (k < position_or_len p (map f (numbers_from 0 n)))
+        not_before before = true≢false (sym (ap p (get_number 0 n k 0 low ∙ ap f (omega arith)) ∙ e) ∙ fails_before_first p (map f (numbers_from 0 n)) k 0 before)
+
+        inside : position_or_len p (map f (numbers_from 0 n)) < length (map f (numbers_from 0 n))
+        inside = let size = long 0 n in omega (arith, low, size, not_before)
+
+-- the part that a nonce counts for has it as its latest
+pub counted_part : (T : List Step) (router server nonce part : ℕ) → part_with nonce (latest_nonces T router server) ≡ Some part → (part < most_parts) × (is_latest nonce (latest_nonce T router server part) ≡ true)
+unfolding numbers_below
+counted_part T router server nonce part e = passes_there (latest_nonce T router server) (is_latest nonce) most_parts part e
+
+-- where it is the latest of a part, it counts for some part
+pub counts_for_some : (T : List Step) (router server nonce part : ℕ) → part < most_parts → is_latest nonce (latest_nonce T router server part) ≡ true → (other : ℕ) × (part_with nonce (latest_nonces T router server) ≡ Some other)
+unfolding numbers_below
+counts_for_some T router server nonce part low e = passes_somewhere (latest_nonce T router server) (is_latest nonce) most_parts part low e
+
+-- The latest nonce of a part is that of an entry, under the router's key while it is up.
 
 -- an entry of a router to a server, of a part, under a key, with a nonce
 pub record IsEntryOf (entries : List SentRegister) (router server part key nonce : ℕ) : Type 0 where
@@ -119,6 +168,106 @@ module _ (o : Opening) (T : List Step) (actor : ℕ) (after : ShownStore) (r k p
   now was (events.Restart node pick db) _ row up = absurd row
   now was _ _ row up = was up
 
+  -- A part that the database of a router that is up doesn't have has no sends in its round.
+  abbrev Rests : RoundTimes → Type 0
+  Rests x = x.moments ≡ []
+
+  abbrev Absent : List MapRecordValue → Type 0
+  Absent db = part_count db ≤ p
+
+  abbrev Rested : Type 0
+  Rested = is_up T r ≡ true → Absent (database o T r) → Rests (round T r k p)
+
+  abbrev RestsNow : EventValue → Line → Type 0
+  RestsNow e line = up_after e line r (is_up T r) ≡ true → Absent (database_after e line r (database o T r)) → Rests (round_after line (clock T) r k p (round T r k p))
+
+  abbrev begun : RoundTimes
+  begun = record { begin = clock T; moments = [] }
+
+  -- a number is that of the router where another one is that it equals
+  alike : (named router : ℕ) → named ≡ router → (named == r) ≡ (router == r)
+  alike named router same = ap (λ (n : ℕ). n == r) same
+
+  -- it was up where it isn't the one that starts
+  was_up : (b up : Bool) → (if b then up else is_up T r) ≡ true → b ≡ false → is_up T r ≡ true
+  was_up true up on is = absurd (true≢false is)
+  was_up false up on is = on
+
+  -- a new round begins, at a start with a database or at a change; or with the database as it was
+  begins : Rested → (b c : Bool) → b ≡ c → (b ≡ false → is_up T r ≡ true) → (db : List MapRecordValue) → Absent (if c then db else database o T r) → Rests (if b then begun else round T r k p)
+  begins was true c same up db none = refl
+  begins was false true same up db none = absurd (true≢false (sym same))
+  begins was false false same up db none = was (up refl) none
+
+  begins_alone : Rested → (b : Bool) → (b ≡ false → is_up T r ≡ true) → Absent (database o T r) → Rests (if b then begun else round T r k p)
+  begins_alone was true up none = refl
+  begins_alone was false up none = was (up refl) none
+
+  -- a start that is refused
+  stays : Rested → (b c : Bool) → b ≡ c → (if b then false else is_up T r) ≡ true → (db : List MapRecordValue) → Absent (if c then db else database o T r) → Rests (round T r k p)
+  stays was true c same up db none = absurd (true≢false (sym up))
+  stays was false true same up db none = absurd (true≢false (sym same))
+  stays was false false same up db none = was up none
+
+  stays_alone : Rested → (b : Bool) → (if b then false else is_up T r) ≡ true → Absent (database o T r) → Rests (round T r k p)
+  stays_alone was true up none = absurd (true≢false (sym up))
+  stays_alone was false up none = was up none
+
+  -- what is sent is there
+  sends : Rested → (x y z : ℕ) → z < part_count (database o T x) → is_up T r ≡ true → Absent (database o T r) → (b : Bool) → (x == r && y == k && z == p) ≡ b
+      → Rests (if b then record (round T r k p) { moments = clock T ∷ (round T r k p).moments } else round T r k p)
+  sends was x y z there up none false is = was up none
+  sends was x y z there up none true is =
+      let all = and_parts (x == r && y == k) (z == p) is in
+      let who : x ≡ r = (Decides-eqb x r).0 (and_parts (x == r) (y == k) all.0).0 in
+      let of : z ≡ p = (Decides-eqb z p).0 all.1 in
+      let here : z < part_count (database o T r) = subst (λ (n : ℕ). z < part_count (database o T n)) who there in
+      absurd (omega (arith, of, here, none))
+
+  renewed : (old : RoundTimes) → Rests old → (b : Bool) → Rests (if b then with_renewal old old.moments else old)
+  renewed old rest true = subst (λ (ms : List ℕ). Rests (with_renewal old ms)) (sym rest) rest
+  renewed old rest false = rest
+
+  -- any legal step
+  rests_now : Rested → (e : EventValue) (line : Line) → Row e line → RestsNow e line
+  rests_now was (events.Send router server part fate) (lines.Sent x y z key nonce datagram) row up none =
+      sends was x y z (subst (λ (n : ℕ). n < part_count (database o T x)) (sym row.2) (subst (λ (n : ℕ). part < part_count (database o T n)) (sym row.0) row.3.there)) up none (x == r && y == k && z == p) refl
+  rests_now was (events.Deliver _ _) (lines.Sent _ _ _ _ _ _) row up none = absurd row.arrives
+  rests_now was (events.Junk _ _ _) (lines.Sent _ _ _ _ _ _) row up none = absurd row.arrives
+  rests_now was _ (lines.Sent _ _ _ _ _ _) row up none = absurd row
+  rests_now was (events.Deliver _ _) (lines.Counted x y z key nonce) row up none = renewed (round T r k p) (was up none) (x == r && y == k && z == p)
+  rests_now was (events.Junk _ _ _) (lines.Counted x y z key nonce) row up none = renewed (round T r k p) (was up none) (x == r && y == k && z == p)
+  rests_now was _ (lines.Counted _ _ _ _ _) row up none = absurd row
+  rests_now was (events.Change router db) (lines.Changed named records) row up none = begins was (named == r) (router == r) (alike named router row.names) (λ other. up) db none
+  rests_now was (events.Deliver _ _) (lines.Changed _ _) row up none = absurd row.arrives
+  rests_now was (events.Junk _ _ _) (lines.Changed _ _) row up none = absurd row.arrives
+  rests_now was _ (lines.Changed _ _) row up none = absurd row
+  rests_now was (events.Restart node pick (Some db)) (lines.Restarted named) row up none = begins was (named == r) (node == r) (alike named node row.names) (was_up (named == r) true up) db none
+  rests_now was (events.Restart node pick None) (lines.Restarted named) row up none = begins_alone was (named == r) (was_up (named == r) true up) none
+  rests_now was (events.Deliver _ _) (lines.Restarted _) row up none = absurd row.arrives
+  rests_now was (events.Junk _ _ _) (lines.Restarted _) row up none = absurd row.arrives
+  rests_now was _ (lines.Restarted _) row up none = absurd row
+  rests_now was (events.Rotate router key fate) (lines.Rotated named under) row up none = begins_alone was (named == r) (λ other. up) none
+  rests_now was (events.Deliver _ _) (lines.Rotated _ _) row up none = absurd row.arrives
+  rests_now was (events.Junk _ _ _) (lines.Rotated _ _) row up none = absurd row.arrives
+  rests_now was _ (lines.Rotated _ _) row up none = absurd row
+  rests_now was (events.Lose router key (Some db)) (lines.Emptied named under) row up none = begins was (named == r) (router == r) (alike named router row.names) (was_up (named == r) true up) db none
+  rests_now was (events.Lose router key None) (lines.Emptied named under) row up none = begins_alone was (named == r) (was_up (named == r) true up) none
+  rests_now was (events.Deliver _ _) (lines.Emptied _ _) row up none = absurd row.arrives
+  rests_now was (events.Junk _ _ _) (lines.Emptied _ _) row up none = absurd row.arrives
+  rests_now was _ (lines.Emptied _ _) row up none = absurd row
+  rests_now was (events.Restart node pick (Some db)) (lines.Refused named (refusals.Start fault)) row up none = stays was (named == r) (node == r) (alike named node row.names) up db none
+  rests_now was (events.Restart node pick None) (lines.Refused named (refusals.Start fault)) row up none = stays_alone was (named == r) up none
+  rests_now was (events.Restart _ _ _) _ row up none = absurd row
+  rests_now was (events.Lose router key (Some db)) (lines.Refused named (refusals.Start fault)) row up none = stays was (named == r) (router == r) (alike named router row.names) up db none
+  rests_now was (events.Lose router key None) (lines.Refused named (refusals.Start fault)) row up none = stays_alone was (named == r) up none
+  rests_now was (events.Lose _ _ _) _ row up none = absurd row
+  rests_now was _ _ row up none = was up none
+
 pub latest_is_sent : (o : Opening) (T : List Step) → LegalTrace o T → (r k p : ℕ) → is_up T r ≡ true → IsLatest o (history o T) r k p (key_of o T r) (latest_nonce T r k p)
 latest_is_sent o [] legal r k p up = inl refl
 latest_is_sent o (s ∷ T) legal r k p up = now o T s.actor s.shown r k p (latest_is_sent o T legal.1 r k p) s.event s.line legal.0.row up
+
+pub absent_parts_rest : (o : Opening) (T : List Step) → LegalTrace o T → AbsentPartsRest o T
+absent_parts_rest o [] legal r k p up none = refl
+absent_parts_rest o (s ∷ T) legal r k p up none = rests_now o T s.actor s.shown r k p (absent_parts_rest o T legal.1 r k p) s.event s.line legal.0.row up none

@@ -1,43 +1,152 @@
--- At each moment a server holds no more of a site than the site may have.
-use Rattle.std.proofs.Common.{◌≡◌, ℕ, ◌+◌, ◌-◌, ◌≤◌, Bool, true, false, List, [], ◌∷◌, ◌++◌, Option, Some, None, refl, sym, ap, subst, inl, inr, ◌∙◌, true≢false, arith}
-use Rattle.std.specs.Prelude.{◌≢◌, ◌==◌, ◌&&◌, ◌⊎◌, if◌then◌else◌, reverse}
-use Rattle.std.specs.List.{Contains, find}
-use Rattle.std.specs.Option.{is_some, option_and_then, option_map}
+-- What a legal step does to the sites of a Map-Server, and what was accepted under them since its start.
+use Rattle.std.proofs.Common.{◌≡◌, ℕ, Bool, true, false, List, [], ◌∷◌, ◌++◌, map, Option, Some, None, Ok, refl, sym, ap, subst, inl, inr, ◌∙◌, ◌+◌, ◌-◌, ◌≤◌, true≢false, arith}
+use Rattle.std.specs.Prelude.{◌==◌, ◌⊎◌, if◌then◌else◌, ◌≢◌, ◌&&◌, reverse}
+use Rattle.std.specs.List.{Contains, flat_map, find}
+use Rattle.std.specs.Option.{option_and_then, option_map, unwrap_or, is_some}
+use Rattle.std.proofs.lemmas.Bool.Decides.{Decides-eqb, Decides-ltb}
+use Rattle.std.proofs.lemmas.List.Elements.{Contains-append_cases}
+use Rattle.std.proofs.lemmas.Option.{none-some}
 use Rattle.std.proofs.lemmas.Bool.{and_parts, cases_eq}
-use Rattle.std.proofs.lemmas.Bool.Decides.{Decides-ltb}
+use Rattle.lisp_policy.specs.Site.{SiteValue, secret_of, site_of}
+use Rattle.lisp_policy.specs.Extends.{extends}
+use Rattle.lisp_messages.specs.Message.{MapRegisterValue}
+use Rattle.lisp_admission.specs.Checks.{secret_at, secret_under, most_routers_at, most_rows_at}
+use Rattle.lisp_admission.proofs.Secrets.{its_secret}
+use Rattle.lisp_admission.proofs.Extended.{secret_kept, routers_widen, rows_widen}
 use Rattle.lisp_records.specs.declared.address.Addr.{Addr}
 use Rattle.lisp_records.specs.declared.router.RouterId.{RouterId}
 use Rattle.lisp_records.specs.Address.{PrefixValue, prefix_eq}
 use Rattle.lisp_records.specs.Router.{router_eq}
 use Rattle.lisp_records.specs.Row.{RowValue, is_alive}
 use Rattle.lisp_records.proofs.RouterLaws.{router_eq-Decides}
-use Rattle.lisp_policy.specs.Site.{SiteValue, secret_of, site_of}
-use Rattle.lisp_policy.specs.Extends.{extends}
-use Rattle.lisp_messages.specs.Message.{MapRegisterValue}
 use Rattle.lisp_lookup.specs.Growth.{AtMost, Fits, HasRow, HasRouter, StaysWithin}
 use Rattle.lisp_lookup.specs.Table.{is_row_of, if_alive}
 use Rattle.lisp_lookup.proofs.GrowthLaws.{renewed_fits, fits_at_most}
-use Rattle.lisp_admission.specs.Checks.{most_routers_at, most_rows_at}
 use Rattle.lisp_admission.specs.Pairs.{router_of}
-use Rattle.lisp_admission.proofs.Extended.{routers_widen, rows_widen}
 use Rattle.lisp_model.specs.declared.event.Event.TheVariants as events
 use Rattle.lisp_model.specs.declared.line.Line.{Line}
 use Rattle.lisp_model.specs.declared.line.Line.TheVariants as lines
-use Rattle.lisp_model.specs.Trace.{EventValue, Step, Opening, sites, sites_after, clock, time_of}
+use Rattle.lisp_model.specs.Trace.{EventValue, Step, Opening, clock, sites, sites_after, time_of}
 use Rattle.lisp_model.specs.Held.{Acceptance, accepted_rows, held_rows}
 use Rattle.lisp_model.specs.Bag.{Arrival, acceptances_in, arrival_in, arrival_of, bag, junk_arrival, since_start, since_start_after}
 use Rattle.lisp_model.specs.Receiving.{IsAccepted}
 use Rattle.lisp_model.specs.Legal.{LegalTrace, MayCome, context_of}
 use Rattle.lisp_model.specs.Promises.{IsWithin, SitesStayWithin}
-use Rattle.lisp_model.proofs.Agreement.{held_found}
-use Rattle.lisp_model.proofs.HeldMore.{held_other}
-use Rattle.lisp_model.proofs.HearingLemmas.{find_true}
+use Rattle.lisp_model.proofs.CleanLemmas.{in_find, in_flat_map, secret_in}
+use Rattle.lisp_model.proofs.ListLemmas.{head_or_tail, in_none}
 use Rattle.lisp_model.proofs.Locality.{same_number, unless}
-use Rattle.lisp_model.proofs.RisingSteps.{taken_one}
-use Rattle.lisp_model.proofs.SitesLemmas.{Signs, Keeps, Renews, sites_step, since_signs}
+use Rattle.lisp_model.proofs.RisingLaws.{taken_one}
+use Rattle.lisp_model.proofs.Rows.{Arrived, tells}
+use Rattle.lisp_model.proofs.HeldLaws.{held_found}
+use Rattle.lisp_model.proofs.RowLaws.{held_other}
+use Rattle.lisp_model.proofs.HearingLemmas.{find_true}
+
+-- a site has a secret under a key
+abbrev pub Signs : List SiteValue → ℕ → ℕ → Type 0
+Signs sites site key = (secret : List ℕ) × (secret_at sites site key ≡ Some secret)
+
+-- sites stay, or others come that have all that they had
+abbrev pub Keeps : List SiteValue → List SiteValue → Type 0
+Keeps old new = (new ≡ old) ⊎ (extends old new ≡ true)
+
+pub signs_on : (old new : List SiteValue) (site key : ℕ) → Keeps old new → Signs old site key → Signs new site key
+signs_on old new site key (inl same) signs = subst (λ (sites : List SiteValue). Signs sites site key) (sym same) signs
+signs_on old new site key (inr more) signs = (signs.0, secret_kept old new more site key signs.0 signs.1)
+
+-- the secret is one of those of the sites
+pub signs_in : (sites : List SiteValue) (site key : ℕ) → Signs sites site key → Contains (flat_map (λ s. map (λ k. k.secret) s.keys) sites) (unwrap_or (secret_at sites site key) [])
+signs_in sites site key signs = by (site_of sites site) refl signs.1
+  where
+    by : (o : Option SiteValue) → site_of sites site ≡ o → option_and_then (λ s. secret_of s key) o ≡ Some signs.0 → Contains (flat_map (λ s. map (λ k. k.secret) s.keys) sites) (unwrap_or (secret_at sites site key) [])
+    by None is e = absurd (none-some signs.0 e)
+    by (Some its) is e = subst (λ (found : Option (List ℕ)). Contains (flat_map (λ s. map (λ k. k.secret) s.keys) sites) (unwrap_or found [])) (sym signs.1)
+        (in_flat_map (λ s. map (λ k. k.secret) s.keys) sites its signs.0 (in_find (λ s. s.id == site) sites its is) (secret_in its key signs.0 e))
+
+-- a server starts anew under other sites
+abbrev pub Renews : Line → ℕ → Type 0
+Renews (lines.Renewed server _) k = server ≡ k
+Renews _ k = ⊥
+
+module _ (o : Opening) (T : List Step) (s : Step) where
+  pub sites_step : (e : EventValue) (line : Line) → MayCome (context_of o T s) e line → (k : ℕ) → Keeps (sites o T k) (sites_after e k (sites o T k)) ⊎ Renews line k
+  sites_step (events.Reload server new) (lines.Reloaded named count) row k = at (server == k) refl
+    where
+      at : (b : Bool) → (server == k) ≡ b → Keeps (sites o T k) (if b then new else sites o T k) ⊎ ⊥
+      at true is = inl (inr (subst (λ (n : ℕ). extends (sites o T n) new ≡ true) (row.acts.acts ∙ (Decides-eqb server k).0 is) row.keeps))
+      at false is = inl (inl refl)
+  sites_step (events.Reload server new) (lines.Renewed named count) row k = at (server == k) refl
+    where
+      at : (b : Bool) → (server == k) ≡ b → Keeps (sites o T k) (if b then new else sites o T k) ⊎ (named ≡ k)
+      at true is = inr (row.names ∙ (Decides-eqb server k).0 is)
+      at false is = inl (inl refl)
+  sites_step (events.Reload server new) _ row k = absurd row
+  sites_step _ line row k = inl (inl refl)
+
+  -- an accepted message was checked under a secret of its site
+  pub accepted_signs : (a : Arrival) (server : ℕ) (row : (router : _) × (key : ℕ) × (nonce : ℕ) × (datagram : Option ℕ) × IsAccepted (context_of o T s) a server router key nonce datagram) (x : Acceptance)
+      → Contains (acceptances_in (Some a) (clock T)) x → Signs (sites o T server) x.message.site x.message.key_id
+  accepted_signs a server row x has = subst (λ (m : MapRegisterValue). Signs (sites o T server) m.site m.key_id) (sym (ap (λ (y : Acceptance). y.message) is)) signs
+    where
+      its : IsAccepted (context_of o T s) a server row.0 row.1 row.2 row.3
+      its = row.4
+
+      one : Contains (record { message = its.message; from = a.from; moment = clock T } ∷ []) x
+      one = subst (λ (xs : List Acceptance). Contains xs x) (taken_one a (clock T) its.message its.admits.read) has
+
+      is : x ≡ record { message = its.message; from = a.from; moment = clock T }
+      is = only (head_or_tail (record { message = its.message; from = a.from; moment = clock T }) [] x one)
+        where
+          only : (x ≡ record { message = its.message; from = a.from; moment = clock T }) ⊎ Contains [] x → x ≡ record { message = its.message; from = a.from; moment = clock T }
+          only (inl same) = same
+          only (inr none) = absurd (in_none x none)
+
+      signs : Signs (sites o T server) its.message.site its.message.key_id
+      signs = (
+        its.admits.secret,
+        its_secret (sites o T server) a.from a.bytes its.message its.admits.secret
+            (subst (λ (n : ℕ). secret_under (sites o T n) a.from a.bytes its.message ≡ Ok its.admits.secret) its.acts.acts its.admits.checks),
+      )
+
+  -- where a server starts anew, nothing was accepted since
+  forgotten : (node k : ℕ) (x : Acceptance) → Contains (if node == k then [] else since_start o T k) x → (Contains (since_start o T k) x → Signs (sites o T k) x.message.site x.message.key_id) → Signs (sites o T k) x.message.site x.message.key_id
+  forgotten node k x has old = at (node == k) has
+    where
+      at : (b : Bool) → Contains (if b then [] else since_start o T k) x → Signs (sites o T k) x.message.site x.message.key_id
+      at true has = absurd (in_none x has)
+      at false has = old has
+
+  since_case : (e : EventValue) (line : Line) → MayCome (context_of o T s) e line → (k : ℕ) (x : Acceptance) → Contains (since_start_after line (acceptances_in (arrival_in (bag o T) e) (clock T)) k (since_start o T k)) x
+      → (Contains (since_start o T k) x → Signs (sites o T k) x.message.site x.message.key_id) → Keeps (sites o T k) (sites_after e k (sites o T k)) ⊎ Renews line k → Signs (sites_after e k (sites o T k)) x.message.site x.message.key_id
+  since_case e (lines.Accepted server router key nonce datagram) row k x has old (inl keeps) = signs_on (sites o T k) (sites_after e k (sites o T k)) x.message.site x.message.key_id keeps (at (server == k) refl has)
+    where
+      f : Arrived (context_of o T s) e (lines.Accepted server router key nonce datagram)
+      f = (tells (context_of o T s) e (lines.Accepted server router key nonce datagram) row).follows
+
+      new : Contains (acceptances_in (arrival_in (bag o T) e) (clock T)) x → Signs (sites o T server) x.message.site x.message.key_id
+      new has = accepted_signs f.arrival server (router, key, nonce, datagram, f.row) x (subst (λ (a : Option Arrival). Contains (acceptances_in a (clock T)) x) f.is has)
+
+      at : (b : Bool) → (server == k) ≡ b → Contains (if b then acceptances_in (arrival_in (bag o T) e) (clock T) ++ since_start o T k else since_start o T k) x → Signs (sites o T k) x.message.site x.message.key_id
+      at true is has = both (Contains-append_cases (acceptances_in (arrival_in (bag o T) e) (clock T)) (since_start o T k) x has)
+        where
+          both : Contains (acceptances_in (arrival_in (bag o T) e) (clock T)) x ⊎ Contains (since_start o T k) x → Signs (sites o T k) x.message.site x.message.key_id
+          both (inl one) = subst (λ (n : ℕ). Signs (sites o T n) x.message.site x.message.key_id) ((Decides-eqb server k).0 is) (new one)
+          both (inr before) = old before
+      at false is has = old has
+  since_case e (lines.Restarted node) row k x has old (inl keeps) = signs_on (sites o T k) (sites_after e k (sites o T k)) x.message.site x.message.key_id keeps (forgotten node k x has old)
+  since_case e (lines.Renewed server count) row k x has old (inl keeps) = signs_on (sites o T k) (sites_after e k (sites o T k)) x.message.site x.message.key_id keeps (forgotten server k x has old)
+  since_case e (lines.Renewed server count) row k x has old (inr renews) = absurd (in_none x (subst (λ (b : Bool). Contains (if b then [] else since_start o T k) x) (ap (λ (n : ℕ). n == k) renews ∙ same_number k) has))
+  since_case e line row k x has old (inl keeps) = signs_on (sites o T k) (sites_after e k (sites o T k)) x.message.site x.message.key_id keeps (old has)
+  since_case e line row k x has old (inr renews) = absurd renews
+
+-- each message that a server accepted since its start is of a site that it has, under a key of that site
+pub since_signs : (o : Opening) (T : List Step) → LegalTrace o T → (k : ℕ) (x : Acceptance) → Contains (since_start o T k) x → Signs (sites o T k) x.message.site x.message.key_id
+since_signs o [] legal k x has = absurd (in_none x has)
+since_signs o (s ∷ T) legal k x has = since_case o T s s.event s.line legal.0.row k x has (since_signs o T legal.1 k x) (sites_step o T s s.event s.line legal.0.row k)
+
+-- At each moment a server holds no more of a site than the site may have.
 
 -- what is alive at a moment was alive before
-alive_before : (h : RowValue) (now later : ℕ) → now ≤ later → is_alive h later ≡ true → is_alive h now ≡ true
+pub alive_before : (h : RowValue) (now later : ℕ) → now ≤ later → is_alive h later ≡ true → is_alive h now ≡ true
 alive_before h now later before lives = let lt = (Decides-ltb (later - h.accepted) h.life).0 lives in (Decides-ltb (now - h.accepted) h.life).1 (omega (arith, lt, before))
 
 live_before : (since : List Acceptance) (now later : ℕ) → now ≤ later → (router : RouterId) (eid : PrefixValue) → is_some (held_rows since later router eid) ≡ true → is_some (held_rows since now router eid) ≡ true
@@ -117,10 +226,7 @@ module _ (old new : List SiteValue) (site : ℕ) (since : List Acceptance) (now 
   none_of none router eid of some = by (held_rows since now router eid) refl some
     where
       no_secret : (key : ℕ) → Signs old site key → ⊥
-      no_secret key signs = clash (sym (ap (option_and_then (λ s. secret_of s key)) none) ∙ signs.1)
-        where
-          clash : {x : List ℕ} → ◌≡◌ {A = Option (List ℕ)} None (Some x) → ⊥
-          clash e = absurd cc
+      no_secret key signs = none-some _ (sym (ap (option_and_then (λ s. secret_of s key)) none) ∙ signs.1)
 
       by : (h : Option RowValue) → held_rows since now router eid ≡ h → is_some h ≡ true → ⊥
       by None is some = true≢false (sym some)
@@ -175,13 +281,6 @@ module _ (o : Opening) (T : List Step) (legal : LegalTrace o T) (s : Step) (serv
           (subst (λ (new : List Acceptance). IsWithin its (new ++ old) now site) (sym (taken_one a now row.message row.admits.read)) (taken is))
       either (inr differ) = subst (λ (since : List Acceptance). IsWithin its since now site) (sym (unless named server (acceptances_in (Some a) now ++ old) old differ)) was
 
-  restarts : (named : ℕ) → IsWithin its (if named == server then [] else old) now site
-  restarts named = by (named == server)
-    where
-      by : (b : Bool) → IsWithin its (if b then [] else old) now site
-      by true = none_within its site now
-      by false = was
-
   renews : (named : ℕ) (new : List SiteValue) → Keeps its new ⊎ (named ≡ server) → IsWithin new (if named == server then [] else old) now site
   renews named new (inl kept) = by (named == server)
     where
@@ -196,10 +295,7 @@ module _ (o : Opening) (T : List Step) (legal : LegalTrace o T) (s : Step) (serv
       (subst (λ (a : Option Arrival). IsWithin its (if named == server then acceptances_in a now ++ old else old) now site) (sym (ap (option_map arrival_of) row.sent)) (accepts (arrival_of row.item) named router key nonce datagram row.arrives))
   within_after (events.Junk to from bytes) (lines.Accepted named router key nonce datagram) row kept = later _ (events.Junk to from bytes) its (accepts (junk_arrival from bytes) named router key nonce datagram row.arrives)
   within_after e (lines.Accepted named router key nonce datagram) row kept = absurd row
-  within_after (events.Restart node pick db) (lines.Restarted named) row kept = later _ (events.Restart node pick db) its (restarts named)
-  within_after (events.Deliver k fate) (lines.Restarted named) row kept = absurd row.arrives
-  within_after (events.Junk to from bytes) (lines.Restarted named) row kept = absurd row.arrives
-  within_after e (lines.Restarted named) row kept = absurd row
+  within_after e (lines.Restarted named) row (inl kept) = later _ e (sites_after e server its) (renews named (sites_after e server its) (inl kept))
   within_after e (lines.Renewed named count) row kept = later _ e (sites_after e server its) (renews named (sites_after e server its) kept)
   within_after e line row (inl kept) = later old e (sites_after e server its) (keeps old (sites_after e server its) (λ x has. has) kept was)
   within_after e line row (inr renewed) = absurd renewed

@@ -5,24 +5,25 @@ use Rattle.std.proofs.lemmas.Bool.Decides.{Decides-eqb}
 use Rattle.lisp_records.specs.Record.{MapRecordValue}
 use Rattle.lisp_policy.specs.Configuration.{ConfigValue}
 use Rattle.lisp_policy.specs.Site.{SiteValue}
+use Rattle.lisp_admission.specs.declared.refused.Refused.TheVariants as refuseds
 use Rattle.lisp_model.specs.declared.event.Event.TheVariants as events
 use Rattle.lisp_model.specs.declared.line.Line.{Line}
 use Rattle.lisp_model.specs.declared.line.Line.TheVariants as lines
 use Rattle.lisp_model.specs.declared.refusal.Refusal.TheVariants as refusals
-use Rattle.lisp_admission.specs.declared.refused.Refused.TheVariants as refuseds
-use Rattle.lisp_model.specs.Trace.{EventValue, Step, Opening, shown_store, clock, time_of, up_after, key_after, sites_after, database_after}
+use Rattle.lisp_model.specs.Trace.{EventValue, Step, Opening, shown_store, clock, time_of, up_after, key_after, sites_after, database_after, is_server}
 use Rattle.lisp_model.specs.Keys.{keys_since_loss_after, keys_before_loss_after}
 use Rattle.lisp_model.specs.Held.{Acceptance}
 use Rattle.lisp_model.specs.Timers.{RoundTimes, Notice, round_after, notices_after, last_notice_after}
-use Rattle.lisp_model.specs.Bag.{Arrival, arrival_of, junk_arrival, since_start_after}
+use Rattle.lisp_model.specs.Bag.{since_start_after}
 use Rattle.lisp_model.specs.Life.{began_after}
-use Rattle.lisp_model.specs.Accepted.{acceptances_after, tried_nonces_after}
+use Rattle.lisp_model.specs.Accepted.{acceptances_after, tried_nonces_after, acceptances, acceptances_in_step}
 use Rattle.lisp_model.specs.Counted.{latest_nonce_after, acked_after}
-use Rattle.lisp_model.specs.Context.{Context}
 use Rattle.lisp_model.specs.Sending.{last_sent_after, start_values_after}
-use Rattle.lisp_model.specs.Legal.{MayCome, Arrives, Legal, context_of}
-use Rattle.lisp_model.specs.Promises.{is_timeless, LeavesOthers}
-use Rattle.lisp_model.proofs.HeardLines.{IsBy, heard_by}
+use Rattle.lisp_model.specs.Legal.{Legal, context_of, LegalTrace}
+use Rattle.lisp_model.specs.Promises.{is_timeless, LeavesOthers, notice_nonces, notice_nonces_after}
+use Rattle.lisp_model.specs.Context.{Context}
+use Rattle.lisp_model.proofs.HeardLines.{IsBy}
+use Rattle.lisp_model.proofs.Rows.{NamedBy, tells, Following}
 
 -- a choice by two numbers that differ
 pub other_case : (a b : ℕ) → a ≢ b → (t : Bool) → (a == b) ≡ t → t ≡ false
@@ -40,69 +41,6 @@ unless a b x y differ = ap (λ t. if t then x else y) (other_number a b differ)
 
 pub unless_all : {X : Type 0} (a b : ℕ) (q r : Bool) (x y : X) → a ≢ b → (if a == b && q && r then x else y) ≡ y
 unless_all a b q r x y differ = ap (λ t. if t && q && r then x else y) (other_number a b differ)
-
-arrives_by : (t : Context) (a : Arrival) (line : Line) → Arrives t a line → IsBy line t.node
-arrives_by t a (lines.Accepted server router key nonce datagram) row = sym row.acts.acts
-arrives_by t a (lines.Done server router nonce) row = sym row.acts.acts
-arrives_by t a (lines.Counted router server part key nonce) row = heard_by t a _ row
-arrives_by t a (lines.Noticed router server nonce datagram) row = heard_by t a _ row
-arrives_by t a (lines.Down router) row = sym row.acts.acts
-arrives_by t a (lines.Refused node (refusals.Receive why)) row = sym row.0.acts
-arrives_by t a (lines.Refused node (refusals.Notify why)) row = heard_by t a _ row
-arrives_by t a _ row = absurd row
-
--- the line of a legal step tells of its actor
-pub by_actor : (t : Context) (e : EventValue) (line : Line) → MayCome t e line → IsBy line t.node
-by_actor t (events.Change router db) (lines.Changed named records) row = row.names ∙ sym row.acts.acts
-by_actor t (events.Change router db) (lines.Down named) row = row.names ∙ sym row.acts.acts
-by_actor t (events.Send router server part fate) (lines.Sent r s p key nonce datagram) row = row.0 ∙ sym row.3.acts.acts
-by_actor t (events.Send router server part fate) (lines.Down named) row = row.1.names ∙ sym row.1.acts.acts
-by_actor t (events.Send router server part fate) (lines.Refused named (refusals.Send why)) row = row.0 ∙ sym row.2.acts
-by_actor t (events.Deliver k fate) (lines.Nowhere datagram) row = tt
-by_actor t (events.Deliver k fate) line row = arrives_by t (arrival_of row.item) line row.arrives
-by_actor t (events.Junk to from bytes) line row = arrives_by t (junk_arrival from bytes) line row.arrives
-by_actor t (events.Tick ms) (lines.Ticked passed now) row = tt
-by_actor t (events.Restart node pick db) (lines.Restarted named) row = row.names ∙ sym row.acts
-by_actor t (events.Restart node pick db) (lines.Refused named (refusals.Start fault)) row = row.names ∙ sym row.acts
-by_actor t (events.Rotate router key fate) (lines.Rotated named under) row = row.names ∙ sym row.acts.acts
-by_actor t (events.Rotate router key fate) (lines.Down named) row = row.1.names ∙ sym row.1.acts.acts
-by_actor t (events.Rotate router key fate) (lines.Refused named (refusals.Rotate why)) row = row.0 ∙ sym row.1.acts
-by_actor t (events.Lose router key db) (lines.Emptied named under) row = row.names ∙ sym row.lost.acts
-by_actor t (events.Lose router key db) (lines.Refused named (refusals.Start fault)) row = row.names ∙ sym row.lost.acts
-by_actor t (events.Notice server router fate) (lines.Notice s r key nonce datagram) row = row.0 ∙ sym row.2.acts.acts
-by_actor t (events.Notice server router fate) (lines.Refused named (refusals.Notice why)) row = row.0 ∙ sym row.1.acts
-by_actor t (events.Resend server router) (lines.Resent s r datagram) row = row.0 ∙ sym row.2.acts.acts
-by_actor t (events.Resend server router) (lines.Refused named (refusals.Notice why)) row = row.0 ∙ sym row.1.acts
-by_actor t (events.Reload server new) (lines.Reloaded named count) row = row.names ∙ sym row.acts.acts
-by_actor t (events.Reload server new) (lines.Renewed named count) row = row.names ∙ sym row.acts.acts
-by_actor t _ _ row = absurd row
-
--- and so does its event, where it gives a database, a key or sites
-abbrev pub GivenBy : EventValue → Line → ℕ → Type 0
-GivenBy (events.Change router _) (lines.Changed _ _) node = router ≡ node
-GivenBy (events.Restart named _ _) _ node = named ≡ node
-GivenBy (events.Rotate router _ _) _ node = router ≡ node
-GivenBy (events.Lose router _ _) _ node = router ≡ node
-GivenBy (events.Reload server _) _ node = server ≡ node
-GivenBy _ _ node = Unit {0}
-
-pub given_by : (t : Context) (e : EventValue) (line : Line) → MayCome t e line → GivenBy e line t.node
-given_by t (events.Change router db) (lines.Changed named records) row = sym row.acts.acts
-given_by t (events.Restart node pick db) (lines.Restarted named) row = sym row.acts
-given_by t (events.Restart node pick db) (lines.Refused named (refusals.Start fault)) row = sym row.acts
-given_by t (events.Rotate router key fate) (lines.Rotated named under) row = sym row.acts.acts
-given_by t (events.Rotate router key fate) (lines.Down named) row = sym row.1.acts.acts
-given_by t (events.Rotate router key fate) (lines.Refused named (refusals.Rotate why)) row = sym row.1.acts
-given_by t (events.Lose router key db) (lines.Emptied named under) row = sym row.lost.acts
-given_by t (events.Lose router key db) (lines.Refused named (refusals.Start fault)) row = sym row.lost.acts
-given_by t (events.Change router db) _ row = tt
-given_by t (events.Restart node pick db) _ row = absurd row
-given_by t (events.Rotate router key fate) _ row = absurd row
-given_by t (events.Lose router key db) _ row = absurd row
-given_by t (events.Reload server new) (lines.Reloaded named count) row = sym row.acts.acts
-given_by t (events.Reload server new) (lines.Renewed named count) row = sym row.acts.acts
-given_by t (events.Reload server new) _ row = absurd row
-given_by t _ _ row = tt
 
 module _ (node k : ℕ) (other : k ≢ node) where
   pub differs : (a : ℕ) → a ≡ node → a ≢ k
@@ -149,27 +87,27 @@ module _ (node k : ℕ) (other : k ≢ node) where
   up_other (events.Lose _ _ _) (lines.Emptied named _) is old = unless named k true old (differs named is)
   up_other _ _ is old = refl
 
-  pub database_other : (e : EventValue) (line : Line) → GivenBy e line node → (old : List MapRecordValue) → database_after e line k old ≡ old
+  pub database_other : (e : EventValue) (line : Line) → NamedBy e node → (old : List MapRecordValue) → database_after e line k old ≡ old
   database_other (events.Change router db) (lines.Changed _ _) is old = unless router k db old (differs router is)
   database_other (events.Restart named _ (Some db)) _ is old = unless named k db old (differs named is)
   database_other (events.Lose named _ (Some db)) _ is old = unless named k db old (differs named is)
   database_other _ _ is old = refl
 
-  pub key_other : (e : EventValue) (line : Line) → GivenBy e line node → (old : ℕ) → key_after e line k old ≡ old
+  pub key_other : (e : EventValue) (line : Line) → NamedBy e node → (old : ℕ) → key_after e line k old ≡ old
   key_other (events.Rotate router key _) (lines.Rotated _ _) is old = unless router k key old (differs router is)
   key_other (events.Lose router key _) _ is old = unless router k key old (differs router is)
   key_other _ _ is old = refl
 
-  pub sites_other : (e : EventValue) (line : Line) → GivenBy e line node → (old : List SiteValue) → sites_after e k old ≡ old
+  pub sites_other : (e : EventValue) (line : Line) → NamedBy e node → (old : List SiteValue) → sites_after e k old ≡ old
   sites_other (events.Reload server new) _ is old = unless server k new old (differs server is)
   sites_other _ _ is old = refl
 
-  pub since_loss_other : (e : EventValue) (line : Line) → GivenBy e line node → (old : List ℕ) → keys_since_loss_after e line k old ≡ old
+  pub since_loss_other : (e : EventValue) (line : Line) → NamedBy e node → (old : List ℕ) → keys_since_loss_after e line k old ≡ old
   since_loss_other (events.Rotate router key _) (lines.Rotated _ _) is old = unless router k (key ∷ old) old (differs router is)
   since_loss_other (events.Lose router key _) _ is old = unless router k (key ∷ []) old (differs router is)
   since_loss_other _ _ is old = refl
 
-  pub before_loss_other : (e : EventValue) (line : Line) → GivenBy e line node → (since old : List ℕ) → keys_before_loss_after e k since old ≡ old
+  pub before_loss_other : (e : EventValue) (line : Line) → NamedBy e node → (since old : List ℕ) → keys_before_loss_after e k since old ≡ old
   before_loss_other (events.Lose router key _) _ is since old = unless router k (since ++ old) old (differs router is)
   before_loss_other _ _ is since old = refl
 
@@ -208,15 +146,16 @@ module _ (node k : ℕ) (other : k ≢ node) where
   acked_other (lines.Emptied named _) is server part old = unless named k None old (differs named is)
   acked_other _ is server part old = refl
 
-clock_stays : (e : EventValue) → is_timeless e ≡ true → (now : ℕ) → now + time_of e ≡ now
+pub clock_stays : (e : EventValue) → is_timeless e ≡ true → (now : ℕ) → now + time_of e ≡ now
 clock_stays (events.Tick ms) e now = absurd (true≢false (sym e))
 clock_stays _ e now = omega arith
 
 -- a legal step leaves the parts of the other nodes
 pub leaves_others : (o : Opening) (T : List Step) (s : Step) → Legal o T s → LeavesOthers o T s
 leaves_others o T s l =
-    let by = by_actor (context_of o T s) s.event s.line l.row in
-    let given = given_by (context_of o T s) s.event s.line l.row in
+    let told = tells (context_of o T s) s.event s.line l.row in
+    let by = told.by in
+    let given = told.named in
     record {
       server = λ k kind other. record {
         shown = unless s.actor k s.shown (shown_store o T k) (differs s.actor k other s.actor refl);
@@ -243,3 +182,36 @@ leaves_others o T s l =
       time = λ timeless. clock_stays s.event timeless (clock T);
       sent = (_, refl);
     }
+
+-- A node that is no Map-Server has accepted nothing, and has sent no notice.
+
+-- the line is a server's, where it says that it accepted a message or sent a notice
+abbrev IsByServer : ConfigValue → Line → Type 0
+IsByServer c (lines.Accepted server _ _ _ _) = is_server c server ≡ true
+IsByServer c (lines.Notice server _ _ _ _) = is_server c server ≡ true
+IsByServer c _ = Unit {0}
+
+by_server : (t : Context) (e : EventValue) (line : Line) → Following t e line → IsByServer t.opening.config line
+by_server t e (lines.Accepted server router key nonce datagram) follows = follows.row.acts.kind
+by_server t e (lines.Notice server router key nonce datagram) follows = follows.2.acts.kind
+by_server t e _ follows = tt
+
+module _ (o : Opening) (k : ℕ) (other : is_server o.config k ≡ false) where
+  not_server : (server : ℕ) → is_server o.config server ≡ true → server ≢ k
+  not_server server its same = true≢false (sym its ∙ ap (is_server o.config) same ∙ other)
+
+  accepts_none : (line : Line) → IsByServer o.config line → (new old : List Acceptance) → acceptances_after line new k old ≡ old
+  accepts_none (lines.Accepted server _ _ _ _) its new old = unless server k (new ++ old) old (not_server server its)
+  accepts_none _ its new old = refl
+
+  sends_no_notice : (line : Line) → IsByServer o.config line → (old : List ℕ) → notice_nonces_after line k old ≡ old
+  sends_no_notice (lines.Notice server _ _ nonce _) its old = unless server k (nonce ∷ old) old (not_server server its)
+  sends_no_notice _ its old = refl
+
+  pub none_accepted : (T : List Step) → LegalTrace o T → acceptances o T k ≡ []
+  none_accepted [] legal = refl
+  none_accepted (s ∷ T) legal = accepts_none s.line (by_server (context_of o T s) s.event s.line (tells (context_of o T s) s.event s.line legal.0.row).follows) (acceptances_in_step o T s) (acceptances o T k) ∙ none_accepted T legal.1
+
+  pub no_notices : (T : List Step) → LegalTrace o T → notice_nonces T k ≡ []
+  no_notices [] legal = refl
+  no_notices (s ∷ T) legal = sends_no_notice s.line (by_server (context_of o T s) s.event s.line (tells (context_of o T s) s.event s.line legal.0.row).follows) (notice_nonces T k) ∙ no_notices T legal.1

@@ -1,41 +1,40 @@
 -- Over a clean trace each notice that stands went to where its router was heard, under a secret that the server holds.
-use Rattle.std.proofs.Common.{◌≡◌, ℕ, zero, suc, Bool, true, false, cond, List, [], ◌∷◌, ◌++◌, length, map, Option, Some, None, refl, sym, ap, subst, inl, inr, ◌∙◌}
+use Rattle.std.proofs.Common.{◌≡◌, ℕ, zero, suc, Bool, true, false, cond, List, [], ◌∷◌, ◌++◌, map, Some, refl, sym, ap, subst, inl, inr, ◌∙◌}
 use Rattle.std.specs.Prelude.{◌≢◌, ◌⊎◌, ◌==◌, not, if◌then◌else◌, slice_get}
 use Rattle.std.specs.List.{AllPairs, Contains, filter}
 use Rattle.std.specs.Option.{option_map, option_to_list}
 use Rattle.lisp_records.specs.declared.router.RouterId.{RouterId}
 use Rattle.std.proofs.lemmas.Bool.Decides.{Decides-eqb}
+use Rattle.std.proofs.lemmas.Option.{none-some}
 use Rattle.lisp_records.specs.Router.{router_eq}
 use Rattle.lisp_records.proofs.RouterLaws.{router_eq-Decides}
+use Rattle.lisp_policy.specs.Configuration.{ConfigValue}
 use Rattle.lisp_policy.specs.Site.{SiteValue}
 use Rattle.lisp_admission.specs.Pairs.{router_of}
-use Rattle.lisp_model.specs.declared.event.Event.TheVariants as events
 use Rattle.lisp_model.specs.declared.line.Line.{Line}
 use Rattle.lisp_model.specs.declared.line.Line.TheVariants as lines
-use Rattle.lisp_model.specs.Trace.{EventValue, Step, Opening, ShownStore, addresses, address_at, is_router, router_at, sites, sites_after, clock}
-use Rattle.lisp_model.specs.Held.{Acceptance, heard_last}
+use Rattle.lisp_model.specs.Trace.{Step, Opening, addresses, address_at, is_router, router_at, sites, sites_after, clock}
+use Rattle.lisp_model.specs.Held.{heard_last}
 use Rattle.lisp_model.specs.Timers.{Notice, notices, notices_after, notices_to_others, resent_at}
 use Rattle.lisp_model.specs.Bag.{Item, arrival_in, notice_item, items_added, past, bag, since_start}
 use Rattle.lisp_model.specs.Clean.{Clean}
+use Rattle.lisp_model.specs.Notifying.{IsNotice}
 use Rattle.lisp_model.specs.Legal.{MayCome, LegalTrace, context_of}
 use Rattle.lisp_model.proofs.ChangeLemmas.{get_last}
 use Rattle.lisp_model.proofs.CleanLemmas.{in_find, from_map}
 use Rattle.lisp_model.proofs.HearingLemmas.{find_true}
 use Rattle.lisp_model.proofs.HeldLaws.{since_accepted}
 use Rattle.lisp_model.proofs.ListLemmas.{at_head, in_tail, head_or_tail, in_none}
-use Rattle.lisp_model.proofs.OriginLaws.{were_sent}
-use Rattle.lisp_model.proofs.Origins.{ReadsBack}
+use Rattle.lisp_model.proofs.Origins.{were_sent, ReadsBack}
 use Rattle.lisp_model.proofs.ReplyOrigins.{entry_is}
 use Rattle.lisp_model.proofs.Locality.{same_number}
-use Rattle.lisp_model.proofs.SitesLemmas.{Signs, Keeps, Renews, signs_on, sites_step, since_signs}
+use Rattle.lisp_model.proofs.Rows.{Following, tells}
+use Rattle.lisp_model.proofs.LimitLaws.{Signs, Keeps, Renews, signs_on, sites_step, since_signs}
 
 -- a longer list has the same items at the same places
 module _ {X : Type 0} where
   get_more : (xs ys : List X) (k : ℕ) (x : X) → slice_get xs k ≡ Some x → slice_get (xs ++ ys) k ≡ Some x
-  get_more [] ys k x e = absurd (none_clash e)
-    where
-      none_clash : ◌≡◌ {A = Option X} None (Some x) → ⊥
-      none_clash e = absurd cc
+  get_more [] ys k x e = absurd (none-some _ e)
   get_more (y ∷ xs) ys zero x e = e
   get_more (y ∷ xs) ys (suc k) x e = get_more xs ys k x e
 
@@ -50,6 +49,30 @@ module _ {X : Type 0} where
   pub in_filter : (p : X → Bool) (xs : List X) (x : X) → Contains (filter p xs) x → Contains xs x
   in_filter p [] x has = has
   in_filter p (y ∷ ys) x has = filter_case y x ys (filter p ys) (p y) has (in_filter p ys x)
+
+-- what a line leaves of a server's notices: what they were, or each again, or those of the other routers, or none; or one more
+module _ (c : ConfigValue) (now k : ℕ) (old : List Notice) (P : List Notice → Type 0) (same : P old) (again : (router : RouterId) → P (map (resent_at router now) old)) (fewer : (router : RouterId) → P (notices_to_others router old)) (none : P []) where
+  either : (new : List Notice) → P new → (b : Bool) → P (if b then new else old)
+  either new holds true = holds
+  either new holds false = same
+
+  pub notices_left : (line : Line)
+      → ((router key nonce datagram : ℕ) → line ≡ lines.Notice k router key nonce datagram → P (record { router = (router_at c router).me; key = key; nonce = nonce; datagram = datagram; moments = now ∷ [] } ∷ notices_to_others (router_at c router).me old))
+      → P (notices_after c line now k old)
+  notices_left (lines.Notice server router key nonce datagram) more = at (server == k) refl
+    where
+      at : (b : Bool) → (server == k) ≡ b → P (if b then record { router = (router_at c router).me; key = key; nonce = nonce; datagram = datagram; moments = now ∷ [] } ∷ notices_to_others (router_at c router).me old else old)
+      at true is = more router key nonce datagram (ap (λ (n : ℕ). lines.Notice n router key nonce datagram) ((Decides-eqb server k).0 is))
+      at false is = same
+  notices_left (lines.Resent server router _) more = either (map (resent_at (router_at c router).me now) old) (again (router_at c router).me) (server == k)
+  notices_left (lines.Done server router _) more = either (notices_to_others router old) (fewer router) (server == k)
+  notices_left (lines.Restarted node) more = either [] none (node == k)
+  notices_left (lines.Renewed server _) more = either [] none (server == k)
+  notices_left _ more = same
+
+-- one that stands for another router stood before
+pub of_others : (router : RouterId) (old : List Notice) (x : Notice) → Contains (notices_to_others router old) x → Contains old x
+of_others router old x has = in_filter (λ n. not (router_eq n.router router)) old x has
 
 -- a notice went to where its router was heard, whose site has its key
 pub record WentOut (o : Opening) (has : List SiteValue) (items : List Item) (x : Notice) : Type 0 where
@@ -74,31 +97,11 @@ again_out o has items router now x w = at (router_eq x.router router)
     at true = record { item = w.item; place = w.place; router = w.router; kind = w.kind; to = w.to; same = w.same; signs = w.signs }
     at false = w
 
--- a notice that goes out
-pub record Announces (o : Opening) (T : List Step) (server router key datagram : ℕ) : Type 0 where
-  pub last : Acceptance
-  pub heard : heard_last (router_at o.config router).me (since_start o T server) ≡ Some last
-  pub under : key ≡ last.message.key_id
-  pub place : datagram ≡ length (bag o T)
-
-announces : (o : Opening) (T : List Step) (actor : ℕ) (after : ShownStore) (e : EventValue) (server router key nonce datagram : ℕ) → MayCome (context_of o T (record { event = e; line = lines.Notice server router key nonce datagram; actor = actor; shown = after })) e (lines.Notice server router key nonce datagram) → Announces o T server router key datagram
-announces o T actor after (events.Notice s r fate) server router key nonce datagram row = record { last = row.2.last; heard = (λ i. heard_last (router_at o.config (row.1 i)).me (since_start o T (row.0 i))) ∙ row.2.heard; under = row.2.under; place = row.2.place }
-announces o T actor after (events.Change _ _) server router key nonce datagram row = absurd row
-announces o T actor after (events.Send _ _ _ _) server router key nonce datagram row = absurd row
-announces o T actor after (events.Deliver _ _) server router key nonce datagram row = absurd row.arrives
-announces o T actor after (events.Junk _ _ _) server router key nonce datagram row = absurd row.arrives
-announces o T actor after (events.Tick _) server router key nonce datagram row = absurd row
-announces o T actor after (events.Restart _ _ _) server router key nonce datagram row = absurd row
-announces o T actor after (events.Rotate _ _ _) server router key nonce datagram row = absurd row
-announces o T actor after (events.Lose _ _ _) server router key nonce datagram row = absurd row
-announces o T actor after (events.Resend _ _) server router key nonce datagram row = absurd row
-announces o T actor after (events.Reload _ _) server router key nonce datagram row = absurd row
-
 module _ (o : Opening) (distinct : AllPairs (λ a b. a ≢ b) (addresses o.config)) (reads : ReadsBack) where
   module _ (T : List Step) (legal : LegalTrace o T) (clean : Clean o T) where
-    announced : (server router key nonce datagram now : ℕ) → Announces o T server router key datagram
+    announced : (s : Step) (server router key nonce datagram now : ℕ) → IsNotice (context_of o T s) server router key nonce datagram
         → WentOut o (sites o T server) (bag o T ++ option_to_list (option_map (notice_item o T (since_start o T server) server router key nonce) (heard_last (router_at o.config router).me (since_start o T server)))) (record { router = (router_at o.config router).me; key = key; nonce = nonce; datagram = datagram; moments = now ∷ [] })
-    announced server router key nonce datagram now a =
+    announced s server router key nonce datagram now a =
         let me : RouterId = (router_at o.config router).me in
         let heard = in_find (λ x. router_eq (router_of x.message) me) (since_start o T server) a.last a.heard in
         let w = were_sent o distinct reads T legal clean server a.last (since_accepted o T server a.last heard) in
@@ -118,58 +121,41 @@ module _ (o : Opening) (distinct : AllPairs (λ a b. a ≢ b) (addresses o.confi
       abbrev after : List SiteValue
       after = sites_after s.event k (sites o T k)
 
-      out_case : (line : Line) → MayCome (context_of o T s) s.event line → Keeps (sites o T k) after ⊎ Renews line k
-          → AllWentOut o after (bag o T ++ items_added o T (past o T) (arrival_in (bag o T) s.event) line) (notices_after o.config line (clock T) k (notices o T k))
-      out_case (lines.Notice server router key nonce datagram) row (inl keeps) x has = at (server == k) refl has
-        where
-          one : Notice
-          one = record { router = (router_at o.config router).me; key = key; nonce = nonce; datagram = datagram; moments = clock T ∷ [] }
+      module _ (line : Line) (row : MayCome (context_of o T s) s.event line) where
+        abbrev items : List Item
+        items = items_added o T (past o T) (arrival_in (bag o T) s.event) line
 
-          items : List Item
-          items = items_added o T (past o T) (arrival_in (bag o T) s.event) (lines.Notice server router key nonce datagram)
+        out_case : Keeps (sites o T k) after ⊎ Renews line k → AllWentOut o after (bag o T ++ items) (notices_after o.config line (clock T) k (notices o T k))
+        out_case (inl keeps) = notices_left o.config (clock T) k (notices o T k) (AllWentOut o after (bag o T ++ items)) still again (λ router x has. still x (of_others router (notices o T k) x has)) (λ x has. absurd (in_none x has)) line more
+          where
+            still : AllWentOut o after (bag o T ++ items) (notices o T k)
+            still x has = later_out o (sites o T k) after keeps (bag o T) items x (old x has)
 
-          new : WentOut o (sites o T server) (bag o T ++ items) one
-          new = announced server router key nonce datagram (clock T) (announces o T s.actor s.shown s.event server router key nonce datagram row)
+            again : (router : RouterId) → AllWentOut o after (bag o T ++ items) (map (resent_at router (clock T)) (notices o T k))
+            again router x has = let found = from_map (resent_at router (clock T)) (notices o T k) x has in
+                subst (WentOut o after (bag o T ++ items)) (sym found.2) (again_out o after (bag o T ++ items) router (clock T) found.0 (still found.0 found.1))
 
-          here : (server == k) ≡ true → WentOut o after (bag o T ++ items) one
-          here is = let w = subst (λ (n : ℕ). WentOut o (sites o T n) (bag o T ++ items) one) ((Decides-eqb server k).0 is) new in
-              record { item = w.item; place = w.place; router = w.router; kind = w.kind; to = w.to; same = w.same; signs = signs_on (sites o T k) after one.router.site one.key keeps w.signs }
+            more : (router key nonce datagram : ℕ) → line ≡ lines.Notice k router key nonce datagram
+                → AllWentOut o after (bag o T ++ items) (record { router = (router_at o.config router).me; key = key; nonce = nonce; datagram = datagram; moments = clock T ∷ [] } ∷ notices_to_others (router_at o.config router).me (notices o T k))
+            more router key nonce datagram is x has = both (head_or_tail one (notices_to_others (router_at o.config router).me (notices o T k)) x has)
+              where
+                one : Notice
+                one = record { router = (router_at o.config router).me; key = key; nonce = nonce; datagram = datagram; moments = clock T ∷ [] }
 
-          at : (b : Bool) → (server == k) ≡ b → Contains (if b then one ∷ notices_to_others (router_at o.config router).me (notices o T k) else notices o T k) x → WentOut o after (bag o T ++ items) x
-          at false is has = later_out o (sites o T k) after keeps (bag o T) items x (old x has)
-          at true is has = both (head_or_tail one (notices_to_others (router_at o.config router).me (notices o T k)) x has)
-            where
-              both : (x ≡ one) ⊎ Contains (notices_to_others (router_at o.config router).me (notices o T k)) x → WentOut o after (bag o T ++ items) x
-              both (inl same) = subst (WentOut o after (bag o T ++ items)) (sym same) (here is)
-              both (inr more) = later_out o (sites o T k) after keeps (bag o T) items x (old x (in_filter (λ n. not (router_eq n.router (router_at o.config router).me)) (notices o T k) x more))
-      out_case (lines.Resent server router datagram) row (inl keeps) x has = at (server == k) has
-        where
-          items : List Item
-          items = items_added o T (past o T) (arrival_in (bag o T) s.event) (lines.Resent server router datagram)
+                new : WentOut o (sites o T k) (bag o T ++ items) one
+                new = subst (λ (l : Line). WentOut o (sites o T k) (bag o T ++ items_added o T (past o T) (arrival_in (bag o T) s.event) l) one) (sym is)
+                    (announced s k router key nonce datagram (clock T) (subst (λ (l : Line). Following (context_of o T s) s.event l) is (tells (context_of o T s) s.event line row).follows).2)
 
-          at : (b : Bool) → Contains (if b then map (resent_at (router_at o.config router).me (clock T)) (notices o T k) else notices o T k) x → WentOut o after (bag o T ++ items) x
-          at false has = later_out o (sites o T k) after keeps (bag o T) items x (old x has)
-          at true has = let found = from_map (resent_at (router_at o.config router).me (clock T)) (notices o T k) x has in
-              later_out o (sites o T k) after keeps (bag o T) items x (subst (WentOut o (sites o T k) (bag o T)) (sym found.2) (again_out o (sites o T k) (bag o T) (router_at o.config router).me (clock T) found.0 (old found.0 found.1)))
-      out_case (lines.Done server router nonce) row (inl keeps) x has = later_out o (sites o T k) after keeps (bag o T) [] x (at (server == k) has)
-        where
-          at : (b : Bool) → Contains (if b then notices_to_others router (notices o T k) else notices o T k) x → WentOut o (sites o T k) (bag o T) x
-          at false has = old x has
-          at true has = old x (in_filter (λ n. not (router_eq n.router router)) (notices o T k) x has)
-      out_case (lines.Restarted node) row (inl keeps) x has = later_out o (sites o T k) after keeps (bag o T) [] x (at (node == k) has)
-        where
-          at : (b : Bool) → Contains (if b then [] else notices o T k) x → WentOut o (sites o T k) (bag o T) x
-          at false has = old x has
-          at true has = absurd (in_none x has)
-      out_case (lines.Renewed server count) row (inl keeps) x has = later_out o (sites o T k) after keeps (bag o T) [] x (at (server == k) has)
-        where
-          at : (b : Bool) → Contains (if b then [] else notices o T k) x → WentOut o (sites o T k) (bag o T) x
-          at false has = old x has
-          at true has = absurd (in_none x has)
-      out_case (lines.Renewed server count) row (inr renews) x has = absurd (in_none x (subst (λ (b : Bool). Contains (if b then [] else notices o T k) x) (ap (λ (n : ℕ). n == k) renews ∙ same_number k) has))
-      out_case line row (inl keeps) x has = later_out o (sites o T k) after keeps (bag o T) (items_added o T (past o T) (arrival_in (bag o T) s.event) line) x (old x has)
-      out_case line row (inr renews) x has = absurd renews
+                both : (x ≡ one) ⊎ Contains (notices_to_others (router_at o.config router).me (notices o T k)) x → WentOut o after (bag o T ++ items) x
+                both (inl same) = subst (WentOut o after (bag o T ++ items)) (sym same)
+                    (record { item = new.item; place = new.place; router = new.router; kind = new.kind; to = new.to; same = new.same; signs = signs_on (sites o T k) after one.router.site one.key keeps new.signs })
+                both (inr before) = still x (of_others (router_at o.config router).me (notices o T k) x before)
+        out_case (inr renews) = renewed line renews
+          where
+            renewed : (l : Line) → Renews l k → AllWentOut o after (bag o T ++ items) (notices_after o.config l (clock T) k (notices o T k))
+            renewed (lines.Renewed server count) is x has = absurd (in_none x (subst (λ (b : Bool). Contains (if b then [] else notices o T k) x) (ap (λ (n : ℕ). n == k) is ∙ same_number k) has))
+            renewed _ is x has = absurd is
 
   pub all_went_out : (T : List Step) → LegalTrace o T → Clean o T → (k : ℕ) → AllWentOut o (sites o T k) (bag o T) (notices o T k)
-  all_went_out [] legal clean k x has = absurd (in_none x has)
-  all_went_out (s ∷ T) legal clean k x has = out_case T legal.1 clean.1 s k (all_went_out T legal.1 clean.1 k) s.line legal.0.row (sites_step o T s s.event s.line legal.0.row k) x has
+  all_went_out [] legal clean k = λ x has. absurd (in_none x has)
+  all_went_out (s ∷ T) legal clean k = out_case T legal.1 clean.1 s k (all_went_out T legal.1 clean.1 k) s.line legal.0.row (sites_step o T s s.event s.line legal.0.row k)

@@ -1,9 +1,12 @@
 -- Over a clean trace each Map-Register that is accepted was sent by a router of the network.
-use Rattle.std.proofs.Common.{◌≡◌, ℕ, true, List, [], ◌∷◌, ◌++◌, length, map, Option, Some, None, Ok, Err, refl, sym, ap, subst, inl, inr, ◌∙◌, true≢false}
-use Rattle.std.specs.Prelude.{◌≢◌, ◌⊎◌, if◌then◌else◌, slice_get, Result}
+use Rattle.std.proofs.Common.{◌≡◌, ℕ, true, List, [], ◌∷◌, ◌++◌, length, map, Option, Some, None, Ok, Err, refl, sym, ap, subst, inl, inr, ◌∙◌, true≢false, ◌^◌, ◌<◌, Bool, false}
+use Rattle.std.specs.Prelude.{◌≢◌, ◌⊎◌, if◌then◌else◌, slice_get, Result, ◌==◌}
 use Rattle.std.specs.List.{AllPairs, Contains, flat_map}
 use Rattle.std.specs.Option.{option_map, option_and_then}
 use Rattle.std.proofs.lemmas.List.Elements.{Contains-append_cases, Contains-append_right}
+use Rattle.std.proofs.lemmas.Option.{none-some}
+use Rattle.std.proofs.lemmas.List.Quantifiers.{position-Some}
+use Rattle.std.proofs.lemmas.Bool.Decides.{Decides-eqb}
 use Rattle.lisp_records.specs.declared.address.Addr.{Addr}
 use Rattle.lisp_records.specs.declared.router.RouterId.{RouterId}
 use Rattle.lisp_records.specs.Parts.{part_at}
@@ -12,20 +15,29 @@ use Rattle.lisp_messages.specs.Message.{MessageValue, MapRegisterValue, MapNotif
 use Rattle.lisp_messages.specs.Reading.{message_at}
 use Rattle.lisp_etr.specs.Sending.{map_register_of}
 use Rattle.lisp_admission.specs.Checks.{secret_under}
+use Rattle.lisp_records.specs.declared.address.Addr.TheVariants.{V4}
+use Rattle.lisp_records.specs.Address.{addr_eq}
+use Rattle.lisp_policy.specs.Configuration.{ConfigValue}
+use Rattle.lisp_messages.specs.Authentic.{is_authentic}
 use Rattle.lisp_model.specs.declared.event.Event.TheVariants as events
 use Rattle.lisp_model.specs.declared.line.Line.{Line}
 use Rattle.lisp_model.specs.declared.line.Line.TheVariants as lines
-use Rattle.lisp_model.specs.Trace.{EventValue, Step, Opening, ShownStore, addresses, address_at, node_at, router_at, key as key_of, etr_config, etr_config_of, sites, database, is_server, clock}
+use Rattle.lisp_model.specs.Trace.{EventValue, Step, Opening, ShownStore, addresses, address_at, node_at, router_at, etr_config, etr_config_of, sites, database, is_server, clock}
 use Rattle.lisp_model.specs.History.{SentRegister, sent_registers_in, history, message_of}
 use Rattle.lisp_model.specs.Held.{Acceptance, heard_last}
 use Rattle.lisp_model.specs.Timers.{Notice, notice_to}
 use Rattle.lisp_model.specs.Bag.{Item, Arrival, bytes_of, arrival_of, arrival_in, junk_arrival, as_notify, acceptances_in, register_item, reply_item, notice_item, ack_item, items_added, past, bag, since_start}
-use Rattle.lisp_model.specs.Clean.{secrets_of, IsEcho, IsNoise, IsForged, IsHarmless}
-use Rattle.lisp_model.specs.Legal.{MayCome, LegalTrace, context_of}
-use Rattle.lisp_model.proofs.CleanLemmas.{node_of, server_of, in_get, in_option, from_map, Checked, checked}
+use Rattle.lisp_model.specs.Clean.{secrets_of, IsEcho, IsNoise, IsForged, IsHarmless, Clean}
+use Rattle.lisp_model.specs.Legal.{MayCome, LegalTrace, context_of, Arrives}
+use Rattle.lisp_model.specs.Sending.{IsSent}
+use Rattle.lisp_model.specs.Accepted.{acceptances, acceptances_after}
+use Rattle.lisp_model.specs.Promises.{AcceptedWasSent}
+use Rattle.lisp_model.proofs.CleanLemmas.{node_of, server_of, in_get, in_option, from_map, Checked, checked, notifies_no_register, addr_same, SameHead, item_head}
 use Rattle.lisp_model.proofs.ListLemmas.{at_head, head_or_tail, in_none}
-use Rattle.lisp_model.proofs.ReadingLemmas.{notifies_no_register}
-use Rattle.lisp_model.proofs.RisingSteps.{taken_one}
+use Rattle.lisp_model.proofs.Rows.{tells}
+use Rattle.lisp_model.proofs.RisingLaws.{taken_one}
+use Rattle.lisp_model.proofs.HeardLines.{IsBy}
+use Rattle.lisp_model.proofs.Sound.{unique}
 
 -- a Map-Register in the bag is of an entry
 pub record IsFrom (o : Opening) (entries : List SentRegister) (i : Item) (m : MapRegisterValue) : Type 0 where
@@ -40,7 +52,10 @@ pub record IsFrom (o : Opening) (entries : List SentRegister) (i : Item) (m : Ma
 abbrev pub AllFrom : Opening → List SentRegister → List Item → Type 0
 AllFrom o entries items = (i : Item) → Contains items i → (m : MapRegisterValue) → i.message ≡ Registers m → IsFrom o entries i m
 
-said_clash : {m : MapRegisterValue} {n : MapNotifyValue} → ◌≡◌ {A = MessageValue} (Notifies n) (Registers m) → ⊥
+pub noise_clash : {f : ReadFault} {said : MessageValue} → ◌≡◌ {A = Result MessageValue ReadFault} (Err f) (Ok said) → ⊥
+noise_clash e = absurd cc
+
+pub said_clash : {m : MapRegisterValue} {n : MapNotifyValue} → ◌≡◌ {A = MessageValue} (Notifies n) (Registers m) → ⊥
 said_clash e = absurd cc
 
 -- one more entry
@@ -51,65 +66,47 @@ module _ (o : Opening) (T : List Step) where
   -- no other line posts a Map-Register that wasn't there
   posts : (node : ℕ) (after : ShownStore) (e : EventValue) (line : Line) → MayCome (context_of o T (record { event = e; line = line; actor = node; shown = after })) e line → AllFrom o (history o T) (bag o T)
       → (a : Option Arrival) → AllFrom o (sent_registers_in o T line ++ history o T) (items_added o T (past o T) a line)
-  posts node after (events.Send router server part fate) (lines.Sent r s p key nonce datagram) row old a i has m is = at (head_or_tail (register_item o T r s p nonce) [] i has)
+  posts node after e (lines.Sent r s p key nonce datagram) row old a i has m is = at (head_or_tail (register_item o T r s p nonce) [] i has)
     where
+      its : IsSent (context_of o T (record { event = e; line = lines.Sent r s p key nonce datagram; actor = node; shown = after })) r s p key nonce datagram
+      its = (tells (context_of o T (record { event = e; line = lines.Sent r s p key nonce datagram; actor = node; shown = after })) e (lines.Sent r s p key nonce datagram) row).follows.2
+
       new : (j : Item) → j ≡ register_item o T r s p nonce → j.message ≡ Registers m → IsFrom o (sent_registers_in o T (lines.Sent r s p key nonce datagram) ++ history o T) j m
       new j same says =
           let item : register_item o T r s p nonce ≡ j = sym same in
           let said : Registers (map_register_of (etr_config o T r) (part_at (database o T r) p) nonce) ≡ Registers m = ap (λ (x : Item). x.message) item ∙ says in
           let message : map_register_of (etr_config o T r) (part_at (database o T r) p) nonce ≡ m = cc in
-          let under : key ≡ key_of o T r = row.3.under ∙ ap (λ (n : ℕ). key_of o T n) (sym row.0) in
-          let keyed : map_register_of (record (etr_config_of o.config (router_at o.config r)) { key_id = key }) (part_at (database o T r) p) nonce ≡ m = ap (λ (k : ℕ). map_register_of (record (etr_config_of o.config (router_at o.config r)) { key_id = k }) (part_at (database o T r) p) nonce) under ∙ message in
-          let fits : IsMapRegister (map_register_of (etr_config o T r) (part_at (database o T r) p) nonce) = subst (λ (n : ℕ). IsMapRegister (map_register_of (etr_config o T n) (part_at (database o T n) p) nonce)) (sym row.0) (subst (λ (x : ℕ). IsMapRegister (map_register_of (etr_config o T router) (part_at (database o T router) x) nonce)) (sym row.2) row.3.message) in
+          let keyed : map_register_of (record (etr_config_of o.config (router_at o.config r)) { key_id = key }) (part_at (database o T r) p) nonce ≡ m = ap (λ (k : ℕ). map_register_of (record (etr_config_of o.config (router_at o.config r)) { key_id = k }) (part_at (database o T r) p) nonce) its.under ∙ message in
           record {
             entry = record { router = r; key = key; nonce = nonce; server = s; database = database o T r; part = p; position = length T };
             sent = at_head _ (history o T);
             from = ap (λ (x : Item). x.from) same;
             to = ap (λ (x : Item). x.to) same;
-            kind = ap (is_server o.config) row.1 ∙ row.3.kind;
+            kind = its.kind;
             message = sym keyed;
-            fits = subst IsMapRegister message fits;
+            fits = subst IsMapRegister message its.message;
           }
 
       at : (i ≡ register_item o T r s p nonce) ⊎ Contains [] i → IsFrom o (sent_registers_in o T (lines.Sent r s p key nonce datagram) ++ history o T) i m
       at (inl same) = new i same is
       at (inr no_more) = absurd (in_none i no_more)
-  posts node after (events.Change _ _) (lines.Sent r s p key nonce datagram) row old a i has m is = absurd row
-  posts node after (events.Deliver _ _) (lines.Sent r s p key nonce datagram) row old a i has m is = absurd row.arrives
-  posts node after (events.Junk _ _ _) (lines.Sent r s p key nonce datagram) row old a i has m is = absurd row.arrives
-  posts node after (events.Tick _) (lines.Sent r s p key nonce datagram) row old a i has m is = absurd row
-  posts node after (events.Restart _ _ _) (lines.Sent r s p key nonce datagram) row old a i has m is = absurd row
-  posts node after (events.Rotate _ _ _) (lines.Sent r s p key nonce datagram) row old a i has m is = absurd row
-  posts node after (events.Lose _ _ _) (lines.Sent r s p key nonce datagram) row old a i has m is = absurd row
-  posts node after (events.Notice _ _ _) (lines.Sent r s p key nonce datagram) row old a i has m is = absurd row
-  posts node after (events.Resend _ _) (lines.Sent r s p key nonce datagram) row old a i has m is = absurd row
-  posts node after (events.Reload _ _) (lines.Sent r s p key nonce datagram) row old a i has m is = absurd row
   posts node after e (lines.Accepted server router key nonce None) row old a i has m is = absurd (in_none i has)
   posts node after e (lines.Accepted server router key nonce (Some datagram)) row old a i has m is = let found = from_map (reply_item o.config (sites o T server) server) (acceptances_in a (clock T)) i has in absurd (said_clash (sym (ap (λ (x : Item). x.message) found.2) ∙ is))
   posts node after e (lines.Noticed router server nonce datagram) row old None i has m is = absurd (in_none i has)
   posts node after e (lines.Noticed router server nonce datagram) row old (Some a) i has m is = at (as_notify a.read) (in_option (option_map (ack_item o T router a) (as_notify a.read)) i has)
     where
       at : (n : Option MapNotifyValue) → option_map (ack_item o T router a) n ≡ Some i → IsFrom o (history o T) i m
-      at None e = absurd (none_clash e)
-        where
-          none_clash : ◌≡◌ {A = Option Item} None (Some i) → ⊥
-          none_clash e = absurd cc
+      at None e = absurd (none-some _ e)
       at (Some n) e = let same : ack_item o T router a n ≡ i = cc in absurd (said_clash (ap (λ (x : Item). x.message) same ∙ is))
   posts node after e (lines.Notice server router key nonce datagram) row old a i has m is = at (heard_last (router_at o.config router).me (since_start o T server)) (in_option (option_map (notice_item o T (since_start o T server) server router key nonce) (heard_last (router_at o.config router).me (since_start o T server))) i has)
     where
       at : (n : Option Acceptance) → option_map (notice_item o T (since_start o T server) server router key nonce) n ≡ Some i → IsFrom o (history o T) i m
-      at None e = absurd (none_clash e)
-        where
-          none_clash : ◌≡◌ {A = Option Item} None (Some i) → ⊥
-          none_clash e = absurd cc
+      at None e = absurd (none-some _ e)
       at (Some n) e = let same : notice_item o T (since_start o T server) server router key nonce n ≡ i = cc in absurd (said_clash (ap (λ (x : Item). x.message) same ∙ is))
   posts node after e (lines.Resent server router datagram) row old a i has m is = at (notice_to o T server (router_at o.config router).me) (in_option (option_and_then (λ n. slice_get (bag o T) n.datagram) (notice_to o T server (router_at o.config router).me)) i has)
     where
       at : (n : Option Notice) → option_and_then (λ n. slice_get (bag o T) n.datagram) n ≡ Some i → IsFrom o (history o T) i m
-      at None e = absurd (none_clash e)
-        where
-          none_clash : ◌≡◌ {A = Option Item} None (Some i) → ⊥
-          none_clash e = absurd cc
+      at None e = absurd (none-some _ e)
       at (Some n) e = old i (in_get (bag o T) n.datagram i e) m is
   posts node after e _ row old a i has m is = absurd (in_none i has)
 
@@ -193,16 +190,115 @@ module _ (o : Opening) (T : List Step) (distinct : AllPairs (λ a b. a ≢ b) (a
         at : (IsEcho (bag o T) from (address_at o.config to) bytes ⊎ (IsNoise bytes ⊎ IsForged (secrets_of o T to) bytes)) → IsSentTo o (history o T) server (record { message = row.arrives.message; from = from; moment = clock T })
         at (inl echo) = echoed echo.item echo.sent row.arrives.acts.kind (echo.target ∙ ap (address_at o.config) (sym row.acts)) from echo.source bytes echo.same row.arrives.message row.arrives.admits.read (clock T)
         at (inr (inl noise)) = absurd (noise_clash (sym noise.1 ∙ row.arrives.admits.read))
-          where
-            noise_clash : {f : ReadFault} {said : MessageValue} → ◌≡◌ {A = Result MessageValue ReadFault} (Err f) (Ok said) → ⊥
-            noise_clash e = absurd cc
         at (inr (inr forged)) = absurd (true≢false (sym known.authentic ∙ forged known.secret (subst (λ b. Contains (if b then flat_map (λ s. map (λ k. k.secret) s.keys) (sites o T to) else (etr_config o T to).secret ∷ []) known.secret) (sym at_server) known.known)))
-    arrived (events.Change _ _) after harmless row x has = absurd row
-    arrived (events.Send _ _ _ _) after harmless row x has = absurd row
-    arrived (events.Tick _) after harmless row x has = absurd row
-    arrived (events.Restart _ _ _) after harmless row x has = absurd row
-    arrived (events.Rotate _ _ _) after harmless row x has = absurd row
-    arrived (events.Lose _ _ _) after harmless row x has = absurd row
-    arrived (events.Notice _ _ _) after harmless row x has = absurd row
-    arrived (events.Resend _ _) after harmless row x has = absurd row
-    arrived (events.Reload _ _) after harmless row x has = absurd row
+    arrived _ after harmless row x has = absurd row
+
+-- Over a clean trace a Map-Notify or Map-Notify-Ack that arrives at a node is that of a datagram to it.
+
+-- each nonce in the bag has a spelling
+abbrev pub AllBelow : List Item → Type 0
+AllBelow items = (i : Item) → Contains items i → (n : MapNotifyValue) → i.message ≡ Notifies n → n.nonce < 2 ^ 64
+
+-- what arrives from an address is that of a datagram to the node
+pub record IsOfItem (o : Opening) (items : List Item) (node : ℕ) (from : Addr) (m : MapNotifyValue) : Type 0 where
+  pub item : Item
+  pub sent : Contains items item
+  pub source : item.from ≡ from
+  pub target : item.to ≡ address_at o.config node
+  pub what : MapNotifyValue
+  pub says : item.message ≡ Notifies what
+  pub head : SameHead m what
+
+pub node_there : (c : ConfigValue) (x : Addr) (node : ℕ) → node_at c x ≡ Some node → x ≡ address_at c node
+node_there c x node there = sym (addr_same _ _ (position-Some (λ a. addr_eq a x) (addresses c) node (V4 []) there).1)
+
+pub ok_same : (x y : MessageValue) → ◌≡◌ {A = Result MessageValue ReadFault} (Ok x) (Ok y) → x ≡ y
+ok_same x y e = cc
+
+pub register_clash : {m : MapRegisterValue} {n : MapNotifyValue} → ◌≡◌ {A = MessageValue} (Registers m) (Notifies n) → ⊥
+register_clash e = absurd cc
+
+-- lines of a message that arrives
+abbrev pub IsOfArrival : Line → Type 0
+IsOfArrival (lines.Accepted _ _ _ _ _) = Unit {0}
+IsOfArrival (lines.Done _ _ _) = Unit {0}
+IsOfArrival (lines.Counted _ _ _ _ _) = Unit {0}
+IsOfArrival (lines.Noticed _ _ _ _) = Unit {0}
+IsOfArrival _ = ⊥
+
+module _ (o : Opening) (T : List Step) (reads : ReadsBack) (all : AllFrom o (history o T) (bag o T)) (below : AllBelow (bag o T)) (node : ℕ) where
+  item_delivered : (i : Item) → Contains (bag o T) i → node_at o.config i.to ≡ Some node → (m : MapNotifyValue) → i.message ≡ Notifies m → IsOfItem o (bag o T) node i.from m
+  item_delivered i has there m is = record { item = i; sent = has; source = refl; target = node_there o.config i.to node there; what = m; says = is; head = record { ack = refl; key = refl; nonce = refl } }
+
+  item_echoed : (from : Addr) (bytes : List ℕ) → IsEcho (bag o T) from (address_at o.config node) bytes → (m : MapNotifyValue) → message_at bytes ≡ Ok (Notifies m) → IsOfItem o (bag o T) node from m
+  item_echoed from bytes echo m read = at echo.item.message refl
+    where
+      at : (said : MessageValue) → echo.item.message ≡ said → IsOfItem o (bag o T) node from m
+      at (Registers x) is =
+          let back : message_at (bytes_of echo.item) ≡ Ok echo.item.message = reads echo.item (subst IsMessage (sym is) (all echo.item echo.sent x is).fits) in
+          absurd (register_clash (ok_same (Registers x) (Notifies m) (ap Ok (sym is) ∙ sym back ∙ ap message_at echo.same ∙ read)))
+      at (Notifies n) is = record { item = echo.item; sent = echo.sent; source = echo.source; target = echo.target; what = n; says = is; head = item_head echo.item n m is (below echo.item echo.sent n is) (ap message_at echo.same ∙ read) }
+
+  -- an arrival, and where it is from if it is authentic
+  pub record Comes (e : EventValue) (line : Line) (after : ShownStore) : Type 0 where
+    pub arrival : Arrival
+    pub is : arrival_in (bag o T) e ≡ Some arrival
+    pub row : Arrives (context_of o T (record { event = e; line = line; actor = node; shown = after })) arrival line
+    pub origin : (m : MapNotifyValue) → arrival.read ≡ Ok (Notifies m) → (secret : List ℕ) → Contains (secrets_of o T node) secret → is_authentic arrival.bytes secret ≡ true → IsOfItem o (bag o T) node arrival.from m
+
+  pub comes : (e : EventValue) (line : Line) (after : ShownStore) → IsOfArrival line → IsHarmless o T e → MayCome (context_of o T (record { event = e; line = line; actor = node; shown = after })) e line → Comes e line after
+  comes (events.Deliver k fate) (lines.Nowhere datagram) after arriving harmless row = absurd arriving
+  comes (events.Deliver k fate) line after arriving harmless row = record {
+    arrival = arrival_of row.item;
+    is = ap (option_map arrival_of) row.sent;
+    row = row.arrives;
+    origin = λ m read secret known authentic. item_delivered row.item (in_get (bag o T) k row.item row.sent) row.there m (ok_same row.item.message (Notifies m) read);
+  }
+  comes (events.Junk to from bytes) line after arriving harmless row = record { arrival = junk_arrival from bytes; is = refl; row = row.arrives; origin = λ m read secret known authentic. at m read secret known authentic harmless }
+    where
+      at : (m : MapNotifyValue) → message_at bytes ≡ Ok (Notifies m) → (secret : List ℕ) → Contains (secrets_of o T node) secret → is_authentic bytes secret ≡ true
+          → (IsEcho (bag o T) from (address_at o.config to) bytes ⊎ (IsNoise bytes ⊎ IsForged (secrets_of o T to) bytes)) → IsOfItem o (bag o T) node from m
+      at m read secret known authentic (inl echo) = item_echoed from bytes (subst (λ (k : ℕ). IsEcho (bag o T) from (address_at o.config k) bytes) (sym row.acts) echo) m read
+      at m read secret known authentic (inr (inl noise)) = absurd (noise_clash (sym noise.1 ∙ read))
+      at m read secret known authentic (inr (inr forged)) = absurd (true≢false (sym authentic ∙ forged secret (subst (λ (k : ℕ). Contains (secrets_of o T k) secret) row.acts known)))
+  comes _ (lines.Accepted _ _ _ _ _) after arriving harmless row = absurd row
+  comes _ (lines.Done _ _ _) after arriving harmless row = absurd row
+  comes _ (lines.Counted _ _ _ _ _) after arriving harmless row = absurd row
+  comes _ (lines.Noticed _ _ _ _) after arriving harmless row = absurd row
+  comes _ _ after arriving harmless row = absurd arriving
+
+-- Over clean traces each accepted message is that of one entry.
+
+later_sent : (o : Opening) (more entries : List SentRegister) (k : ℕ) (x : Acceptance) → IsSentTo o entries k x → IsSentTo o (more ++ entries) k x
+later_sent o more entries k x f = record { entry = f.entry; sent = Contains-append_right more entries f.entry f.sent; whom = f.whom; message = f.message; from = f.from }
+
+module _ (o : Opening) (distinct : AllPairs (λ a b. a ≢ b) (addresses o.config)) (reads : ReadsBack) where
+  abbrev WereSent : List Step → Type 0
+  WereSent T = (k : ℕ) (x : Acceptance) → Contains (acceptances o T k) x → IsSentTo o (history o T) k x
+
+  module _ (T : List Step) (all : AllFrom o (history o T) (bag o T)) (old : WereSent T) where
+    chosen : (k server : ℕ) (new : List Acceptance) (x : Acceptance) → ((y : Acceptance) → Contains new y → IsSentTo o (history o T) server y) → (b : Bool) → (server == k) ≡ b
+        → Contains (if b then new ++ acceptances o T k else acceptances o T k) x → IsSentTo o (history o T) k x
+    chosen k server new x fresh true e has = at (Contains-append_cases new (acceptances o T k) x has)
+      where
+        at : Contains new x ⊎ Contains (acceptances o T k) x → IsSentTo o (history o T) k x
+        at (inl one) = subst (λ (n : ℕ). IsSentTo o (history o T) n x) ((Decides-eqb server k).0 e) (fresh x one)
+        at (inr before) = old k x before
+    chosen k server new x fresh false e has = old k x has
+
+    sent_after : (e : EventValue) (line : Line) (actor : ℕ) (after : ShownStore) → IsHarmless o T e → MayCome (context_of o T (record { event = e; line = line; actor = actor; shown = after })) e line → IsBy line actor
+        → (k : ℕ) (x : Acceptance) → Contains (acceptances_after line (acceptances_in (arrival_in (bag o T) e) (clock T)) k (acceptances o T k)) x → IsSentTo o (sent_registers_in o T line ++ history o T) k x
+    sent_after e (lines.Accepted server router key nonce datagram) actor after harmless row by k x has =
+        let here = subst (λ (n : ℕ). MayCome (context_of o T (record { event = e; line = lines.Accepted server router key nonce datagram; actor = n; shown = after })) e (lines.Accepted server router key nonce datagram)) (sym by) row in
+        chosen k server (acceptances_in (arrival_in (bag o T) e) (clock T)) x (λ y one. arrived o T distinct reads all server router key nonce datagram e after harmless here y one) (server == k) refl has
+    sent_after e line actor after harmless row by k x has = later_sent o (sent_registers_in o T line) (history o T) k x (old k x has)
+
+  pub were_sent : (T : List Step) → LegalTrace o T → Clean o T → WereSent T
+  were_sent [] legal clean = λ k x has. absurd (in_none x has)
+  were_sent (s ∷ T) legal clean = sent_after T (all_from o T legal.1) (were_sent T legal.1 clean.1) s.event s.line s.actor s.shown clean.0 legal.0.row (tells (context_of o T s) s.event s.line legal.0.row).by
+
+  -- each accepted message is that of one entry
+  pub accepted_was_sent : (T : List Step) → LegalTrace o T → Clean o T → AcceptedWasSent o T
+  accepted_was_sent T legal clean server a has =
+      let f = were_sent T legal clean server a has in
+      (f.entry, record { sent = f.sent; whom = f.whom; message = f.message; from = f.from; only = λ g in_it router key nonce. unique o T legal f.entry g f.sent in_it router key nonce })

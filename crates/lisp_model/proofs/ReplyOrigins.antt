@@ -4,6 +4,7 @@ use Rattle.std.specs.Prelude.{◌≢◌, ◌⊎◌, ◌==◌, if◌then◌else�
 use Rattle.std.specs.List.{AllPairs, Contains}
 use Rattle.std.specs.Option.{option_map, option_and_then, option_to_list}
 use Rattle.std.proofs.lemmas.List.Elements.{Contains-append_cases, Contains-append_left, Contains-append_right}
+use Rattle.std.proofs.lemmas.Option.{none-some}
 use Rattle.lisp_records.specs.Database.{database_of}
 use Rattle.lisp_messages.specs.declared.fault.ReadFault.{ReadFault}
 use Rattle.lisp_messages.specs.Message.{MessageValue, MapRegisterValue, MapNotifyValue, Registers, Notifies}
@@ -11,10 +12,10 @@ use Rattle.lisp_etr.specs.Hearing.{first_notice, ack_of}
 use Rattle.lisp_policy.specs.Site.{SiteValue}
 use Rattle.lisp_admission.specs.Checks.{reply_to}
 use Rattle.lisp_admission.specs.Nonces.{nonce_after}
-use Rattle.lisp_model.specs.declared.event.Event.TheVariants as events
+use Rattle.lisp_etr.specs.Sending.{last_nonce}
 use Rattle.lisp_model.specs.declared.line.Line.{Line}
 use Rattle.lisp_model.specs.declared.line.Line.TheVariants as lines
-use Rattle.lisp_model.specs.Trace.{EventValue, Step, Opening, ShownStore, addresses, is_server, is_router, router_at, sites, clock, database}
+use Rattle.lisp_model.specs.Trace.{EventValue, Step, Opening, ShownStore, addresses, is_server, is_router, router_at, sites, clock, address_at}
 use Rattle.lisp_model.specs.History.{SentRegister, history}
 use Rattle.lisp_model.specs.Held.{Acceptance, heard_last}
 use Rattle.lisp_model.specs.Timers.{Notice, notice_to}
@@ -22,17 +23,14 @@ use Rattle.lisp_model.specs.Bag.{Item, Arrival, arrival_in, as_notify, acceptanc
 use Rattle.lisp_model.specs.Accepted.{acceptances, acceptances_after}
 use Rattle.lisp_model.specs.Clean.{IsHarmless, Clean}
 use Rattle.lisp_model.specs.Legal.{MayCome, LegalTrace, context_of}
-use Rattle.lisp_model.proofs.ArrivalLemmas.{AllBelow, comes}
-use Rattle.lisp_model.proofs.ChangeLemmas.{IsNew, new_or_old}
-use Rattle.lisp_model.proofs.CleanLemmas.{in_get, in_option, from_map}
-use Rattle.lisp_model.proofs.HeadLemmas.{SameHead}
-use Rattle.lisp_etr.specs.Sending.{last_nonce}
+use Rattle.lisp_model.proofs.Origins.{ok_same, register_clash, AllBelow, comes, were_sent, ReadsBack, AllFrom, all_from}
+use Rattle.lisp_model.proofs.ChangeLemmas.{IsNew, new_or_old, new_follows}
+use Rattle.lisp_model.proofs.CleanLemmas.{in_get, in_option, from_map, SameHead}
 use Rattle.lisp_model.proofs.HeardLines.{noticed_of}
 use Rattle.lisp_model.proofs.HearingLemmas.{is_heard, knows_own}
-use Rattle.lisp_model.proofs.ListLemmas.{head_or_tail, in_none}
+use Rattle.lisp_model.proofs.ListLemmas.{head_or_tail, in_none, at_head, in_tail}
 use Rattle.lisp_model.proofs.Locality.{same_number}
-use Rattle.lisp_model.proofs.OriginLaws.{were_sent}
-use Rattle.lisp_model.proofs.Origins.{ReadsBack, AllFrom, all_from}
+use Rattle.lisp_model.proofs.Rows.{tells}
 
 -- an entry is a router's and goes to a server, with a nonce of a router; and its database is one
 pub record IsEntry (o : Opening) (e : SentRegister) : Type 0 where
@@ -44,28 +42,14 @@ pub record IsEntry (o : Opening) (e : SentRegister) : Type 0 where
 below_first : {n : ℕ} → n ≤ last_nonce → n < first_notice
 below_first within = omega (arith, within)
 
-sent_entry : (o : Opening) (T : List Step) (actor : ℕ) (after : ShownStore) (e : EventValue) (r s part k n g : ℕ) → MayCome (context_of o T (record { event = e; line = lines.Sent r s part k n g; actor = actor; shown = after })) e (lines.Sent r s part k n g)
-    → (is_router o.config r ≡ true) × (n < first_notice) × (is_server o.config s ≡ true) × (database_of (database o T r) ≡ Ok (database o T r))
-sent_entry o T actor after (events.Send router server _ fate) r s part k n g row = (ap (is_router o.config) row.0 ∙ row.3.acts.kind, below_first row.3.within, ap (is_server o.config) row.1 ∙ row.3.kind, subst (λ (n : ℕ). database_of (database o T n) ≡ Ok (database o T n)) (sym row.0) row.3.fits)
-sent_entry o T actor after (events.Change _ _) r s part k n g row = absurd row
-sent_entry o T actor after (events.Deliver _ _) r s part k n g row = absurd row.arrives
-sent_entry o T actor after (events.Junk _ _ _) r s part k n g row = absurd row.arrives
-sent_entry o T actor after (events.Tick _) r s part k n g row = absurd row
-sent_entry o T actor after (events.Restart _ _ _) r s part k n g row = absurd row
-sent_entry o T actor after (events.Rotate _ _ _) r s part k n g row = absurd row
-sent_entry o T actor after (events.Lose _ _ _) r s part k n g row = absurd row
-sent_entry o T actor after (events.Notice _ _ _) r s part k n g row = absurd row
-sent_entry o T actor after (events.Resend _ _) r s part k n g row = absurd row
-sent_entry o T actor after (events.Reload _ _) r s part k n g row = absurd row
-
 pub entry_is : (o : Opening) (T : List Step) → LegalTrace o T → (d : SentRegister) → Contains (history o T) d → IsEntry o d
 entry_is o [] legal d has = absurd (in_none d has)
 entry_is o (s ∷ T) legal d has = at (new_or_old o T s.line d has) (entry_is o T legal.1 d)
   where
     at : IsNew o T s.line d ⊎ Contains (history o T) d → (Contains (history o T) d → IsEntry o d) → IsEntry o d
     at (inl new) later =
-        let row = sent_entry o T s.actor s.shown s.event new.router new.server new.part new.key new.nonce new.datagram (subst (λ (line : Line). MayCome (context_of o T s) s.event line) new.sent legal.0.row) in
-        subst (IsEntry o) (sym new.is) (record { kind = row.0; low = row.1; to = row.2; fits = row.3 })
+        let row = (new_follows o T s legal.0 d new).2 in
+        subst (IsEntry o) (sym new.is) (record { kind = row.acts.kind; low = below_first row.within; to = row.kind; fits = row.fits })
     at (inr old) later = later old
 
 -- the reply to a Map-Register that a server accepted, by the sites that it had then
@@ -99,14 +83,8 @@ later_known o T s i n f = record {
   reply = λ plain low. let r = f.reply plain low in record { server = r.server; kind = r.kind; acceptance = r.acceptance; taken = stays_accepted s.line _ r.server (acceptances o T r.server) r.acceptance r.taken; has = r.has; is = r.is };
 }
 
-said_clash : {m : MapRegisterValue} {n : MapNotifyValue} → ◌≡◌ {A = MessageValue} (Registers m) (Notifies n) → ⊥
-said_clash e = absurd cc
-
-said_same : (m n : MapNotifyValue) → ◌≡◌ {A = MessageValue} (Notifies m) (Notifies n) → m ≡ n
+pub said_same : (m n : MapNotifyValue) → ◌≡◌ {A = MessageValue} (Notifies m) (Notifies n) → m ≡ n
 said_same m n e = cc
-
-none_clash : {i : Item} → ◌≡◌ {A = Option Item} None (Some i) → ⊥
-none_clash e = absurd cc
 
 some_same : (i j : Item) → ◌≡◌ {A = Option Item} (Some i) (Some j) → i ≡ j
 some_same i j e = cc
@@ -115,13 +93,10 @@ some_same i j e = cc
 nonce_high : (base : Option ℕ) → first_notice ≤ nonce_after base
 nonce_high base = omega arith
 
-read_clash : {m : MapNotifyValue} → ◌≡◌ {A = Option MapNotifyValue} None (Some m) → ⊥
-read_clash e = absurd cc
-
 pub notified : (r : Result MessageValue ReadFault) (m : MapNotifyValue) → as_notify r ≡ Some m → r ≡ Ok (Notifies m)
 notified (Ok (Notifies n)) m e = let same : n ≡ m = cc in ap (λ (x : MapNotifyValue). Ok (Notifies x)) same
-notified (Ok (Registers n)) m e = absurd (read_clash e)
-notified (Err fault) m e = absurd (read_clash e)
+notified (Ok (Registers n)) m e = absurd (none-some _ e)
+notified (Err fault) m e = absurd (none-some _ e)
 
 -- what is posted under an option is from its value
 pub record FromSome {X : Type 0} (f : X → Item) (x : Option X) (i : Item) : Type 0 where
@@ -156,7 +131,7 @@ module _ (o : Opening) (T : List Step) (reads : ReadsBack) (all : AllFrom o (his
   posts node after e (lines.Sent r s part key nonce datagram) harmless row low i has n is = at (head_or_tail (register_item o T r s part nonce) [] i has)
     where
       at : (i ≡ register_item o T r s part nonce) ⊎ Contains [] i → IsKnown o (acceptances o T) i n
-      at (inl same) = absurd (said_clash (sym (ap (λ (x : Item). x.message) same) ∙ is))
+      at (inl same) = absurd (register_clash (sym (ap (λ (x : Item). x.message) same) ∙ is))
       at (inr no_more) = absurd (in_none i no_more)
   posts node after e (lines.Accepted server router key nonce None) harmless row low i has n is = absurd (in_none i has)
   posts node after e (lines.Accepted server router key nonce (Some datagram)) harmless row low i has n is =
@@ -178,28 +153,19 @@ module _ (o : Opening) (T : List Step) (reads : ReadsBack) (all : AllFrom o (his
       let said : ack_of f.value ≡ n = said_same _ n (ap (λ (x : Item). x.message) f.is ∙ is) in
       let origin = c.origin f.value (notified c.arrival.read f.value f.some) _ (knows_own o T node c.row.acts.kind) (is_heard o T node c.arrival what.what what.hears).authentic in
       answer_known (Kept e (lines.Noticed router server nonce datagram)) i f.value origin.what n origin.head said (below origin.item origin.sent origin.what origin.says)
-  posts node after (events.Notice s r fate) (lines.Notice server router key nonce datagram) harmless row low i has n is =
+  posts node after e (lines.Notice server router key nonce datagram) harmless row low i has n is =
       let f = from_some (notice_item o T (since_start o T server) server router key nonce) (heard_last (router_at o.config router).me (since_start o T server)) i has in
       let said = said_same _ n (ap (λ (x : Item). x.message) f.is ∙ is) in
       let number : nonce ≡ n.nonce = ap (λ (x : MapNotifyValue). x.nonce) said in
-      let bound = row.2.bound in
-      let next = row.2.next in
-      let high = nonce_high row.2.base in
+      let notice = (tells (context_of o T (record { event = e; line = lines.Notice server router key nonce datagram; actor = node; shown = after })) e (lines.Notice server router key nonce datagram) row).follows.2 in
+      let bound = notice.bound in
+      let next = notice.next in
+      let high = nonce_high notice.base in
       record { below = omega (arith, number, bound); reply = λ plain under. absurd (omega (arith, number, under, next, high)) }
-  posts node after (events.Change _ _) (lines.Notice server router key nonce datagram) harmless row low i has n is = absurd row
-  posts node after (events.Send _ _ _ _) (lines.Notice server router key nonce datagram) harmless row low i has n is = absurd row
-  posts node after (events.Deliver _ _) (lines.Notice server router key nonce datagram) harmless row low i has n is = absurd row.arrives
-  posts node after (events.Junk _ _ _) (lines.Notice server router key nonce datagram) harmless row low i has n is = absurd row.arrives
-  posts node after (events.Tick _) (lines.Notice server router key nonce datagram) harmless row low i has n is = absurd row
-  posts node after (events.Restart _ _ _) (lines.Notice server router key nonce datagram) harmless row low i has n is = absurd row
-  posts node after (events.Rotate _ _ _) (lines.Notice server router key nonce datagram) harmless row low i has n is = absurd row
-  posts node after (events.Lose _ _ _) (lines.Notice server router key nonce datagram) harmless row low i has n is = absurd row
-  posts node after (events.Resend _ _) (lines.Notice server router key nonce datagram) harmless row low i has n is = absurd row
-  posts node after (events.Reload _ _) (lines.Notice server router key nonce datagram) harmless row low i has n is = absurd row
   posts node after e (lines.Resent server router datagram) harmless row low i has n is = at (notice_to o T server (router_at o.config router).me) (in_option (option_and_then (λ n. slice_get (bag o T) n.datagram) (notice_to o T server (router_at o.config router).me)) i has)
     where
       at : (x : Option Notice) → option_and_then (λ n. slice_get (bag o T) n.datagram) x ≡ Some i → IsKnown o (acceptances o T) i n
-      at None e = absurd (none_clash e)
+      at None e = absurd (none-some _ e)
       at (Some x) e = known i (in_get (bag o T) x.datagram i e) n is
   posts node after e _ harmless row low i has n is = absurd (in_none i has)
 
@@ -221,3 +187,90 @@ module _ (o : Opening) (distinct : AllPairs (λ a b. a ≢ b) (addresses o.confi
           at : Contains (bag o T) i ⊎ Contains (items_added o T (past o T) (arrival_in (bag o T) s.event) s.line) i → IsKnown o (acceptances o (s ∷ T)) i n
           at (inl old) = later_known o T s i n (before i old n is)
           at (inr new) = posts o T reads (all_from o T legal.1) before s.actor s.shown s.event s.line clean.0 legal.0.row (accepted_low (s ∷ T) legal clean) i new n is
+
+-- Each Map-Notify-Ack in the bag is the answer of a router to a notice.
+
+-- the answer of a router to a notice
+pub record IsAnswer (o : Opening) (T : List Step) (i : Item) (n : MapNotifyValue) : Type 0 where
+  pub before : Step
+  pub earlier : Contains T before
+  pub node : ℕ
+  pub server : ℕ
+  pub datagram : ℕ
+  pub line : before.line ≡ lines.Noticed node server n.nonce datagram
+  pub kind : is_router o.config node ≡ true
+  pub listed : Contains (router_at o.config node).servers server
+  pub from : i.from ≡ address_at o.config node
+  pub to : i.to ≡ address_at o.config server
+
+abbrev pub AllAnswers : Opening → List Step → List Item → Type 0
+AllAnswers o T items = (i : Item) → Contains items i → (n : MapNotifyValue) → i.message ≡ Notifies n → n.ack ≡ true → IsAnswer o T i n
+
+later_answer : (o : Opening) (T : List Step) (s : Step) (i : Item) (n : MapNotifyValue) → IsAnswer o T i n → IsAnswer o (s ∷ T) i n
+later_answer o T s i n f = record { before = f.before; earlier = in_tail s T f.before f.earlier; node = f.node; server = f.server; datagram = f.datagram; line = f.line; kind = f.kind; listed = f.listed; from = f.from; to = f.to }
+
+read_same : (m n : MapNotifyValue) (r : Result MessageValue ReadFault) → r ≡ Ok (Notifies m) → r ≡ Ok (Notifies n) → m ≡ n
+read_same m n r one other = said_same m n (ok_same (Notifies m) (Notifies n) (sym one ∙ other))
+
+-- it is no Map-Notify
+not_plain : (m n : MapNotifyValue) → m ≡ n → m.ack ≡ false → n.ack ≡ true → ⊥
+not_plain m n same plain ack = true≢false (sym ack ∙ sym (ap (λ (x : MapNotifyValue). x.ack) same) ∙ plain)
+
+module _ (o : Opening) (T : List Step) (reads : ReadsBack) (all : AllFrom o (history o T) (bag o T)) (below : AllBelow (bag o T)) (old : AllAnswers o T (bag o T)) where
+  -- the answer that is posted
+  answered : (node : ℕ) (after : ShownStore) (e : EventValue) (router server nonce datagram : ℕ) → IsHarmless o T e
+      → MayCome (context_of o T (record { event = e; line = lines.Noticed router server nonce datagram; actor = node; shown = after })) e (lines.Noticed router server nonce datagram)
+      → (i : Item) → Contains (items_added o T (past o T) (arrival_in (bag o T) e) (lines.Noticed router server nonce datagram)) i → (n : MapNotifyValue) → i.message ≡ Notifies n → (s : Step) → s.line ≡ lines.Noticed router server nonce datagram → IsAnswer o (s ∷ T) i n
+  answered node after e router server nonce datagram harmless row i has n is s line =
+      let c = comes o T reads all below node e (lines.Noticed router server nonce datagram) after tt harmless row in
+      let f = from_some (ack_item o T router c.arrival) (as_notify c.arrival.read) i (subst (λ (a : Option Arrival). Contains (items_added o T (past o T) a (lines.Noticed router server nonce datagram)) i) c.is has) in
+      let what = noticed_of _ c.arrival router server nonce datagram c.row in
+      let h = is_heard o T node c.arrival what.what what.hears in
+      let read : f.value ≡ what.what.message = read_same f.value what.what.message c.arrival.read (notified c.arrival.read f.value f.some) h.read.is in
+      let said : ack_of f.value ≡ n = said_same (ack_of f.value) n (ap (λ (x : Item). x.message) f.is ∙ is) in
+      let number : n.nonce ≡ nonce = sym (ap (λ (x : MapNotifyValue). x.nonce) said) ∙ ap (λ (x : MapNotifyValue). x.nonce) read ∙ sym what.number in
+      record {
+        before = s;
+        earlier = at_head s T;
+        node = router;
+        server = server;
+        datagram = datagram;
+        line = line ∙ ap (λ (k : ℕ). lines.Noticed router server k datagram) (sym number);
+        kind = subst (λ (k : ℕ). is_router o.config k ≡ true) what.acts c.row.acts.kind;
+        listed = subst (λ (k : ℕ). Contains (router_at o.config k).servers server) what.acts (subst (Contains (router_at o.config node).servers) (sym what.whose) h.listed);
+        from = sym (ap (λ (x : Item). x.from) f.is);
+        to = sym (ap (λ (x : Item). x.to) f.is) ∙ sym h.source ∙ ap (address_at o.config) (sym what.whose);
+      }
+
+  posts_answers : (s : Step) (line : Line) → s.line ≡ line → IsHarmless o T s.event → MayCome (context_of o T s) s.event line → AllAnswers o (s ∷ T) (items_added o T (past o T) (arrival_in (bag o T) s.event) line)
+  posts_answers s (lines.Sent r k part key nonce datagram) line harmless row i has n is ack = at (head_or_tail (register_item o T r k part nonce) [] i has)
+    where
+      at : (i ≡ register_item o T r k part nonce) ⊎ Contains [] i → IsAnswer o (s ∷ T) i n
+      at (inl same) = absurd (register_clash (sym (ap (λ (x : Item). x.message) same) ∙ is))
+      at (inr no_more) = absurd (in_none i no_more)
+  posts_answers s (lines.Accepted server router key nonce None) line harmless row i has n is ack = absurd (in_none i has)
+  posts_answers s (lines.Accepted server router key nonce (Some datagram)) line harmless row i has n is ack =
+      let found = from_map (reply_item o.config (sites o T server) server) (acceptances_in (arrival_in (bag o T) s.event) (clock T)) i has in
+      absurd (not_plain (reply_to found.0.message) n (said_same (reply_to found.0.message) n (sym (ap (λ (x : Item). x.message) found.2) ∙ is)) refl ack)
+  posts_answers s (lines.Noticed router server nonce datagram) line harmless row i has n is ack = answered s.actor s.shown s.event router server nonce datagram harmless row i has n is s line
+  posts_answers s (lines.Notice server router key nonce datagram) line harmless row i has n is ack =
+      let f = from_some (notice_item o T (since_start o T server) server router key nonce) (heard_last (router_at o.config router).me (since_start o T server)) i has in
+      absurd (not_plain _ n (said_same _ n (ap (λ (x : Item). x.message) f.is ∙ is)) refl ack)
+  posts_answers s (lines.Resent server router datagram) line harmless row i has n is ack = at (notice_to o T server (router_at o.config router).me) (in_option (option_and_then (λ n. slice_get (bag o T) n.datagram) (notice_to o T server (router_at o.config router).me)) i has)
+    where
+      at : (x : Option Notice) → option_and_then (λ n. slice_get (bag o T) n.datagram) x ≡ Some i → IsAnswer o (s ∷ T) i n
+      at None e = absurd (none-some _ e)
+      at (Some x) e = later_answer o T s i n (old i (in_get (bag o T) x.datagram i e) n is ack)
+  posts_answers s _ line harmless row i has n is ack = absurd (in_none i has)
+
+module _ (o : Opening) (distinct : AllPairs (λ a b. a ≢ b) (addresses o.config)) (reads : ReadsBack) where
+  pub all_answers : (T : List Step) → LegalTrace o T → Clean o T → AllAnswers o T (bag o T)
+  all_answers [] legal clean = λ i has. absurd (in_none i has)
+  all_answers (s ∷ T) legal clean = grown (all_answers T legal.1 clean.1) (all_known o distinct reads T legal.1 clean.1)
+    where
+      grown : AllAnswers o T (bag o T) → AllKnown o (acceptances o T) (bag o T) → AllAnswers o (s ∷ T) (bag o (s ∷ T))
+      grown before known i has n is ack = at (Contains-append_cases (bag o T) (items_added o T (past o T) (arrival_in (bag o T) s.event) s.line) i has)
+        where
+          at : Contains (bag o T) i ⊎ Contains (items_added o T (past o T) (arrival_in (bag o T) s.event) s.line) i → IsAnswer o (s ∷ T) i n
+          at (inl old) = later_answer o T s i n (before i old n is ack)
+          at (inr new) = posts_answers o T reads (all_from o T legal.1) (λ j in_it m says. (known j in_it m says).below) before s s.line refl clean.0 legal.0.row i new n is ack

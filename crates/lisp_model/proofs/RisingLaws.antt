@@ -1,34 +1,246 @@
--- Over legal traces accepted nonces rise, and replays are told with numbers that were tried.
-use Rattle.std.proofs.Common.{◌≡◌, ℕ, Bool, true, false, cond, List, [], ◌∷◌, ◌++◌, map, Option, Some, None, refl, sym, ap, subst, inl, inr, ◌∙◌}
-use Rattle.std.specs.Prelude.{◌≢◌, ◌⊎◌, ◌==◌, if◌then◌else◌}
-use Rattle.std.specs.List.{Contains, filter, flat_map}
+-- Accepted nonces rise.
+use Rattle.std.proofs.Common.{◌≡◌, ℕ, ◌<◌, ◌≤◌, true, false, cond, List, [], ◌∷◌, ◌++◌, Option, Some, None, refl, sym, ap, subst, inl, inr, ◌∙◌, arith, Bool, Ok, true≢false}
+use Rattle.std.specs.Prelude.{◌⊎◌, map, ◌≢◌, ◌==◌, if◌then◌else◌}
+use Rattle.std.specs.List.{Contains, filter, find, flat_map}
 use Rattle.std.specs.Option.{option_map, option_to_list}
+use Rattle.std.proofs.lemmas.List.Elements.{Contains-append_cases}
+use Rattle.std.proofs.lemmas.Option.{none-some}
 use Rattle.std.specs.Ordering.{eq_by_cmp}
 use Rattle.std.proofs.lemmas.Bool.Decides.{Decides-eqb}
 use Rattle.lisp_nonces.specs.declared.pair.Pair.{Pair}
-use Rattle.lisp_nonces.specs.declared.pair.PairKind.{PairKind}
+use Rattle.lisp_nonces.specs.Kept.{InDoubt, kept_at}
+use Rattle.lisp_admission.specs.Nonces.{IsBelow}
 use Rattle.lisp_nonces.specs.declared.pair.PairKind.TheVariants as kinds
 use Rattle.lisp_nonces.specs.Pair.{pair_cmp}
-use Rattle.lisp_nonces.specs.Kept.{kept_at}
-use Rattle.lisp_admission.specs.declared.refused.Refused.TheVariants.{Replay}
+use Rattle.lisp_messages.specs.Message.{MapRegisterValue, Registers}
+use Rattle.lisp_admission.specs.declared.refused.Refused.TheVariants as refuseds
 use Rattle.lisp_admission.specs.Pairs.{pair_of}
-use Rattle.lisp_model.specs.declared.event.Event.TheVariants as events
+use Rattle.lisp_nonces.specs.declared.pair.PairKind.{PairKind}
+use Rattle.lisp_admission.specs.declared.refused.Refused.TheVariants.{Replay}
+use Rattle.lisp_model.specs.Held.{Acceptance, is_of_pair, last_of}
+use Rattle.lisp_model.specs.Accepted.{nonces_of, acceptances_after, tried_nonces_after, acceptances, acceptances_in_step, tried_nonces}
+use Rattle.lisp_model.specs.Context.{IsBase, Context, values, values_after, SameOthers}
+use Rattle.lisp_model.specs.Promises.{Falls, NoncesRise, ReplaysAreTried}
+use Rattle.lisp_model.specs.declared.line.Line.{Line}
 use Rattle.lisp_model.specs.declared.line.Line.TheVariants as lines
 use Rattle.lisp_model.specs.declared.refusal.Refusal.TheVariants as refusals
-use Rattle.lisp_model.specs.Trace.{EventValue, Step, Opening, is_server, shown_store, clock}
-use Rattle.lisp_model.specs.Held.{Acceptance, is_of_pair, last_of}
-use Rattle.lisp_model.specs.Bag.{Arrival, arrival_of, arrival_in, junk_arrival, acceptances_in, bag, since_start}
-use Rattle.lisp_model.specs.Accepted.{acceptances, acceptances_in_step, nonces_of, tried_nonces}
-use Rattle.lisp_model.specs.Context.{Context, values, IsBase}
-use Rattle.lisp_model.specs.Receiving.{last_in}
+use Rattle.lisp_model.specs.Trace.{EventValue, is_server, is_router, clock, Step, Opening, shown_store}
+use Rattle.lisp_model.specs.Bag.{Arrival, arrival_in, as_register, acceptances_in, bag, since_start, since_start_after, arrival_of, junk_arrival}
+use Rattle.lisp_model.specs.Receiving.{IsFresh, last_in}
+use Rattle.lisp_model.specs.declared.event.Event.TheVariants as events
 use Rattle.lisp_model.specs.Legal.{MayCome, Arrives, Legal, LegalTrace, context_of}
-use Rattle.lisp_model.specs.Promises.{Falls, NoncesRise, ReplaysAreTried}
-use Rattle.lisp_model.proofs.KeptLemmas.{pair_same}
+use Rattle.lisp_model.proofs.KeptLemmas.{only_value, pair_itself, pair_same}
 use Rattle.lisp_model.proofs.ListLemmas.{at_head, in_tail, head_or_tail, in_none}
-use Rattle.lisp_model.proofs.Locality.{by_actor, same_number, other_number, since_other, accepted_other, tried_other}
-use Rattle.lisp_model.proofs.Rising.{Safe}
-use Rattle.lisp_model.proofs.RisingSteps.{row_safe, taken_one}
-use Rattle.lisp_model.proofs.ServerLemmas.{none_accepted}
+use Rattle.lisp_model.proofs.HearingLemmas.{not_both}
+use Rattle.lisp_model.proofs.Locality.{same_number, other_number, since_other, accepted_other, tried_other, none_accepted}
+use Rattle.lisp_model.proofs.Rows.{Refusing, Tells, tells}
+
+-- a value is a number that isn't below
+abbrev pub AtLeast : ℕ → Option ℕ → Type 0
+AtLeast n None = ⊥
+AtLeast n (Some m) = n ≤ m
+
+-- what holds of a pair at a server: what was accepted, also since the start; what was tried; what is kept
+pub record Safe (q : Pair) (acc since : List Acceptance) (tried : List ℕ) (kept : List (Option ℕ)) : Type 0 where
+  pub falls : Falls (nonces_of q acc)
+  pub floor : (n : ℕ) → Contains (nonces_of q acc) n → (v : Option ℕ) → Contains kept v → AtLeast n v
+  pub last : (l : ℕ) → last_of q since ≡ Some l → (n : ℕ) → Contains (nonces_of q acc) n → n ≤ l
+  pub tried_kept : (m : ℕ) → Contains kept (Some m) → Contains tried m
+  pub tried_last : (l : ℕ) → last_of q since ≡ Some l → Contains tried l
+
+module _ (q : Pair) (acc since : List Acceptance) (tried : List ℕ) (kept : List (Option ℕ)) (safe : Safe q acc since tried kept) where
+  -- nothing new is kept
+  pub safe_narrows : (new : List (Option ℕ)) → ((v : Option ℕ) → Contains new v → Contains kept v) → Safe q acc since tried new
+  safe_narrows new each = record { falls = safe.falls; floor = λ n has v in_it. safe.floor n has v (each v in_it); last = safe.last; tried_kept = λ m has. safe.tried_kept m (each (Some m) has); tried_last = safe.tried_last }
+
+  -- and the server forgets
+  pub safe_restarts : (new : List (Option ℕ)) → ((v : Option ℕ) → Contains new v → Contains kept v) → Safe q acc [] tried new
+  safe_restarts new each = record { falls = safe.falls; floor = λ n has v in_it. safe.floor n has v (each v in_it); last = λ l e n has. absurd (none-some _ e); tried_kept = λ m has. safe.tried_kept m (each (Some m) has); tried_last = λ l e. absurd (none-some _ e) }
+
+  -- a base is at least each accepted nonce
+  above_all : (last : Option ℕ) → last_of q since ≡ last → (base : Option ℕ) → IsBase last kept base → (nonce : ℕ) → IsBelow base nonce → (n : ℕ) → Contains (nonces_of q acc) n → n < nonce
+  above_all (Some l) is base e nonce below n has = let low : l < nonce = subst (λ (b : Option ℕ). IsBelow b nonce) e below in let at : n ≤ l = safe.last l is n has in omega (arith, low, at)
+  above_all None is None e nonce below n has = absurd (safe.floor n has None e)
+  above_all None is (Some b) e nonce below n has = let at : n ≤ b = safe.floor n has (Some b) e in omega (arith, below, at)
+
+  module _ (base : Option ℕ) (counts : IsBase (last_of q since) kept base) (nonce : ℕ) (below : IsBelow base nonce) where
+    pub fresh : (n : ℕ) → Contains (nonces_of q acc) n → n < nonce
+    fresh = above_all (last_of q since) refl base counts nonce below
+
+    -- a save of it is in doubt
+    pub safe_doubts : (new : List (Option ℕ)) → InDoubt kept new nonce → Safe q acc since (nonce ∷ tried) new
+    safe_doubts new doubt = record {
+      falls = safe.falls;
+      floor = λ n has v in_it. floors doubt n has v in_it;
+      last = safe.last;
+      tried_kept = λ m has. tries doubt m has;
+      tried_last = λ l e. in_tail nonce tried l (safe.tried_last l e);
+    }
+      where
+        floors : InDoubt kept new nonce → (n : ℕ) → Contains (nonces_of q acc) n → (v : Option ℕ) → Contains new v → AtLeast n v
+        floors (inl same) n has v in_it = safe.floor n has v (subst (λ (vs : List (Option ℕ)). Contains vs v) same in_it)
+        floors (inr more) n has v in_it = at (Contains-append_cases kept (Some nonce ∷ []) v (subst (λ (vs : List (Option ℕ)). Contains vs v) more in_it))
+          where
+            at : Contains kept v ⊎ Contains (Some nonce ∷ []) v → AtLeast n v
+            at (inl old) = safe.floor n has v old
+            at (inr one) = subst (λ (w : Option ℕ). AtLeast n w) (sym (only_value (Some nonce) v one)) (omega (arith, fresh n has))
+
+        tries : InDoubt kept new nonce → (m : ℕ) → Contains new (Some m) → Contains (nonce ∷ tried) m
+        tries (inl same) m has = in_tail nonce tried m (safe.tried_kept m (subst (λ (vs : List (Option ℕ)). Contains vs (Some m)) same has))
+        tries (inr more) m has = at (Contains-append_cases kept (Some nonce ∷ []) (Some m) (subst (λ (vs : List (Option ℕ)). Contains vs (Some m)) more has))
+          where
+            at : Contains kept (Some m) ⊎ Contains (Some nonce ∷ []) (Some m) → Contains (nonce ∷ tried) m
+            at (inl old) = in_tail nonce tried m (safe.tried_kept m old)
+            at (inr one) = let same : ◌≡◌ {A = Option ℕ} (Some m) (Some nonce) = only_value (Some nonce) (Some m) one in let equal : m ≡ nonce = cc in subst (λ (x : ℕ). Contains (nonce ∷ tried) x) (sym equal) (at_head nonce tried)
+
+-- one more message of the pair, or of another
+pub nonces_of-same : (q : Pair) (a : Acceptance) (acc : List Acceptance) → is_of_pair q a ≡ true → nonces_of q (a ∷ acc) ≡ a.message.nonce ∷ nonces_of q acc
+nonces_of-same q a acc e = ap (λ b. map (λ x. x.message.nonce) (cond b (a ∷ filter (is_of_pair q) acc) (filter (is_of_pair q) acc))) e
+
+pub nonces_of-other : (q : Pair) (a : Acceptance) (acc : List Acceptance) → is_of_pair q a ≡ false → nonces_of q (a ∷ acc) ≡ nonces_of q acc
+nonces_of-other q a acc e = ap (λ b. map (λ x. x.message.nonce) (cond b (a ∷ filter (is_of_pair q) acc) (filter (is_of_pair q) acc))) e
+
+last_of-same : (q : Pair) (a : Acceptance) (since : List Acceptance) → is_of_pair q a ≡ true → last_of q (a ∷ since) ≡ Some a.message.nonce
+last_of-same q a since e = ap (λ b. option_map (λ x. x.message.nonce) (cond b (Some a) (find (is_of_pair q) since))) e
+
+last_of-other : (q : Pair) (a : Acceptance) (since : List Acceptance) → is_of_pair q a ≡ false → last_of q (a ∷ since) ≡ last_of q since
+last_of-other q a since e = ap (λ b. option_map (λ x. x.message.nonce) (cond b (Some a) (find (is_of_pair q) since))) e
+
+module _ (q : Pair) (acc since : List Acceptance) (tried : List ℕ) (kept : List (Option ℕ)) (safe : Safe q acc since tried kept) (a : Acceptance) (new : List (Option ℕ)) where
+  -- it is of the pair, above a base, and alone is kept
+  pub safe_takes : is_of_pair q a ≡ true → (base : Option ℕ) → IsBase (last_of q since) kept base → IsBelow base a.message.nonce → new ≡ Some a.message.nonce ∷ [] → Safe q (a ∷ acc) (a ∷ since) (nonces_of q (a ∷ []) ++ tried) new
+  safe_takes is base counts below one = record {
+    falls = subst Falls (sym list) (newest, safe.falls);
+    floor = λ n has v in_it. subst (λ (w : Option ℕ). AtLeast n w) (sym (only_value (Some a.message.nonce) v (subst (λ (vs : List (Option ℕ)). Contains vs v) one in_it))) (at_most n has);
+    last = λ l e n has. subst (λ (x : ℕ). n ≤ x) (is_nonce l e) (at_most n has);
+    tried_kept = λ m has. is_tried m (some_same m (only_value (Some a.message.nonce) (Some m) (subst (λ (vs : List (Option ℕ)). Contains vs (Some m)) one has)));
+    tried_last = λ l e. is_tried l (sym (is_nonce l e));
+  }
+    where
+      nonce : ℕ
+      nonce = a.message.nonce
+
+      list : nonces_of q (a ∷ acc) ≡ a.message.nonce ∷ nonces_of q acc
+      list = nonces_of-same q a acc is
+
+      newest : (n : ℕ) → Contains (nonces_of q acc) n → n < a.message.nonce
+      newest = fresh q acc since tried kept safe base counts a.message.nonce below
+
+      at_most_of : (n : ℕ) → (n ≡ a.message.nonce) ⊎ Contains (nonces_of q acc) n → n ≤ a.message.nonce
+      at_most_of n (inl e) = omega (arith, e)
+      at_most_of n (inr has) = let low = newest n has in omega (arith, low)
+
+      at_most : (n : ℕ) → Contains (nonces_of q (a ∷ acc)) n → n ≤ a.message.nonce
+      at_most n has = at_most_of n (head_or_tail a.message.nonce (nonces_of q acc) n (subst (λ (ns : List ℕ). Contains ns n) list has))
+
+      some_same : (m : ℕ) → ◌≡◌ {A = Option ℕ} (Some m) (Some a.message.nonce) → m ≡ a.message.nonce
+      some_same m e = cc
+
+      is_nonce : (l : ℕ) → last_of q (a ∷ since) ≡ Some l → a.message.nonce ≡ l
+      is_nonce l e = sym (some_same l (sym e ∙ last_of-same q a since is))
+
+      is_tried : (m : ℕ) → m ≡ a.message.nonce → Contains (nonces_of q (a ∷ []) ++ tried) m
+      is_tried m e = subst (λ (ns : List ℕ). Contains (ns ++ tried) m) (sym (nonces_of-same q a [] is)) (subst (λ (x : ℕ). Contains (a.message.nonce ∷ tried) x) (sym e) (at_head a.message.nonce tried))
+
+  -- it is of another pair
+  pub safe_passes : is_of_pair q a ≡ false → new ≡ kept → Safe q (a ∷ acc) (a ∷ since) (nonces_of q (a ∷ []) ++ tried) new
+  safe_passes is same = record {
+    falls = subst Falls (sym list) safe.falls;
+    floor = λ n has v in_it. safe.floor n (old n has) v (subst (λ (vs : List (Option ℕ)). Contains vs v) same in_it);
+    last = λ l e n has. safe.last l (sym (last_of-other q a since is) ∙ e) n (old n has);
+    tried_kept = λ m has. tried_too m (safe.tried_kept m (subst (λ (vs : List (Option ℕ)). Contains vs (Some m)) same has));
+    tried_last = λ l e. tried_too l (safe.tried_last l (sym (last_of-other q a since is) ∙ e));
+  }
+    where
+      list : nonces_of q (a ∷ acc) ≡ nonces_of q acc
+      list = nonces_of-other q a acc is
+
+      old : (n : ℕ) → Contains (nonces_of q (a ∷ acc)) n → Contains (nonces_of q acc) n
+      old n has = subst (λ (ns : List ℕ). Contains ns n) list has
+
+      tried_too : (m : ℕ) → Contains tried m → Contains (nonces_of q (a ∷ []) ++ tried) m
+      tried_too m has = subst (λ (ns : List ℕ). Contains (ns ++ tried) m) (sym (nonces_of-other q a [] is)) has
+
+-- Each legal step keeps what makes accepted nonces rise.
+
+differs_at : (q p : Pair) → eq_by_cmp pair_cmp q p ≡ false → q ≢ p
+differs_at q p e same = true≢false (sym (pair_itself q) ∙ ap (λ (x : Pair). eq_by_cmp pair_cmp q x) same ∙ e)
+
+-- what is taken is the message that is read
+pub taken_one : (a : Arrival) (now : ℕ) (m : MapRegisterValue) → a.read ≡ Ok (Registers m) → acceptances_in (Some a) now ≡ record { message = m; from = a.from; moment = now } ∷ []
+taken_one a now m read = ap (λ r. option_to_list (option_map (λ x. record { message = x; from = a.from; moment = now }) (as_register r))) read
+
+module _ (t : Context) (its : is_server t.opening.config t.node ≡ true) (q : Pair) (kind : q.kind ≡ kinds.Received) (acc : List Acceptance) (old : List ℕ) (safe : Safe q acc (since_start t.opening t.past t.node) old (values t q)) where
+  before : List Acceptance
+  before = since_start t.opening t.past t.node
+
+  -- the list of the pair is as it was
+  stays : values_after t q ≡ values t q → Safe q acc (since_start t.opening t.past t.node) old (values_after t q)
+  stays e = safe_narrows q acc (since_start t.opening t.past t.node) old (values t q) safe (values_after t q) (λ v has. subst (λ (vs : List (Option ℕ)). Contains vs v) e has)
+
+  -- a Map-Register is accepted
+  module _ (a : Arrival) (m : MapRegisterValue) (read : a.read ≡ Ok (Registers m)) (fresh : IsFresh t m) (now : ℕ) where
+    one : Acceptance
+    one = record { message = m; from = a.from; moment = now }
+
+    base_at : q ≡ pair_of m → IsBase (last_of q (since_start t.opening t.past t.node)) (values t q) fresh.base
+    base_at e = subst (λ (p : Pair). IsBase (last_of p (since_start t.opening t.past t.node)) (values t p) fresh.base) (sym e) fresh.counts
+
+    takes_safe : values_after t (pair_of m) ≡ Some m.nonce ∷ [] → SameOthers t (pair_of m) → (b : Bool) → eq_by_cmp pair_cmp q (pair_of m) ≡ b
+        → Safe q (record { message = m; from = a.from; moment = now } ∷ acc) (record { message = m; from = a.from; moment = now } ∷ since_start t.opening t.past t.node) (nonces_of q (record { message = m; from = a.from; moment = now } ∷ []) ++ old) (values_after t q)
+    takes_safe kept others true e = safe_takes q acc (since_start t.opening t.past t.node) old (values t q) safe (record { message = m; from = a.from; moment = now }) (values_after t q) e fresh.base (base_at (pair_same q (pair_of m) e)) fresh.above (ap (values_after t) (pair_same q (pair_of m) e) ∙ kept)
+    takes_safe kept others false e = safe_passes q acc (since_start t.opening t.past t.node) old (values t q) safe (record { message = m; from = a.from; moment = now }) (values_after t q) e (others q (differs_at q (pair_of m) e))
+
+    doubts_safe : InDoubt (values t (pair_of m)) (values_after t (pair_of m)) m.nonce → SameOthers t (pair_of m) → (b : Bool) → eq_by_cmp pair_cmp q (pair_of m) ≡ b
+        → Safe q acc (since_start t.opening t.past t.node) (nonces_of q (record { message = m; from = a.from; moment = now } ∷ []) ++ old) (values_after t q)
+    doubts_safe doubt others true e = subst (λ (ns : List ℕ). Safe q acc (since_start t.opening t.past t.node) (ns ++ old) (values_after t q)) (sym (nonces_of-same q (record { message = m; from = a.from; moment = now }) [] e))
+        (safe_doubts q acc (since_start t.opening t.past t.node) old (values t q) safe fresh.base (base_at (pair_same q (pair_of m) e)) m.nonce fresh.above (values_after t q) (subst (λ (p : Pair). InDoubt (values t p) (values_after t p) m.nonce) (sym (pair_same q (pair_of m) e)) doubt))
+    doubts_safe doubt others false e = subst (λ (ns : List ℕ). Safe q acc (since_start t.opening t.past t.node) (ns ++ old) (values_after t q)) (sym (nonces_of-other q (record { message = m; from = a.from; moment = now }) [] e)) (stays (others q (differs_at q (pair_of m) e)))
+
+  -- what is kept to afterwards
+  abbrev After : List Acceptance → Line → Type 0
+  After new line = Safe q (acceptances_after line new t.node acc) (since_start_after line new t.node (since_start t.opening t.past t.node)) (tried_nonces_after line (nonces_of q new) t.node old) (values_after t q)
+
+  accept_line : (server : ℕ) (new : List Acceptance) → t.node ≡ server → Safe q (new ++ acc) (new ++ since_start t.opening t.past t.node) (nonces_of q new ++ old) (values_after t q)
+      → Safe q (if server == t.node then new ++ acc else acc) (if server == t.node then new ++ since_start t.opening t.past t.node else since_start t.opening t.past t.node) (if server == t.node then nonces_of q new ++ old else old) (values_after t q)
+  accept_line server new is next = subst (λ b. Safe q (if b then new ++ acc else acc) (if b then new ++ since_start t.opening t.past t.node else since_start t.opening t.past t.node) (if b then nonces_of q new ++ old else old) (values_after t q))
+      (sym (ap (λ s. s == t.node) (sym is) ∙ same_number t.node)) next
+
+  tried_line : (server : ℕ) (new : List Acceptance) → t.node ≡ server → Safe q acc (since_start t.opening t.past t.node) (nonces_of q new ++ old) (values_after t q)
+      → Safe q acc (since_start t.opening t.past t.node) (if server == t.node then nonces_of q new ++ old else old) (values_after t q)
+  tried_line server new is next = subst (λ b. Safe q acc (since_start t.opening t.past t.node) (if b then nonces_of q new ++ old else old) (values_after t q)) (sym (ap (λ s. s == t.node) (sym is) ∙ same_number t.node)) next
+
+  restart_line : (named : ℕ) → named ≡ t.node → Safe q acc [] old (values_after t q) → Safe q acc (if named == t.node then [] else since_start t.opening t.past t.node) old (values_after t q)
+  restart_line named is next = subst (λ b. Safe q acc (if b then [] else since_start t.opening t.past t.node) old (values_after t q)) (sym (ap (λ s. s == t.node) is ∙ same_number t.node)) next
+
+  -- a router's store isn't the server's
+  no_router : {X : Type 0} (node : ℕ) → is_router t.opening.config node ≡ true → t.node ≡ node → X
+  no_router node kind acts = absurd (not_both t.opening.config node kind (ap (is_server t.opening.config) (sym acts) ∙ its))
+
+  -- any legal step of the server
+  pub row_safe : (e : EventValue) (line : Line) → Tells t e line → After (acceptances_in (arrival_in (bag t.opening t.past) e) (clock t.past)) line
+  row_safe e (lines.Accepted server router key nonce datagram) told =
+      let f = told.follows in
+      subst (λ (a : Option Arrival). After (acceptances_in a (clock t.past)) (lines.Accepted server router key nonce datagram)) (sym f.is)
+      (accept_line server (acceptances_in (Some f.arrival) (clock t.past)) f.row.acts.acts (subst (λ (new : List Acceptance). Safe q (new ++ acc) (new ++ since_start t.opening t.past t.node) (nonces_of q new ++ old) (values_after t q)) (sym (taken_one f.arrival (clock t.past) f.row.message f.row.admits.read))
+      (takes_safe f.arrival f.row.message f.row.admits.read f.row.fresh (clock t.past) f.row.kept f.row.others (eq_by_cmp pair_cmp q (pair_of f.row.message)) refl)))
+  row_safe e (lines.Refused named (refusals.Receive (refuseds.StoreSave fault))) told =
+      let f = told.follows in
+      let row = f.row.1 in
+      subst (λ (a : Option Arrival). After (acceptances_in a (clock t.past)) (lines.Refused named (refusals.Receive (refuseds.StoreSave fault)))) (sym f.is)
+      (tried_line named (acceptances_in (Some f.arrival) (clock t.past)) (sym told.by) (subst (λ (new : List Acceptance). Safe q acc (since_start t.opening t.past t.node) (nonces_of q new ++ old) (values_after t q)) (sym (taken_one f.arrival (clock t.past) row.message row.admits.read))
+      (doubts_safe f.arrival row.message row.admits.read row.fresh (clock t.past) row.fails.here row.fails.others (eq_by_cmp pair_cmp q (pair_of row.message)) refl)))
+  row_safe e (lines.Restarted named) told = restart_line named told.by (safe_restarts q acc (since_start t.opening t.past t.node) old (values t q) safe (values_after t q) (told.follows.3.narrows q).each)
+  row_safe e (lines.Renewed named count) told = restart_line named told.by (safe_restarts q acc (since_start t.opening t.past t.node) old (values t q) safe (values_after t q) (λ v has. subst (λ (vs : List (Option ℕ)). Contains vs v) (told.stays.kept kinds.Received refl q kind) has))
+  row_safe e (lines.Emptied named under) told = no_router named told.follows.2.lost.kind told.follows.2.lost.acts
+  row_safe e (lines.Refused named (refusals.Start fault)) told = at told.follows
+    where
+      at : Refusing t e named (refusals.Start fault) → After (acceptances_in (arrival_in (bag t.opening t.past) e) (clock t.past)) (lines.Refused named (refusals.Start fault))
+      at (inl f) = no_router named f.3.kind f.3.acts
+      at (inr f) = no_router named f.3.lost.kind f.3.lost.acts
+  row_safe e line told = stays (told.stays.kept kinds.Received refl q kind)
+
+-- Over legal traces accepted nonces rise, and replays are told with numbers that were tried.
 
 -- a number among values is among their numbers
 some_number : (v : Option ℕ) (m : ℕ) (ms : List ℕ) → (Some m ≡ v) ⊎ Contains ms m → Contains (option_to_list v ++ ms) m
@@ -67,11 +279,11 @@ module _ (o : Opening) (q : Pair) (kind : q.kind ≡ kinds.Received) where
 
   safe_actor : (T : List Step) (s : Step) → Legal o T s → is_server o.config s.actor ≡ true → SafeAt T s.actor → SafeAt (s ∷ T) s.actor
   safe_actor T s l its safe = subst (λ b. Safe q (acceptances o (s ∷ T) s.actor) (since_start o (s ∷ T) s.actor) (tried_nonces o (s ∷ T) s.actor q) (kept_at (if b then s.shown else shown_store o T s.actor).kept q)) (sym (same_number s.actor))
-      (row_safe (context_of o T s) its q kind (acceptances o T s.actor) (tried_nonces o T s.actor q) safe s.event s.line l.row)
+      (row_safe (context_of o T s) its q kind (acceptances o T s.actor) (tried_nonces o T s.actor q) safe s.event s.line (tells (context_of o T s) s.event s.line l.row))
 
   safe_other : (T : List Step) (s : Step) (k : ℕ) → k ≢ s.actor → Legal o T s → SafeAt T k → SafeAt (s ∷ T) k
   safe_other T s k differ l safe =
-      let by = by_actor (context_of o T s) s.event s.line l.row in
+      let by = (tells (context_of o T s) s.event s.line l.row).by in
       subst (λ (acc : List Acceptance). Safe q acc (since_start o (s ∷ T) k) (tried_nonces o (s ∷ T) k q) (kept_at (shown_store o (s ∷ T) k).kept q)) (sym (accepted_other s.actor k differ s.line by (acceptances_in_step o T s) (acceptances o T k)))
       (subst (λ (new : List Acceptance). Safe q (acceptances o T k) new (tried_nonces o (s ∷ T) k q) (kept_at (shown_store o (s ∷ T) k).kept q)) (sym (since_other s.actor k differ s.line by (acceptances_in_step o T s) (since_start o T k)))
       (subst (λ (ns : List ℕ). Safe q (acceptances o T k) (since_start o T k) ns (kept_at (shown_store o (s ∷ T) k).kept q)) (sym (tried_other s.actor k differ s.line by (nonces_of q (acceptances_in_step o T s)) (tried_nonces o T k q)))

@@ -1,27 +1,98 @@
--- No router uses a nonce twice under one key.
-use Rattle.std.proofs.Common.{◌≡◌, ℕ, ◌<◌, ◌≤◌, Bool, true, false, List, [], ◌∷◌, ◌++◌, length, Option, Some, None, refl, sym, ap, subst, inl, inr, ◌∙◌, arith}
+-- What a legal step leaves of the values that a router's store keeps for its own nonces, under each of its keys.
+use Rattle.std.proofs.Common.{arith, ◌≡◌, ℕ, ◌+◌, ◌<◌, false, List, Option, refl, sym, ap, subst, ◌∙◌, ◌≤◌, Bool, true, [], ◌∷◌, ◌++◌, length, Some, None, inl, inr}
 use Rattle.std.specs.Prelude.{◌≢◌, ◌⊎◌, ◌==◌, if◌then◌else◌}
 use Rattle.std.specs.List.{Contains}
 use Rattle.std.proofs.lemmas.List.Elements.{Contains-append_cases, Contains-append_left}
 use Rattle.std.proofs.lemmas.Bool.Decides.{Decides-eqb}
+use Rattle.lisp_nonces.specs.declared.fault.StoreFault.{StoreFault}
+use Rattle.lisp_nonces.specs.declared.pair.Pair.{Pair}
+use Rattle.lisp_nonces.specs.declared.pair.PairKind.TheVariants as kinds
+use Rattle.lisp_nonces.specs.Kept.{number, InDoubt, Kept, kept_at}
+use Rattle.lisp_etr.specs.Sending.{block_end}
+use Rattle.lisp_etr.proofs.SafeLaws.{block_bound}
+use Rattle.lisp_etr.specs.declared.send_fault.SendFault.TheVariants as sends
 use Rattle.lisp_records.specs.Record.{MapRecordValue}
-use Rattle.lisp_nonces.specs.Kept.{Kept, kept_at, number, InDoubt}
-use Rattle.lisp_model.specs.declared.event.Event.TheVariants as events
 use Rattle.lisp_model.specs.declared.line.Line.{Line}
+use Rattle.lisp_model.specs.Trace.{Opening, key as key_of, etr_config, router_at, EventValue, Step, key_after, shown_store, database}
+use Rattle.lisp_model.specs.Context.{Context, values, values_after, IsBase}
+use Rattle.lisp_model.specs.Sending.{CountsFrom, pair_at, RefusesToSend, IsSent, last_sent, last_sent_after, start_values, start_values_after}
 use Rattle.lisp_model.specs.declared.line.Line.TheVariants as lines
 use Rattle.lisp_model.specs.declared.refusal.Refusal.TheVariants as refusals
-use Rattle.lisp_model.specs.Trace.{EventValue, Step, Opening, key as key_of, key_after, shown_store, database}
 use Rattle.lisp_model.specs.Keys.{keys_since_loss, keys_since_loss_after, keys_before_loss, keys_before_loss_after}
 use Rattle.lisp_model.specs.History.{SentRegister, sent_registers_in, history}
-use Rattle.lisp_model.specs.Context.{Context, values_after, IsBase}
-use Rattle.lisp_model.specs.Sending.{CountsFrom, IsSent, pair_at, last_sent, last_sent_after, start_values, start_values_after}
 use Rattle.lisp_model.specs.Rotating.{IsRotated, IsLost}
 use Rattle.lisp_model.specs.Legal.{MayCome, Legal, LegalTrace, context_of}
+use Rattle.lisp_model.proofs.Rows.{touches, Untouched, GoesOn, Refusing, Following, Tells, tells, goes_on}
 use Rattle.lisp_model.proofs.KeptLemmas.{only_value}
 use Rattle.lisp_model.proofs.ListLemmas.{at_head, head_or_tail, in_none, in_tail}
 use Rattle.lisp_model.proofs.HeardLines.{IsBy}
-use Rattle.lisp_model.proofs.Locality.{by_actor, given_by, same_number, other_number, key_other, since_loss_other, before_loss_other, last_sent_other, start_values_other}
-use Rattle.lisp_model.proofs.OwnValues.{pair_under, key_values, key_values_after, own_key, own_values, own_values_after, SameAt, Doubts, Stays, Leaves, leaves, not_own}
+use Rattle.lisp_model.proofs.Locality.{same_number, other_number, key_other, since_loss_other, before_loss_other, last_sent_other, start_values_other}
+
+-- what the nonces of a router under a key are kept for
+abbrev pub pair_under : Opening → ℕ → ℕ → Pair
+pair_under o router key = record { kind = kinds.Sent; router = (router_at o.config router).me; key = key }
+
+-- what the store of the router that acts keeps for a key before, and after
+abbrev pub key_values : Context → ℕ → List (Option ℕ)
+key_values t key = values t (pair_under t.opening t.node key)
+
+abbrev pub key_values_after : Context → ℕ → List (Option ℕ)
+key_values_after t key = values_after t (pair_under t.opening t.node key)
+
+-- its key before; what is kept for that
+abbrev pub own_key : Context → ℕ
+own_key t = key_of t.opening t.past t.node
+
+abbrev pub own_values : Context → List (Option ℕ)
+own_values t = key_values t (own_key t)
+
+abbrev pub own_values_after : Context → List (Option ℕ)
+own_values_after t = key_values_after t (own_key t)
+
+-- the values of a key are as they were; those of each; those of each but the router's
+abbrev pub SameAt : Context → ℕ → Type 0
+SameAt t key = key_values_after t key ≡ key_values t key
+
+abbrev pub SameKeys : Context → Type 0
+SameKeys t = (key : ℕ) → SameAt t key
+
+abbrev pub SameOtherKeys : Context → Type 0
+SameOtherKeys t = (key : ℕ) → key ≢ own_key t → SameAt t key
+
+-- a nonce above the number that the router counts from may have been saved
+pub record Doubts (t : Context) : Type 0 where
+  pub base : Option ℕ
+  pub counts : CountsFrom t.opening t.past t.node base
+  pub nonce : ℕ
+  pub above : number base < nonce
+  pub doubt : InDoubt (own_values t) (own_values_after t) nonce
+  pub others : SameOtherKeys t
+
+-- the values are as they were, or a nonce is in doubt
+abbrev pub Stays : Context → Type 0
+Stays t = SameKeys t ⊎ Doubts t
+
+module _ (t : Context) where
+  -- the pair of another key is another one
+  pub not_own : (router : ℕ) → t.node ≡ router → (key : ℕ) → key ≢ own_key t → pair_under t.opening t.node key ≢ pair_at t.opening t.past router
+  not_own router is key differ e = differ (ap (λ (x : Pair). x.key) e ∙ ap (key_of t.opening t.past) (sym is))
+
+  -- a line that leaves the values of routers
+  pub same_keys : (line : Line) → Untouched t line → touches kinds.Sent line ≡ false → SameKeys t
+  same_keys line stays none key = stays.kept kinds.Sent none (pair_under t.opening t.node key) refl
+
+  -- a Map-Register couldn't be saved
+  pub not_saved : (router server part : ℕ) (fault : StoreFault) → t.node ≡ router → RefusesToSend t router server part (sends.Store fault) → Doubts t
+  not_saved router server part fault is row = record {
+    base = row.1.base;
+    counts = subst (λ (n : ℕ). CountsFrom t.opening t.past n row.1.base) (sym is) row.1.counts;
+    nonce = block_end (number row.1.base + 1) (etr_config t.opening t.past router).nonce_block;
+    above = (let bound = block_bound (number row.1.base + 1) (etr_config t.opening t.past router).nonce_block (let left = row.1.left in omega (arith, left)) in let least = bound.least in omega (arith, least));
+    doubt = subst (λ (n : ℕ). InDoubt (values t (pair_at t.opening t.past n)) (values_after t (pair_at t.opening t.past n)) (block_end (number row.1.base + 1) (etr_config t.opening t.past router).nonce_block)) (sym is) row.1.fails.here;
+    others = λ key differ. row.1.fails.others (pair_under t.opening t.node key) (not_own router is key differ);
+  }
+
+-- No router uses a nonce twice under one key.
 
 -- a router's key; the keys that it used since its store was lost, and before; the nonce of its last entry; what its store
 -- kept at its start; and what the store keeps
@@ -92,10 +163,6 @@ module _ (t : Context) (was : Sound t.opening t.node (history t.opening t.past) 
           where
             differs : (k : ℕ) → (k == own_key t) ≡ false → k ≢ own_key t
             differs k other own = let clash : true ≡ false = sym ((Decides-eqb k (own_key t)).1 own) ∙ other in absurd cc
-
-  still : Stays t → Still
-  still (inl same) = narrower (λ key. same_in key (same key))
-  still (inr saved) = doubts saved
 
   abbrev After : EventValue → Line → Type 0
   After e line = Sound t.opening t.node (sent_registers_in t.opening t.past line ++ history t.opening t.past) (keyed_after t e line)
@@ -222,24 +289,35 @@ module _ (t : Context) (was : Sound t.opening t.node (history t.opening t.past) 
         only (inl same) = same
         only {k} (inr none) = absurd (in_none k none)
 
-  after : (line : Line) (e : EventValue) → MayCome t e line → Leaves t line e → After e line
-  after (lines.Sent r s p key nonce datagram) (events.Send router server part fate) row left = sends_on r s p key nonce datagram router server part left.0 left.1
-  after (lines.Sent _ _ _ _ _ _) _ row left = absurd left
-  after (lines.Restarted named) (events.Restart _ _ _) row left = restarts_on named left.0 (λ key. (left.1 key).each)
-  after (lines.Restarted _) _ row left = absurd left
-  after (lines.Rotated named under) (events.Rotate router key _) row left = rotates_on router key named under left
-  after (lines.Rotated _ _) _ row left = absurd left
-  after (lines.Emptied named under) (events.Lose router key db) row left = loses_on router key db left.lost _ _
-  after (lines.Emptied _ _) _ row left = absurd left
-  after (lines.Refused named (refusals.Start fault)) (events.Restart _ _ _) row left = narrower (λ key. (left.1 key).each)
-  after (lines.Refused named (refusals.Start fault)) (events.Lose router key db) row left = loses_on router key db left.1 _ _
-  after (lines.Refused _ (refusals.Start fault)) _ row left = absurd left
-  after _ (events.Lose _ _ _) row left = absurd row
-  after _ _ row left = still left
+  -- the router goes on as it was
+  goes : (e : EventValue) (line : Line) → GoesOn e line → Still → Then (record (keyed t) {
+    key = key_after e line t.node (own_key t);
+    since = keys_since_loss_after e line t.node (keys_since_loss t.opening t.past t.node);
+    before = keys_before_loss_after e t.node (keys_since_loss t.opening t.past t.node) (keys_before_loss t.opening t.past t.node);
+    kept = t.after.kept;
+  })
+  goes e line on = subst Then (λ i. record (keyed t) {
+    key = sym (on.key t.node (own_key t)) i;
+    since = sym (on.since_loss t.node (keys_since_loss t.opening t.past t.node)) i;
+    before = sym (on.before_loss t.node (keys_since_loss t.opening t.past t.node) (keys_before_loss t.opening t.past t.node)) i;
+    kept = t.after.kept;
+  })
 
   -- any legal step of the node
-  row_sound : (e : EventValue) (line : Line) → MayCome t e line → After e line
-  row_sound e line row = after line e row (leaves t e line row)
+  row_sound : (e : EventValue) (line : Line) → MayCome t e line → Tells t e line → After e line
+  row_sound e (lines.Sent r s p key nonce datagram) row told = subst (λ (f : EventValue). After f (lines.Sent r s p key nonce datagram)) told.follows.1 (sends_on r s p key nonce datagram r s p refl told.follows.2)
+  row_sound e (lines.Restarted named) row told = subst (λ (f : EventValue). After f (lines.Restarted named)) told.follows.2 (restarts_on named told.by (λ key. (told.follows.3.narrows (pair_under t.opening t.node key)).each))
+  row_sound e (lines.Rotated named under) row told = subst (λ (f : EventValue). After f (lines.Rotated named under)) told.follows.1 (rotates_on named under named under told.follows.2)
+  row_sound e (lines.Emptied named under) row told = subst (λ (f : EventValue). After f (lines.Emptied named under)) told.follows.1 (loses_on named under told.follows.0 told.follows.2.lost _ _)
+  row_sound e (lines.Refused named (refusals.Start fault)) row told = at told.follows
+    where
+      at : Refusing t e named (refusals.Start fault) → After e (lines.Refused named (refusals.Start fault))
+      at (inl f) = subst (λ (x : EventValue). After x (lines.Refused named (refusals.Start fault))) f.2 (narrower (λ key. (f.3.narrows (pair_under t.opening t.node key)).each))
+      at (inr f) = subst (λ (x : EventValue). After x (lines.Refused named (refusals.Start fault))) f.2 (loses_on named f.0 f.1 f.3.lost _ _)
+  row_sound e (lines.Refused named (refusals.Send (sends.Store fault))) row told =
+      let f = told.follows in
+      goes e (lines.Refused named (refusals.Send (sends.Store fault))) (goes_on t e (lines.Refused named (refusals.Send (sends.Store fault))) row refl) (doubts (not_saved t named f.0 f.1 fault (sym told.by) f.4))
+  row_sound e line row told = goes e line (goes_on t e line row refl) (narrower (λ key. same_in key (same_keys t line told.stays refl key)))
 
 module _ (o : Opening) where
   abbrev SoundAt : List Step → ℕ → Type 0
@@ -247,7 +325,7 @@ module _ (o : Opening) where
 
   sound_actor : (T : List Step) (s : Step) → Legal o T s → SoundAt T s.actor → SoundAt (s ∷ T) s.actor
   sound_actor T s l old = subst (λ (b : Bool). Sound o s.actor (history o (s ∷ T)) (record (keyed_at o (s ∷ T) s.actor) { kept = (if b then s.shown else shown_store o T s.actor).kept })) (sym (same_number s.actor))
-      (row_sound (context_of o T s) old s.event s.line l.row)
+      (row_sound (context_of o T s) old s.event s.line l.row (tells (context_of o T s) s.event s.line l.row))
 
   -- an entry of another router is an old one
   old_entry : (T : List Step) (line : Line) (node r : ℕ) → r ≢ node → IsBy line node → (e : SentRegister) → Contains (sent_registers_in o T line ++ history o T) e → e.router ≡ r → Contains (history o T) e
@@ -260,12 +338,12 @@ module _ (o : Opening) where
 
   module _ (T : List Step) (s : Step) (r : ℕ) (differ : r ≢ s.actor) (l : Legal o T s) where
     by : IsBy s.line s.actor
-    by = by_actor (context_of o T s) s.event s.line l.row
+    by = (tells (context_of o T s) s.event s.line l.row).by
 
     -- a router that doesn't act
     keyed_other : keyed_at o (s ∷ T) r ≡ keyed_at o T r
     keyed_other =
-        let given = given_by (context_of o T s) s.event s.line l.row in
+        let given = (tells (context_of o T s) s.event s.line l.row).named in
         let key_is = key_other s.actor r differ s.event s.line given (key_of o T r) in
         let since_is = since_loss_other s.actor r differ s.event s.line given (keys_since_loss o T r) in
         let before_is = before_loss_other s.actor r differ s.event s.line given (keys_since_loss o T r) (keys_before_loss o T r) in
@@ -307,12 +385,11 @@ module _ (o : Opening) where
       at (inr in_e) (inr in_f) = old e f in_e in_f router key nonce
 
   unique_row : (T : List Step) (s : Step) → Legal o T s → SoundAt T s.actor → Unique (history o T) → Unique (history o (s ∷ T))
-  unique_row T s l safe old = at s.line s.event (leaves (context_of o T s) s.event s.line l.row)
+  unique_row T s l safe old = at s.line (tells (context_of o T s) s.event s.line l.row).follows
     where
-      at : (line : Line) (e : EventValue) → Leaves (context_of o T s) line e → Unique (sent_registers_in o T line ++ history o T)
-      at (lines.Sent r to p key nonce datagram) (events.Send router server part fate) left = new_unique _ (history o T) old (λ f has its under. sent_above (context_of o T s) safe router server part key nonce datagram left.1 f has (its ∙ left.0) under)
-      at (lines.Sent _ _ _ _ _ _) _ left = absurd left
-      at _ _ left = old
+      at : (line : Line) → Following (context_of o T s) s.event line → Unique (sent_registers_in o T line ++ history o T)
+      at (lines.Sent r to p key nonce datagram) told = new_unique _ (history o T) old (sent_above (context_of o T s) safe r to p key nonce datagram told.2)
+      at _ told = old
 
   pub unique : (T : List Step) → LegalTrace o T → Unique (history o T)
   unique [] legal = λ e f has. absurd (in_none e has)

@@ -109,7 +109,7 @@ pub fn counted_messages_were_accepted()
 
 /// A part that the database of a router that is up doesn't have has no sends in its round, so that a Map-Notify that
 /// counts for it moves no timer.
-#[tactic(auto, using(crate::proofs::AbsentLaws::absent_parts_rest))]
+#[tactic(auto, using(crate::proofs::LatestLaws::absent_parts_rest))]
 pub fn absent_parts_rest()
     ensures { OfLegalTraces AbsentPartsRest }
 {}

@@ -1,16 +1,12 @@
 -- What the calls of a router come to, as the turns of a change, a send and a restart want it.
-use Rattle.std.proofs.Common.{◌≡◌, ℕ, ◌+◌, ◌<◌, Bool, true, false, true≢false, List, [], ◌++◌, length, get_or, Result, Ok, Err, Option, refl, sym, ap, subst, ◌∙◌}
-use Rattle.std.specs.Prelude.{IsSome, slice_set}
+use Rattle.std.proofs.Common.{[], ◌≡◌, ℕ, ◌+◌, ◌<◌, Bool, true, false, true≢false, List, ◌++◌, length, get_or, Result, Ok, Err, Option, refl, sym, ap, subst, ◌∙◌}
 use Rattle.std.proofs.lemmas.List.{append-nil}
 use Rattle.std.proofs.lemmas.Option.{slice_get_read}
+use Rattle.std.specs.Prelude.{IsSome, slice_set}
 use Rattle.lisp_records.specs.Record.{MapRecordValue}
-use Rattle.lisp_messages.specs.Head.{head_at}
-use Rattle.lisp_messages.specs.Message.{Registers}
-use Rattle.lisp_nonces.specs.declared.fate.Fate.{Fate}
-use Rattle.lisp_nonces.specs.Store.{StoreState}
-use Rattle.lisp_etr.specs.Etr.{EtrState}
-use Rattle.lisp_etr.specs.Sending.{next_register}
-use Rattle.lisp_etr.specs.declared.send_fault.SendFault.{SendFault}
+use Rattle.lisp_messages.specs.{Head.head_at, Message.Registers}
+use Rattle.lisp_nonces.specs.{declared.fate.Fate.Fate, Store.StoreState}
+use Rattle.lisp_etr.specs.{Etr.EtrState, Sending.next_register, declared.send_fault.SendFault.SendFault}
 use Rattle.lisp_model.specs.declared.line.Line.{Line}
 use Rattle.lisp_model.specs.declared.line.Line.TheVariants as lines
 use Rattle.lisp_refinement.specs.World.{DatagramValue, RouterNodeState, RouterCoreState, Up, Down, WorldState}

@@ -1,12 +1,9 @@
 -- What the calls of a Map-Server come to, as the turns of a notice, a resend and a restart want it.
 use Rattle.std.proofs.Common.{◌≡◌, ℕ, ◌<◌, List, ◌++◌, get_or, refl, sym, ap, subst, ◌∙◌}
-use Rattle.std.specs.Prelude.{Option, IsSome, length, slice_set}
 use Rattle.std.proofs.lemmas.Option.{slice_get_read}
-use Rattle.lisp_records.specs.declared.address.Addr.{Addr}
-use Rattle.lisp_records.specs.declared.router.RouterId.{RouterId}
-use Rattle.lisp_messages.specs.declared.head.Head.{Head}
-use Rattle.lisp_messages.specs.Head.{head_at}
-use Rattle.lisp_messages.specs.Message.{Notifies}
+use Rattle.std.specs.Prelude.{Option, IsSome, length, slice_set}
+use Rattle.lisp_records.specs.declared.{address.Addr.Addr, router.RouterId.RouterId}
+use Rattle.lisp_messages.specs.{declared.head.Head.Head, Head.head_at, Message.Notifies}
 use Rattle.lisp_nonces.specs.Store.{StoreState}
 use Rattle.lisp_admission.specs.Nonces.{nonce_after}
 use Rattle.lisp_server.specs.SendNotice.{Announces, notice_of}

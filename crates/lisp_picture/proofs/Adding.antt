@@ -1,6 +1,5 @@
 -- Appending to a text.
-use Rattle.std.proofs.Common.{◌≡◌, ℕ, ◌+◌, ◌-◌, ◌<◌, ◌≤◌, List, [], ◌∷◌, ◌++◌, length, get_or, take, Result, Ok, Err, refl, sym, ap, ◌∙◌, append_assoc, arith}
-use Rattle.std.specs.Prelude.{OnOk}
+use Rattle.std.proofs.Common.{◌≡◌, ℕ, ◌+◌, ◌-◌, ◌<◌, ◌≤◌, List, [], ◌∷◌, ◌++◌, length, get_or, take, sym, ap, ◌∙◌, append_assoc, arith}
 use Rattle.std.specs.List.{flat_map}
 use Rattle.std.proofs.lemmas.List.{append-nil, flat_map_more, take_all, take_more}
 
@@ -19,11 +18,3 @@ module _ {X : Type 0} (shown : X → List ℕ) (xs : List X) where
 
   pub all : (i : ℕ) (old after : List ℕ) → length xs ≤ i → after ≡ old ++ flat_map shown (take i xs) → after ≡ old ++ flat_map shown xs
   all i old after past so_far = so_far ∙ ap (λ (ys : List X). old ++ flat_map shown ys) (take_all i xs past)
-
--- what was appended, and what was behind it
-pub then : (old mid new : List ℕ) (one other : List ℕ) → mid ≡ old ++ one → new ≡ mid ++ other → new ≡ old ++ (one ++ other)
-then old mid new one other first second = second ∙ ap (λ (t : List ℕ). t ++ other) first ∙ append_assoc old one other
-
-pub ends : {X E : Type 0} (last : Result X E) (old mid new : List ℕ) (one other : List ℕ) → mid ≡ old ++ one → OnOk last (new ≡ mid ++ other) → OnOk last (new ≡ old ++ (one ++ other))
-ends (Ok x) old mid new one other first second = then old mid new one other first second
-ends (Err why) old mid new one other first second = tt

@@ -1,42 +1,49 @@
--- The elements of events, one after the other.
-use Rattle.std.proofs.Common.{◌≡◌, ℕ, ◌+◌, ◌<◌, ◌≤◌, List, [], ◌∷◌, ◌++◌, length, get_or, take, string_bytes, sym, ap, ◌∙◌, append_assoc, append-nil, arith}
-use Rattle.std.proofs.lemmas.Grind.{common_steps}
-use Rattle.std.proofs.lemmas.List.{take_all, take_more, map-append}
-use Rattle.lisp_player.specs.declared.outcome.Outcome.{Outcome}
-use Rattle.lisp_picture.specs.declared.shape.Shape.{Shape}
-use Rattle.lisp_picture.specs.Picture.{element_text, elements_text, texts_of}
+-- The elements of events, and lines, one after the other.
+use Rattle.std.proofs.Common.{◌≡◌, ℕ, zero, suc, ◌+◌, List, [], ◌∷◌, ◌++◌, ap, sym, subst, ◌∙◌, append_assoc, append-nil, arith}
+use Rattle.std.specs.Fmt.{decimal}
+use Rattle.lisp_picture.specs.declared.drawing.Form.{Form}
+use Rattle.lisp_picture.specs.declared.drawing.Form.TheVariants.{Text}
+use Rattle.lisp_picture.specs.Picture.{AddsElement, AddsElements, AddsLines, AddsNumbered, NoLine, OneMore, Numbered, line_text, opening, text_at}
 
-module _ {A : Type 0} (shapes : ℕ → List (Shape A)) where
-  -- those of some, then those of others
-  split : (place : ℕ) (xs ys : List (List ℕ)) → elements_text shapes place (xs ++ ys) ≡ elements_text shapes place xs ++ elements_text shapes (place + length xs) ys
-  split place [] ys =
-      let same : place + 0 ≡ place = omega arith in
-      ap (λ (n : ℕ). elements_text shapes n ys) (sym same)
-  split place (x ∷ xs) ys =
-      let same : (place + 1) + length xs ≡ place + length (x ∷ xs) = omega arith in
-      ap (λ (t : List ℕ). element_text (place + 1) x (shapes place) ++ t) (split (place + 1) xs ys ∙ ap (λ (n : ℕ). elements_text shapes (place + 1) xs ++ elements_text shapes n ys) same)
-      ∙ sym (append_assoc (element_text (place + 1) x (shapes place)) (elements_text shapes (place + 1) xs) (elements_text shapes (place + length (x ∷ xs)) ys))
+-- the elements so far, and another one
+pub elements_next : (form : Form) (texts : List (List ℕ)) (count : ℕ) (lines old mid new : List ℕ) → AddsElements form texts count old mid → lines ≡ text_at texts count → AddsElement form (count + 1) lines mid new
+    → AddsElements form texts (count + 1) old new
+elements_next form texts count lines old mid new so_far is next =
+    let more : suc count ≡ count + 1 = omega arith in
+    subst (λ (n : ℕ). AddsElements form texts n old new) more (mid, so_far, subst (λ (t : List ℕ). AddsElement form (count + 1) t mid new) is next)
 
-module _ {A B : Type 0} (shapes : ℕ → List (Shape A)) where
-  abbrev told : List (Outcome B) → List ℕ
-  told outcomes = elements_text shapes 0 (texts_of outcomes)
+-- elements behind what stands above them
+four : (a b c d : List ℕ) → a ++ (b ++ c ++ d) ≡ a ++ b ++ c ++ d
+four a b c d = simp append_assoc
 
-  pub none : (outcomes : List (Outcome B)) (old : List ℕ) → old ≡ old ++ told (take 0 outcomes)
-  none outcomes old = sym (append-nil old)
+pub elements_behind : (form : Form) (texts : List (List ℕ)) (count : ℕ) (above old new : List ℕ) → AddsElements form texts count old new → AddsElements form texts count (above ++ old) (above ++ new)
+elements_behind form texts zero above old new same = ap (λ (t : List ℕ). above ++ t) same
+elements_behind form texts (suc n) above old new (mid, before, (rest, is)) = (
+  above ++ mid,
+  elements_behind form texts n above old mid before,
+  (rest, ap (λ (t : List ℕ). above ++ t) is ∙ four above mid (opening form (n + 1) (text_at texts n)) rest),
+)
 
-  module _ (outcomes : List (Outcome B)) (i : ℕ) (x : Outcome B) (inside : i < length outcomes) (here : x ≡ get_or outcomes i x) where
-    next : told (take (i + 1) outcomes) ≡ told (take i outcomes) ++ element_text (i + 1) (string_bytes x.text) (shapes i)
-    next =
-        let more : take (i + 1) outcomes ≡ take i outcomes ++ x ∷ [] = take_more outcomes i x inside ∙ ap (λ (y : Outcome B). take i outcomes ++ y ∷ []) (sym here) in
-        let size : 0 + length (texts_of (take i outcomes)) ≡ i = grind (arith, common_steps) in
-        ap told more ∙ ap (elements_text shapes 0) (map-append (λ (o : Outcome B). string_bytes o.text) (take i outcomes) (x ∷ []))
-        ∙ split shapes 0 (texts_of (take i outcomes)) (string_bytes x.text ∷ [])
-        ∙ ap (λ (n : ℕ). told (take i outcomes) ++ elements_text shapes n (string_bytes x.text ∷ [])) size
-        ∙ ap (λ (t : List ℕ). told (take i outcomes) ++ t) (append-nil (element_text (i + 1) (string_bytes x.text) (shapes i)))
+-- lines behind others
+pub lines_then : (old mid new : List ℕ) → AddsLines old mid → AddsLines mid new → AddsLines old new
+lines_then old mid _ first (NoLine text) = first
+lines_then old mid new first (OneMore _ last _ line more short said) = OneMore old last new line (lines_then old mid last first more) short said
+lines_then old mid new first (Numbered _ last _ number more line) = Numbered old last new number (lines_then old mid last first more) line
 
-    pub one_more : (old before after : List ℕ) → before ≡ old ++ told (take i outcomes) → after ≡ before ++ element_text (i + 1) (string_bytes x.text) (shapes i) → after ≡ old ++ told (take (i + 1) outcomes)
-    one_more old before after so_far more =
-        more ∙ ap (λ (t : List ℕ). t ++ element_text (i + 1) (string_bytes x.text) (shapes i)) so_far ∙ append_assoc old (told (take i outcomes)) (element_text (i + 1) (string_bytes x.text) (shapes i)) ∙ ap (λ (t : List ℕ). old ++ t) (sym next)
+-- what they append
+pub lines_append : (old new : List ℕ) → AddsLines old new → (more : List ℕ) × (new ≡ old ++ more)
+lines_append old _ (NoLine text) = ([], sym (append-nil old))
+lines_append old new (OneMore _ last _ line more short said) =
+    let before = lines_append old last more in
+    (before.0 ++ line_text line, said ∙ ap (λ (t : List ℕ). t ++ line_text line) before.1 ∙ append_assoc old before.0 (line_text line))
+lines_append old new (Numbered _ last _ number more is) =
+    let before = lines_append old last more in
+    let text = decimal number ++ line_text is.line in
+    (before.0 ++ text, is.said ∙ append_assoc last (decimal number) (line_text is.line) ∙ ap (λ (t : List ℕ). t ++ text) before.1 ∙ append_assoc old before.0 text)
 
-  pub all : (outcomes : List (Outcome B)) (i : ℕ) (old after : List ℕ) → length outcomes ≤ i → after ≡ old ++ told (take i outcomes) → after ≡ old ++ told outcomes
-  all outcomes i old after past so_far = so_far ∙ ap (λ (os : List (Outcome B)). old ++ told os) (take_all i outcomes past)
+-- a line with a number, and lines behind it
+pub event : (number : ℕ) (words old mid new : List ℕ) → AddsNumbered number old mid → AddsLines mid new → AddsElement Text number words old new
+event number words old mid new first others =
+    let more = lines_append mid new others in
+    let line = line_text first.line in
+    (line ++ more.0, more.1 ∙ ap (λ (t : List ℕ). t ++ more.0) first.said ∙ append_assoc (old ++ decimal number) line more.0)

@@ -1,7 +1,4 @@
 mod Adding
-mod Lines
-mod Wrapping
-mod Cells
 mod Elements
-mod Ladders
+mod Lines
 mod NoMarkup

@@ -8,15 +8,8 @@ use Rattle.lisp_script.specs.declared.play_fault.PlayFault.TheVariants as faults
 use Rattle.lisp_player.specs.declared.outcome.Outcome.{Outcome}
 use Rattle.lisp_player.specs.Outcomes.{OutcomesFrom, texts}
 use Rattle.lisp_player.specs.Schedule.{Played, schedule_in}
-use Rattle.lisp_picture.specs.declared.form.Form.{Form}
-use Rattle.lisp_picture.specs.declared.form.Form.TheVariants.{Svg, Text}
+use Rattle.lisp_picture.specs.declared.drawing.Form.{Form}
 use Rattle.lisp_picture.specs.Picture.{IsPicture, texts_of}
-use Rattle.lisp_picture.specs.Ladder.{IsLadder}
-
--- the text is a picture, in this form, of what commands came to
-abbrev pub Pictures : {A : Type 0} → Form → List (Outcome A) → List ℕ → Type 0
-Pictures {A = A} Svg outcomes picture = (title : List ℕ) × IsPicture A title (texts_of outcomes) picture
-Pictures Text outcomes picture = IsLadder (texts_of outcomes) picture
 
 -- what was written is a picture of the schedule of an input: of an outcome of each of its commands, whose lines are those
 -- that a play of it prints. Each outcome is that of its own command, after those before it
@@ -29,7 +22,7 @@ pub record Draws (A may_refuse : Type 0) (form : Form) (input : List ℕ) (befor
   pub each : OutcomesFrom A may_refuse config orders outcomes
   pub played : Played A may_refuse input (λ orders. orders) (Some []) (Some (texts outcomes))
   pub picture : List ℕ
-  pub drawn : Pictures form outcomes picture
+  pub drawn : IsPicture form (texts_of outcomes) picture
   pub written : Appends before after picture
 
 -- at Ok that is so of what was left of a reader, where that is known

@@ -1,5 +1,3 @@
 pub mod Markup
 pub mod Picture
-pub mod Wrap
-pub mod Ladder
 pub mod Drawing

@@ -1,19 +1,19 @@
 //! The datagrams that are sent.
 
-ghost use Rattle.std.specs.Prelude.{OnErr};
-
-use crate::message::Message;
-use lisp_memory::{FallibleVec, Memory};
 use lisp_model::{Event, Line};
 use lisp_records::Addr;
 use lisp_script::Command;
 use lisp_sites::Config;
-use std::alloc::{AllocError, Allocator};
+use std::alloc::Allocator;
+
+/// What an unsolicited Map-Notify is called.
+const NOTICE: &str = "notice";
 
 /// A datagram that a node sent.
 #[derive(Clone, Copy)]
 pub(crate) struct Datagram {
-    pub(crate) message: Message,
+    /// What its message is called (RFC 9301 sections 5.6, 5.7 and 8.2).
+    pub(crate) name: &'static str,
     pub(crate) nonce: u64,
     /// The node that sent it.
     pub(crate) from: usize,
@@ -25,87 +25,77 @@ pub(crate) struct Datagram {
     pub(crate) arrives: bool,
 }
 
-/// Appends the datagram that was sent with a line, where one was.
-pub(crate) fn add_datagram<A: Memory, E: Allocator>(
-    datagrams: &mut Vec<Datagram, A>,
+impl Datagram {
+    /// Whether it is for a node at the left of its sender.
+    pub(crate) fn is_leftward(&self) -> bool {
+        match self.to {
+            Some(node) => node < self.from,
+            None => false,
+        }
+    }
+}
+
+/// The datagram that was sent with the line of the command with a place, where one was.
+pub(crate) fn datagram_of<E: Allocator>(
     config: &Config<E>,
     command: &Command<E>,
     line: &Line,
     place: usize,
-) -> Result<(), AllocError>
-    ensures memory { OnErr result A.may_refuse }
-{
-    if let Some((message, nonce, from, to)) = sent(config, command, line, datagrams) {
-        datagrams.try_push(Datagram {
-            message,
-            nonce,
-            from,
-            to,
-            sent: place,
-            arrives: false,
-        })?;
-    }
-    Ok(())
-}
-
-// The message that was sent with a line, its nonce, and the nodes that it is from and for.
-fn sent<E: Allocator>(
-    config: &Config<E>,
-    command: &Command<E>,
-    line: &Line,
     before: &[Datagram],
-) -> Option<(Message, u64, usize, Option<usize>)> {
-    match line {
+) -> Option<Datagram> {
+    let (name, nonce, from, to) = match line {
         Line::Sent {
             router,
             server,
             nonce,
             ..
-        } => Some((Message::MapRegister, *nonce, *router, Some(*server))),
+        } => ("Map-Register", *nonce, *router, Some(*server)),
         Line::Accepted {
             server,
             nonce,
             datagram: Some(_),
             ..
-        } => Some((
-            Message::MapNotify,
-            *nonce,
-            *server,
-            source(config, command, before),
-        )),
+        } => {
+            let to = source(config, command, before);
+            ("Map-Notify", *nonce, *server, to)
+        }
         Line::Notice {
             server,
             router,
             nonce,
             ..
-        } => Some((Message::Notice, *nonce, *server, Some(*router))),
+        } => (NOTICE, *nonce, *server, Some(*router)),
         Line::Resent { server, router, .. } => {
             let nonce = standing_nonce(before, *server, *router);
-            Some((Message::Notice, nonce, *server, Some(*router)))
+            (NOTICE, nonce, *server, Some(*router))
         }
         Line::Noticed {
             router,
             server,
             nonce,
             ..
-        } => Some((Message::MapNotifyAck, *nonce, *router, Some(*server))),
-        _ => None,
-    }
+        } => ("Map-Notify-Ack", *nonce, *router, Some(*server)),
+        _ => return None,
+    };
+    Some(Datagram {
+        name,
+        nonce,
+        from,
+        to,
+        sent: place,
+        arrives: false,
+    })
 }
 
 // The nonce of the notice that a Map-Server sent a router last; 0 where it sent none.
 fn standing_nonce(datagrams: &[Datagram], server: usize, router: usize) -> u64 {
     let mut nonce = 0;
     for datagram in datagrams {
-        if is_notice(datagram) && datagram.from == server && datagram.to == Some(router) {
+        if datagram.name == NOTICE && datagram.from == server && datagram.to == Some(router) {
             nonce = datagram.nonce;
         }
     }
     nonce
-}
-
-fn is_notice(datagram: &Datagram) -> bool {
-    matches!(datagram.message, Message::Notice)
 }
 
 // The node that the bytes come from which a command lets arrive, by their source address.
@@ -124,10 +114,10 @@ fn source<E: Allocator>(
 // The node with an address.
 fn node_at<E: Allocator>(config: &Config<E>, address: &Addr) -> Option<usize> {
     let servers = config.servers();
+    let routers = config.routers();
     if let Some(place) = servers.iter().position(|server| server.address == *address) {
         return Some(place);
     }
-    let routers = config.routers();
     let place = routers
         .iter()
         .position(|router| router.address == *address)?;

@@ -4,12 +4,11 @@ ghost use Rattle.std.specs.Prelude.{Some, IfOk, OnErr, IsErrOf};
 ghost use Rattle.std.specs.String.{string_bytes};
 ghost use Rattle.lisp_player.specs.Schedule.{Refuses};
 ghost use Rattle.lisp_script.specs.declared.play_fault.PlayFault.{PlayFault};
-ghost use Rattle.lisp_picture.specs.Drawing.{IsDrawn, IsSilent, Pictures};
+ghost use Rattle.lisp_picture.specs.Drawing.{IsDrawn, IsSilent};
+ghost use Rattle.lisp_picture.specs.Picture.{IsPicture, texts_of};
 
-use crate::form::Form;
 use crate::ladder::ladder_text;
 use crate::svg::svg_text;
-use crate::title::title_of;
 use lisp_lines::write_text;
 use lisp_memory::Memory;
 use lisp_player::{History, history_of};
@@ -17,6 +16,18 @@ use lisp_script::{PlayFault, read_to_end};
 use std::alloc::{AllocError, Global};
 use std::io::{Read, Write};
 use std::str;
+
+/// What a picture is called whose schedule has no comment.
+const UNTITLED: &str = "A schedule";
+
+/// What a picture is drawn as.
+#[derive(Clone, Copy, Debug, PartialEq, Eq)]
+pub enum Form {
+    /// An image, SVG.
+    Svg,
+    /// Lines of text, at most 100 characters each.
+    Text,
+}
 
 /// Reads a schedule, plays it as `play` does, and writes its picture: an element or the lines of each command, in their order,
 /// whose words are those that `play` prints. `heap` serves the reading of TOML alone.
@@ -67,11 +78,21 @@ fn picture<A: Memory + Copy>(
     history: &History<A>,
 ) -> Result<String<A>, AllocError>
     ensures picture { IfOk result
-        (λ text. Pictures form history.now.outcomes.items (string_bytes text)) }
+        (λ text. IsPicture form (texts_of history.now.outcomes.items) (string_bytes text)) }
     ensures memory { OnErr result A.may_refuse }
 {
     match form {
         Form::Svg => svg_text(alloc, title, history),
         Form::Text => ladder_text(alloc, title, history),
     }
+}
+
+// The title of a schedule: its first comment, a line that begins with `#`, without that and the spaces around it.
+fn title_of(schedule: &str) -> &str {
+    for line in schedule.lines() {
+        if let Some(comment) = line.strip_prefix('#') {
+            return comment.trim();
+        }
+    }
+    UNTITLED
 }

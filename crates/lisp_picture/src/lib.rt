@@ -21,38 +21,24 @@
 //! - An image has no script, and no font or file from outside, so that a page may show it as it is.
 #![tactic(auto)]
 
-mod append;
-mod arrival;
-mod class;
-mod columns;
+mod cells;
 mod datagram;
 mod drawing;
-mod element;
 mod escape;
-mod form;
-mod heading;
 mod ladder;
-mod ladder_row;
 pub mod laws;
-mod look;
-mod message;
 mod notes;
 mod pen;
-mod point;
 mod row;
 mod rungs;
-mod shape;
 mod sheet;
 mod sheet_row;
-mod sign;
 mod story;
 mod style;
 mod svg;
 mod table;
-mod title;
 mod wrap;
 
-pub use drawing::draw;
-pub use form::Form;
+pub use drawing::{Form, draw};
 pub use ladder::ladder_text;
 pub use svg::svg_text;

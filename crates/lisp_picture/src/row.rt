@@ -1,11 +1,46 @@
 //! What a command did, as a picture shows it.
 
-use crate::arrival::Arrival;
-use crate::sign::Sign;
 use lisp_model::{Event, Line};
 use lisp_nonces::Fate;
 use lisp_script::Command;
 use std::alloc::Allocator;
+
+/// What happened to a node.
+#[derive(Clone, Copy, PartialEq, Eq)]
+pub(crate) enum Sign {
+    /// It sent a message, took one, or does now what it was told.
+    Done,
+    /// It refused.
+    Refused,
+    /// It started again.
+    Started,
+    /// It is down.
+    Down,
+    /// It was asked.
+    Asked,
+}
+
+impl Sign {
+    /// The name of its drawing in an image, and the character that stands for it in a line of text.
+    pub(crate) const fn drawing(self) -> (&'static str, u8) {
+        match self {
+            Sign::Done => ("done", b'o'),
+            Sign::Refused => ("refused", b'X'),
+            Sign::Started => ("started", b'='),
+            Sign::Down => ("down", b'!'),
+            Sign::Asked => ("asked", b'#'),
+        }
+    }
+}
+
+/// Where from bytes arrive.
+#[derive(Clone, Copy)]
+pub(crate) enum Arrival {
+    /// A datagram that a node sent, by its number.
+    Datagram(usize),
+    /// Bytes from outside.
+    Outside,
+}
 
 /// What a command did.
 #[derive(Clone, Copy)]
@@ -20,35 +55,30 @@ pub(crate) struct Row {
     pub(crate) now: Option<u64>,
     /// What became of the store's calls.
     pub(crate) fate: Fate,
-    /// The line of the script that the command stands on.
-    pub(crate) script_line: Option<usize>,
 }
 
-/// What a command did, by the line of its event, where it is one that was taken, and by its line in the script.
-pub(crate) fn row_of<A: Allocator>(
-    command: &Command<A>,
-    line: Option<&Line>,
-    script_line: Option<usize>,
-) -> Row {
+/// What a command did, by the line of its event, where it is one that was taken.
+pub(crate) fn row_of<A: Allocator>(command: &Command<A>, line: Option<&Line>) -> Row {
     Row {
-        sign: sign(command, line),
-        arrival: arrival(command, line),
+        sign: sign_of(command, line),
+        arrival: arrival_of(command, line),
         sends: sends(line),
-        now: now(line),
+        now: match line {
+            Some(Line::Ticked { now, .. }) => Some(*now),
+            _ => None,
+        },
         fate: fate(command),
-        script_line,
     }
 }
 
-fn sign<A: Allocator>(command: &Command<A>, line: Option<&Line>) -> Option<(usize, Sign)> {
+fn sign_of<A: Allocator>(command: &Command<A>, line: Option<&Line>) -> Option<(usize, Sign)> {
     match command {
         Command::Act(_) => sign_of_line(line?),
-        Command::Hold(node) | Command::Acks(node) | Command::Due(node) => {
-            Some((*node, Sign::Asked))
-        }
-        Command::Ask { server, .. } | Command::Request { server, .. } => {
-            Some((*server, Sign::Asked))
-        }
+        Command::Hold(node)
+        | Command::Acks(node)
+        | Command::Due(node)
+        | Command::Ask { server: node, .. }
+        | Command::Request { server: node, .. } => Some((*node, Sign::Asked)),
     }
 }
 
@@ -73,7 +103,7 @@ fn sign_of_line(line: &Line) -> Option<(usize, Sign)> {
     }
 }
 
-fn arrival<A: Allocator>(command: &Command<A>, line: Option<&Line>) -> Option<Arrival> {
+fn arrival_of<A: Allocator>(command: &Command<A>, line: Option<&Line>) -> Option<Arrival> {
     line?;
     match command {
         Command::Act(Event::Deliver { k, .. }) => Some(Arrival::Datagram(*k)),
@@ -89,13 +119,6 @@ fn sends(line: Option<&Line>) -> Option<usize> {
         | Line::Notice { datagram, .. }
         | Line::Resent { datagram, .. } => Some(*datagram),
         Line::Accepted { datagram, .. } => *datagram,
-        _ => None,
-    }
-}
-
-fn now(line: Option<&Line>) -> Option<u64> {
-    match line? {
-        Line::Ticked { now, .. } => Some(*now),
         _ => None,
     }
 }

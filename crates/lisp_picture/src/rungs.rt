@@ -1,11 +1,8 @@
 //! The lines of nodes in a picture that is text.
 
-ghost use Rattle.std.specs.Prelude.{◌<◌};
-
-use crate::arrival::Arrival;
+use crate::cells::Cells;
 use crate::datagram::Datagram;
-use crate::ladder_row::Cells;
-use crate::row::Row;
+use crate::row::{Arrival, Row};
 use crate::story::Story;
 use lisp_nonces::Fate;
 use std::alloc::Allocator;
@@ -54,9 +51,7 @@ impl<'a> Rungs<'a> {
     }
 
     /// Where words begin.
-    pub(crate) fn words_at(&self) -> usize
-        ensures { result < 100 }
-    {
+    pub(crate) fn words_at(&self) -> usize {
         self.at(self.nodes.len().saturating_sub(1))
             .saturating_add(WORDS_GAP)
             .min(MOST_WORDS_AT)
@@ -87,7 +82,7 @@ impl<'a> Rungs<'a> {
         self.draw_arrival(&mut cells, story, row, end);
         self.draw_lost(&mut cells, story, row);
         if let (Some(at), Some((_, sign))) = (end, row.sign) {
-            cells.set(at, sign.character());
+            cells.set(at, sign.drawing().1);
             if row.fate != Fate::Done {
                 cells.set(self.beside(story, row, at), b'?');
             }
@@ -114,26 +109,29 @@ impl<'a> Rungs<'a> {
         }
     }
 
-    // Draws the stub of what is sent and never arrives; on the side that nothing arrives from.
+    // Draws the stub of what is sent and never arrives, towards where it is for, or away from there where something arrives.
     fn draw_lost<A: Allocator>(&self, cells: &mut Cells, story: &Story<A>, row: &Row) {
-        let Some(k) = row.sends else {
+        let Some(datagram) = story.lost(row) else {
             return;
         };
-        let Some(datagram) = story.datagrams.get(k) else {
+        let Some(from) = self.place(datagram.from) else {
             return;
         };
-        if !datagram.arrives {
-            self.draw_stub(cells, datagram, row.arrival.is_some());
+        if datagram.is_leftward() == row.arrival.is_some() {
+            draw_rightward(cells, from, b'x');
+        } else {
+            cells.fill(from.saturating_sub(STUB), from, b'-');
+            cells.set(from.saturating_sub(STUB), b'x');
         }
     }
 
     // The place beside the line of a node on the side that nothing arrives from.
     fn beside<A: Allocator>(&self, story: &Story<A>, row: &Row, at: usize) -> usize {
-        let from = match row.arrival {
-            Some(Arrival::Datagram(k)) => story.datagrams.get(k).map(|datagram| datagram.from),
-            _ => None,
+        let from = match story.arrived(row) {
+            Some(datagram) => self.place(datagram.from),
+            None => None,
         };
-        match from.and_then(|node| self.place(node)) {
+        match from {
             Some(from) if at < from => at.saturating_sub(1),
             _ => at.saturating_add(1),
         }
@@ -184,23 +182,6 @@ impl<'a> Rungs<'a> {
                 cells.set(to.saturating_add(1), b'<');
             }
             (None, None) => {}
-        }
-    }
-
-    // Draws the stub of a datagram that never arrives, towards where it is for, or away from there.
-    fn draw_stub(&self, cells: &mut Cells, datagram: &Datagram, is_away: bool) {
-        let Some(from) = self.place(datagram.from) else {
-            return;
-        };
-        let is_leftward = match datagram.to {
-            Some(node) => node < datagram.from,
-            None => false,
-        };
-        if is_leftward == is_away {
-            draw_rightward(cells, from, b'x');
-        } else {
-            cells.fill(from.saturating_sub(STUB), from, b'-');
-            cells.set(from.saturating_sub(STUB), b'x');
         }
     }
 }

@@ -2,9 +2,8 @@
 
 ghost use Rattle.std.specs.Prelude.{OnErr};
 
-use crate::arrival::Arrival;
-use crate::datagram::{Datagram, add_datagram};
-use crate::row::{Row, row_of};
+use crate::datagram::{Datagram, datagram_of};
+use crate::row::{Arrival, Row, row_of};
 use lisp_memory::{FallibleVec, Memory};
 use lisp_player::History;
 use std::alloc::{AllocError, Allocator};
@@ -20,6 +19,22 @@ pub(crate) struct Story<A: Allocator> {
     pub(crate) nodes: Vec<usize, A>,
 }
 
+impl<A: Allocator> Story<A> {
+    /// The datagram that arrives at a row, where one does.
+    pub(crate) fn arrived(&self, row: &Row) -> Option<&Datagram> {
+        match row.arrival? {
+            Arrival::Datagram(k) => self.datagrams.get(k),
+            Arrival::Outside => None,
+        }
+    }
+
+    /// The datagram that is sent at a row, where it never arrives.
+    pub(crate) fn lost(&self, row: &Row) -> Option<&Datagram> {
+        let datagram = self.datagrams.get(row.sends?)?;
+        (!datagram.arrives).then_some(datagram)
+    }
+}
+
 /// What happens in a schedule that was played.
 pub(crate) fn story_of<A: Memory + Copy>(
     alloc: A,
@@ -33,10 +48,12 @@ pub(crate) fn story_of<A: Memory + Copy>(
         let Some(command) = history.commands.get(place) else {
             break;
         };
-        let line = outcome.line.as_ref();
-        rows.try_push(row_of(command, line, history.lines.get(place).copied()))?;
-        if let Some(line) = line {
-            add_datagram(&mut datagrams, &history.config, command, line, place)?;
+        rows.try_push(row_of(command, outcome.line.as_ref()))?;
+        if let Some(line) = &outcome.line {
+            let sent = datagram_of(&history.config, command, line, place, &datagrams);
+            if let Some(datagram) = sent {
+                datagrams.try_push(datagram)?;
+            }
         }
     }
     mark_arrivals(&rows, &mut datagrams);
@@ -81,24 +98,17 @@ fn busy_nodes<A: Memory + Copy>(
             set(&mut is_busy, node);
         }
     }
-    places(alloc, &is_busy)
+    let mut nodes = Vec::new(alloc);
+    for (node, flag) in is_busy.iter().enumerate() {
+        if *flag {
+            nodes.try_push(node)?;
+        }
+    }
+    Ok(nodes)
 }
 
 fn set(flags: &mut [bool], place: usize) {
     if let Some(flag) = flags.get_mut(place) {
         *flag = true;
     }
-}
-
-// The places of those that are set.
-fn places<A: Memory>(alloc: A, flags: &[bool]) -> Result<Vec<usize, A>, AllocError>
-    ensures memory { OnErr result A.may_refuse }
-{
-    let mut places = Vec::new(alloc);
-    for (place, flag) in flags.iter().enumerate() {
-        if *flag {
-            places.try_push(place)?;
-        }
-    }
-    Ok(places)
 }

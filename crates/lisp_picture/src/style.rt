@@ -1,4 +1,61 @@
-//! What attributes can't say of how a picture looks: the room of spaces, and its colours on a dark screen and in print.
+//! How a picture looks: attributes of shapes, which show it in light where a viewer knows no style, and the style with what they
+//! can't say: the room of spaces, and the same colours on a dark screen and in print.
+
+/// The box of a node's name.
+pub(crate) const HEAD: &str = "class=\"head\" fill=\"#f6f8fa\" stroke=\"#d1d9e0\"";
+
+/// The line of a node.
+pub(crate) const NODE: &str = "class=\"node\" stroke=\"#59636e\" stroke-width=\"1.5\"";
+
+/// A datagram that arrives.
+pub(crate) const ARROW: &str =
+    "class=\"arrow\" stroke=\"#0969da\" stroke-width=\"1.5\" marker-end=\"url(#head)\"";
+
+/// One that never does.
+pub(crate) const LOST: &str =
+    "class=\"lost\" stroke=\"#59636e\" stroke-width=\"1.5\" stroke-dasharray=\"4 3\" marker-end=\"url(#end)\"";
+
+/// The line of a moment.
+pub(crate) const CLOCK: &str = "class=\"clock\" stroke=\"#d1d9e0\" stroke-dasharray=\"2 4\"";
+
+/// The box of a table.
+pub(crate) const TABLE: &str = "class=\"table\" fill=\"#f6f8fa\" stroke=\"#d1d9e0\"";
+
+/// The title.
+pub(crate) const TITLE: &str =
+    "class=\"title\" fill=\"#1f2328\" font-size=\"16\" font-weight=\"600\"";
+
+/// The name of a node.
+pub(crate) const NAME: &str =
+    "class=\"name\" fill=\"#1f2328\" font-weight=\"600\" text-anchor=\"middle\"";
+
+/// What a node is.
+pub(crate) const KIND: &str =
+    "class=\"kind\" fill=\"#59636e\" font-size=\"12\" text-anchor=\"middle\"";
+
+/// The number of an event.
+pub(crate) const NUMBER: &str = "class=\"number\" fill=\"#59636e\" font-size=\"12\"";
+
+/// What arrives, to the right.
+pub(crate) const LABEL: &str = "class=\"label\" fill=\"#59636e\" font-size=\"12\"";
+
+/// What arrives, to the left.
+pub(crate) const BEFORE: &str =
+    "class=\"before\" fill=\"#59636e\" font-size=\"12\" text-anchor=\"end\"";
+
+/// The line that `play` prints.
+pub(crate) const LINE: &str =
+    "class=\"line\" fill=\"#1f2328\" font-size=\"12\" font-family=\"ui-monospace,Menlo,Consolas,monospace\"";
+
+/// What it means.
+pub(crate) const NOTE: &str = "class=\"note\" fill=\"#59636e\" font-size=\"12\"";
+
+/// What a refusal means.
+pub(crate) const REFUSAL: &str = "class=\"refusal\" fill=\"#cf222e\" font-size=\"12\"";
+
+/// A line of a table.
+pub(crate) const CELL: &str =
+    "class=\"cell\" fill=\"#1f2328\" font-size=\"12\" font-family=\"ui-monospace,Menlo,Consolas,monospace\"";
 
 /// The style of a picture and its signs. It needs no font and no file from outside, and has no script. The ground around labels is
 /// for viewers that know `paint-order`: others would draw it over the words.

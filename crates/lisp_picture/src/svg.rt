@@ -1,19 +1,18 @@
 //! A picture as an image.
 
-ghost use Rattle.std.specs.Prelude.{◌≡◌, IfOk, OnErr};
+ghost use Rattle.std.specs.Prelude.{◌≡◌, IfOk, OnErr, OnOk, length};
 ghost use Rattle.std.specs.String.{string_bytes};
 ghost use Rattle.lisp_picture.specs.Markup.{Adds};
-ghost use Rattle.lisp_picture.specs.Picture.{IsPicture, picture_text, head_text, view_text, elements_text, shapes_at, texts_of};
+ghost use Rattle.lisp_picture.specs.Picture.{AddsElement, AddsElements, IsPicture, first_line, opening, texts_of};
+ghost use Rattle.lisp_picture.specs.declared.drawing.Form.TheVariants.{Svg};
 
-use crate::append::{put_number, put_words};
-use crate::element::put_element;
 use crate::escape::put_escaped;
-use crate::shape::{Shape, put_shapes, put_size};
-use crate::sheet::{Sheet, lay_out};
+use crate::sheet::Sheet;
+use crate::story::story_of;
 use crate::style::STYLE;
 use lisp_memory::{FallibleString, Memory};
-use lisp_player::{History, Outcome};
-use std::alloc::{AllocError, Allocator};
+use lisp_player::History;
+use std::alloc::AllocError;
 
 /// The picture of a schedule that was played as an image, SVG. Each command has its element, in their order, with its number,
 /// from 1 on, and the first of its lines as `play` prints them. No text of the schedule can be markup there.
@@ -22,91 +21,98 @@ pub fn svg_text<A: Memory + Copy>(
     title: &str,
     history: &History<A>,
 ) -> Result<String<A>, AllocError>
-    ensures picture { IfOk result
-        (λ text. IsPicture A title.now (texts_of history.now.outcomes.items) (string_bytes text)) }
+    ensures picture { IfOk result (λ text.
+        IsPicture Svg (texts_of history.now.outcomes.items) (string_bytes text)) }
     ensures memory { OnErr result A.may_refuse }
 {
-    let sheet = lay_out(alloc, title, history)?;
-    let mut text = String::new(alloc);
-    put_picture(&mut text, title, &sheet, &history.outcomes)?;
+    let story = story_of(alloc, history)?;
+    let mut sheet = Sheet::new(alloc, title, history, &story)?;
+    let mut elements = String::new(alloc);
+    put_elements(&mut elements, &mut sheet, history)?;
+    let mut text = head(alloc, title, &mut sheet)?;
+    text.try_write(elements.as_str())?;
+    text.try_write("</svg>\n")?;
     Ok(text)
 }
 
-// Appends the picture.
-#[tactic(auto, using(crate::proofs::Adding::steps))]
-fn put_picture<A: Memory, B: Allocator>(
-    text: &mut String<A>,
+// What a picture begins with: its size, its title, its style, and what belongs to no command.
+fn head<A: Memory + Copy>(
+    alloc: A,
     title: &str,
-    sheet: &Sheet<B>,
-    outcomes: &[Outcome<B>],
-) -> Result<(), AllocError>
-    ensures text { Adds result text.old text.new
-        (picture_text sheet.now.width sheet.now.height title.now sheet.now.frame.items
-        (shapes_at sheet.now.rows.items) (texts_of outcomes.now)) }
+    sheet: &mut Sheet<'_, A>,
+) -> Result<String<A>, AllocError>
     ensures memory { OnErr result A.may_refuse }
 {
-    put_head(text, sheet.width, sheet.height)?;
-    put_escaped(text, title)?;
-    put_words(text, "</title>\n")?;
-    put_words(text, STYLE)?;
-    put_words(
-        text,
-        "<rect class=\"sheet\" fill=\"#fff\" width=\"100%\" height=\"100%\"/>\n",
+    let width = sheet.width();
+    let height = sheet.end()?;
+    let mut text = String::try_format(
+        alloc,
+        format_args!(
+            "<svg xmlns=\"http://www.w3.org/2000/svg\" role=\"img\" font-family=\"system-ui,sans-serif\" font-size=\"13\" xml:space=\"preserve\" width=\"{width}\" height=\"{height}\" viewBox=\"0 0 {width} {height}\">\n<title>"
+        ),
     )?;
-    put_shapes(text, &sheet.frame)?;
-    put_words(text, "\n")?;
-    put_elements(text, outcomes, &sheet.rows)?;
-    put_words(text, "</svg>\n")
-}
-
-// Appends what a picture begins with, up to its title.
-#[tactic(auto, using(crate::proofs::Adding::steps))]
-fn put_head<A: Memory>(text: &mut String<A>, width: u64, height: u64) -> Result<(), AllocError>
-    ensures text { Adds result text.old text.new (head_text width height) }
-    ensures memory { OnErr result A.may_refuse }
-{
-    put_words(
-        text,
-        "<svg xmlns=\"http://www.w3.org/2000/svg\" role=\"img\" font-family=\"system-ui,sans-serif\" font-size=\"13\" xml:space=\"preserve\"",
-    )?;
-    put_size(text, width, height)?;
-    put_view(text, width, height)?;
-    put_words(text, ">\n<title>")
-}
-
-// Appends which part of the plane a picture shows.
-#[tactic(auto, using(crate::proofs::Adding::steps))]
-fn put_view<A: Memory>(text: &mut String<A>, width: u64, height: u64) -> Result<(), AllocError>
-    ensures text { Adds result text.old text.new (view_text width height) }
-    ensures memory { OnErr result A.may_refuse }
-{
-    put_number(text, " viewBox=\"0 0 ", width)?;
-    put_number(text, " ", height)?;
-    put_words(text, "\"")
+    put_escaped(&mut text, title)?;
+    let frame = sheet.frame.text.as_str();
+    text.try_write(format_args!(
+        "</title>\n{STYLE}<rect class=\"sheet\" fill=\"#fff\" width=\"100%\" height=\"100%\"/>\n{frame}\n"
+    ))?;
+    Ok(text)
 }
 
 // Appends the elements of commands, in their order.
-fn put_elements<A: Memory, B: Allocator>(
+fn put_elements<A: Memory + Copy>(
     text: &mut String<A>,
-    outcomes: &[Outcome<B>],
-    rows: &[Vec<Shape<B>, B>],
+    sheet: &mut Sheet<'_, A>,
+    history: &History<A>,
 ) -> Result<(), AllocError>
-    ensures text { Adds result text.old text.new
-        (elements_text (shapes_at rows.now) 0 (texts_of outcomes.now)) }
+    ensures elements { OnOk result (AddsElements Svg (texts_of history.now.outcomes.items)
+        (length history.now.outcomes.items) (string_bytes text.old) (string_bytes text.new)) }
     ensures memory { OnErr result A.may_refuse }
 {
-    for (place, outcome) in outcomes.iter().enumerate() {
-        put_element(text, place + 1, &outcome.text, shapes_at(rows, place))?;
+    for (place, outcome) in history.outcomes.iter().enumerate() {
+        let shapes = sheet.draw_row(place)?;
+        put_element(text, place + 1, &outcome.text, &shapes)?;
     }
     Ok(())
 }
 
-// The shapes of the command with a place.
-fn shapes_at<B: Allocator>(rows: &[Vec<Shape<B>, B>], place: usize) -> &[Shape<B>]
-    ensures { result.now ≡ shapes_at rows.now place }
+// Appends the element of a command: its number, from 1 on, the first of its lines, as a tip, and its shapes.
+fn put_element<A: Memory>(
+    text: &mut String<A>,
+    number: usize,
+    lines: &str,
+    shapes: &str,
+) -> Result<(), AllocError>
+    ensures element { OnOk result
+        (AddsElement Svg number lines.now (string_bytes text.old) (string_bytes text.new)) }
+    ensures memory { OnErr result A.may_refuse }
 {
-    match rows.get(place) {
-        Some(shapes) => shapes.as_slice(),
-        None => &[],
+    put_opening(text, number, lines)?;
+    text.try_write(format_args!("{shapes}</g>\n"))?;
+    Ok(())
+}
+
+// Appends the beginning of an element, up to its tip.
+#[tactic(auto, using(crate::proofs::Adding::steps))]
+fn put_opening<A: Memory>(
+    text: &mut String<A>,
+    number: usize,
+    lines: &str,
+) -> Result<(), AllocError>
+    ensures text { Adds result text.old text.new (opening Svg number lines.now) }
+    ensures memory { OnErr result A.may_refuse }
+{
+    text.try_write(format_args!("<g id=\"e{number}\"><title>"))?;
+    put_escaped(text, first_line(lines))?;
+    text.try_write("</title>")
+}
+
+/// The first line of a text.
+pub(crate) fn first_line(text: &str) -> &str
+    ensures { result.now ≡ first_line text.now }
+{
+    match text.split_once('\n') {
+        Some((line, _behind)) => line,
+        None => text,
     }
 }

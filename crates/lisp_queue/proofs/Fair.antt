@@ -6,19 +6,7 @@ use Rattle.std.proofs.lemmas.Bool.Decides.{Decides-ltb}
 use Rattle.std.proofs.lemmas.Option.{slice_get_past, get_or_from_slice_get}
 use Rattle.std.proofs.lemmas.List.Folds.{find_at}
 use Rattle.std.proofs.lemmas.List.Quantifiers.{position-Some}
-
-found_head : {X : Type 0} (b : Bool) (x : X) (others : Option X) → b ≡ true → ¬ (cond b (Some x) others ≡ None)
-found_head true x others e none = let clash : Some x ≡ None = none in cc
-found_head false x others e none = let clash : false ≡ true = e in cc
-
-later : {X : Type 0} (p : X → Bool) (x : X) (xs : List X) (b : Bool) → ¬ (find p xs ≡ None) → ¬ (cond b (Some x) (find p xs) ≡ None)
-later p x xs true never none = let clash : Some x ≡ None = none in cc
-later p x xs false never none = never none
-
-passes : {X : Type 0} (p : X → Bool) (xs : List X) (i : ℕ) (d : X) → i < length xs → p (get_or xs i d) ≡ true → ¬ (find p xs ≡ None)
-passes p [] i d low e = absurd (omega (arith, low))
-passes p (x ∷ xs) zero d low e = found_head (p x) x (find p xs) e
-passes p (x ∷ xs) (suc i) d low e = later p x xs (p x) (passes p xs i d (omega (arith, low)) e)
+use Rattle.lisp_lemmas.proofs.Passing.{passes}
 
 past : (n len : ℕ) (b : Bool) → nat_lt n len ≡ b → cond b (Some n) None ≡ None → len ≤ n
 past n len true e at = absurd cc

@@ -1,23 +1,161 @@
--- A node acts, and the network stands for the trace with its step: what each kind of event shares.
-use Rattle.std.proofs.Common.{◌≡◌, ℕ, zero, suc, ◌+◌, Bool, true, false, true≢false, List, [], ◌∷◌, ◌++◌, length, length-append, length-set, append-nil, Some, refl, sym, ap, subst, inl, inr, ◌∙◌, arith}
-use Rattle.std.specs.Prelude.{◌≤◌, ◌≢◌, ◌⊎◌, ◌==◌, if◌then◌else◌, slice_get, slice_index_or, IsTrue}
+-- What goes on to stand for a node whose part of the trace a step leaves as it was.
+use Rattle.std.proofs.Common.{◌≡◌, ℕ, refl, List, ◌++◌, Option, Some, None, sym, ap, subst, ◌∙◌, zero, suc, ◌+◌, Bool, true, false, true≢false, [], ◌∷◌, length, length-append, length-set, append-nil, inl, inr, arith, ◌-◌, ◌<◌}
+use Rattle.std.specs.Prelude.{◌==◌, if◌then◌else◌, slice_get, ◌≤◌, ◌≢◌, ◌⊎◌, slice_index_or, IsTrue, ◌&&◌, slice_set}
+use Rattle.std.specs.List.{find, AllPairs}
+use Rattle.std.specs.Option.{option_map, option_and_then}
 use Rattle.std.proofs.lemmas.Bool.{and_from, le-leb, lt-ltb}
 use Rattle.std.proofs.lemmas.Option.{slice_get_within}
+use Rattle.std.proofs.lemmas.List.{length-set as length-slice_set}
+use Rattle.lisp_records.specs.declared.router.RouterId.{RouterId}
+use Rattle.lisp_records.specs.Address.{PrefixValue}
+use Rattle.lisp_records.specs.Router.{router_eq}
+use Rattle.lisp_records.specs.Row.{RowValue}
+use Rattle.lisp_nonces.specs.Kept.{kept_at, NoneBelow}
+use Rattle.lisp_etr.specs.Config.{EtrConfigValue, sent_pair}
+use Rattle.lisp_etr.specs.Etr.{EtrState}
+use Rattle.lisp_etr.specs.Round.{KeepsRoundTime, round_after_send, round_after_count}
+use Rattle.lisp_etr.specs.declared.round.Round.{Round}
+use Rattle.lisp_lookup.specs.Table.{row_at, if_alive}
+use Rattle.lisp_server.specs.Receiving.{contact_of}
+use Rattle.lisp_admission.specs.Pairs.{notice_pair}
+use Rattle.lisp_server.specs.LastNonces.{nonce_at}
+use Rattle.lisp_server.specs.Contacts.{contact_at}
+use Rattle.lisp_server.specs.Notices.{StandingNoticeValue, notice_at}
+use Rattle.lisp_model.specs.Trace.{ShownStore, Step, Opening, router_at, etr_config_under, etr_config, clock, address_at, is_server, is_router, shown_store, EventValue, fate_of}
+use Rattle.lisp_model.specs.Held.{Acceptance, last_of, heard_last, held_row}
+use Rattle.lisp_model.specs.Timers.{RoundTimes, Notice, notice_to, round, with_renewal}
+use Rattle.lisp_model.specs.Bag.{Item, bag, since_start}
+use Rattle.lisp_model.specs.Sending.{CountsFrom}
+use Rattle.lisp_model.specs.Context.{IsBase, Context}
+use Rattle.lisp_model.specs.Promises.{SameServer, SameRouter, is_timeless, LeavesOthers}
+use Rattle.lisp_model.proofs.Locality.{same_number, leaves_others, other_number}
 use Rattle.lisp_records.specs.declared.address.Addr.{Addr}
 use Rattle.lisp_records.specs.declared.address.Addr.TheVariants.{V4}
 use Rattle.lisp_nonces.specs.Store.{StoreState}
 use Rattle.lisp_nonces.specs.declared.fate.Fate.{Fate}
-use Rattle.lisp_model.specs.Trace.{ShownStore, Step, Opening, address_at, is_server, is_router, shown_store}
-use Rattle.lisp_model.specs.Bag.{Item, bag}
-use Rattle.lisp_model.specs.Legal.{Legal}
-use Rattle.lisp_model.specs.Promises.{is_timeless, LeavesOthers}
-use Rattle.lisp_model.proofs.Locality.{same_number, leaves_others}
-use Rattle.lisp_refinement.specs.World.{DatagramValue, ServerNodeState, RouterNodeState, WorldState}
+use Rattle.lisp_model.specs.Legal.{Legal, MayCome}
+use Rattle.lisp_policy.specs.Configuration.{HasServers}
+use Rattle.lisp_model.specs.declared.line.Line.{Line}
+use Rattle.lisp_records.specs.Parts.{most_parts}
+use Rattle.lisp_etr.specs.Rounds.{round_of, rounds_after_send, rounds_after_count}
+use Rattle.lisp_etr.specs.declared.rounds.Rounds.{Rounds}
+use Rattle.lisp_etr.proofs.TimerLaws.{rounds_keep_time}
+use Rattle.lisp_model.specs.declared.line.Line.TheVariants as lines
+use Rattle.lisp_model.specs.Counted.{latest_nonce, acked}
+use Rattle.lisp_refinement.specs.World.{ServerNodeState, RouterCoreState, Up, Down, UsedKeysState, RouterNodeState, DatagramValue, WorldState}
+use Rattle.lisp_refinement.specs.Stands.{StandsForRound, StandsForEtr, StandsForCore, Marks, StandsForKeys, StandsForRouter, SameNotice, StandsForServer, shown_by, Shows, Carries, StandsInSteps, StandsInBag, Stands, StandsForRounds}
 use Rattle.lisp_refinement.specs.Calls.{UsesStore}
 use Rattle.lisp_refinement.specs.Events.{ServerActs, RouterActs, address_of}
-use Rattle.lisp_refinement.specs.Stands.{shown_by, Shows, Carries, StandsInSteps, StandsInBag, StandsForServer, StandsForRouter, Stands}
-use Rattle.lisp_refinement.proofs.Gets.{none_is_some, same_some, AtSet, get_set, Either, get_both}
-use Rattle.lisp_refinement.proofs.Going.{server_stays, router_stays}
+use Rattle.lisp_refinement.proofs.Gets.{get_before, none_is_some, same_some, AtSet, get_set, Either, get_both}
+use Rattle.lisp_refinement.proofs.Places.{rounds_stay, all_at, round_there, round_set, other_element}
+
+-- what a step says of the node that it names
+pub here : {X : Type 0} (node : ℕ) (new old : X) → (if node == node then new else old) ≡ new
+here node new old = ap (λ t. if t then new else old) (same_number node)
+
+-- the datagrams that were sent stay
+abbrev pub Stay : Opening → List Step → List Step → Type 0
+Stay o T U = (more : List Item) × (bag o U ≡ bag o T ++ more)
+
+-- a notice stands as long as its datagram is in the bag
+pub notice_goes : (o : Opening) (T U : List Step) (k : ℕ) → Stay o T U → (n : Option Notice) (kept : Option StandingNoticeValue) → SameNotice o T k n kept → SameNotice o U k n kept
+notice_goes o T U k stay (Some n) (Some kept) same = record {
+  router = same.router;
+  key = same.key;
+  nonce = same.nonce;
+  item = same.item;
+  sent = ap (λ (items : List Item). slice_get items n.datagram) stay.1 ∙ get_before (bag o T) stay.0 n.datagram same.item same.sent;
+  from = same.from;
+  to = same.to;
+  bytes = same.bytes;
+  earlier = same.earlier;
+  moments = same.moments;
+  resends = same.resends;
+}
+notice_goes o T U k stay None None same = tt
+notice_goes o T U k stay (Some n) None same = absurd same
+notice_goes o T U k stay None (Some kept) same = absurd same
+
+-- a server's rows, and who of them was heard where, at a moment
+pub record StandsForRows (n : ServerNodeState) (all : List Acceptance) (now : ℕ) : Type 0 where
+  pub rows : (router : RouterId) (eid : PrefixValue) → option_and_then (if_alive now) (row_at n.core.rows router eid) ≡ held_row all router eid now
+  pub contacts : (router : RouterId) (eid : PrefixValue) (h : RowValue) → held_row all router eid now ≡ Some h → contact_at n.core.contacts router ≡ option_map (λ a. contact_of a.message a.from) (heard_last router all)
+
+-- a server whose rows stand
+module _ (o : Opening) (T U : List Step) (k : ℕ) (n : ServerNodeState) (stand : StandsForServer o T k n) (same : SameServer o T U k) (stay : Stay o T U) where
+  -- its rows as they stood
+  pub server_rows : StandsForRows n (since_start o T k) (clock T)
+  server_rows = record { rows = stand.rows; contacts = stand.contacts }
+
+  -- or changed, and nothing else
+  pub server_goes : (m : ServerNodeState) → m ≡ record n { core = record n.core { rows = m.core.rows } } → StandsForRows m (since_start o U k) (clock U) → StandsForServer o U k m
+  server_goes m rest held_row = record {
+    sites = ap (λ (x : ServerNodeState). x.core.sites) rest ∙ stand.sites ∙ sym same.sites;
+    rows = held_row.rows;
+    nonces = λ pair other. ap (λ (x : ServerNodeState). nonce_at x.core.nonces pair) rest ∙ stand.nonces pair other ∙ ap (λ (all : List Acceptance). last_of pair all) (sym same.since);
+    notice_nonce = ap (λ (x : ServerNodeState). nonce_at x.core.nonces notice_pair) rest ∙ stand.notice_nonce ∙ sym same.last_notice;
+    contacts = held_row.contacts;
+    notices = λ router. subst (λ (p : Option Notice × Option StandingNoticeValue). SameNotice o U k p.0 p.1) (λ i. (sym (found router) i, sym (stood router) i))
+        (notice_goes o T U k stay (notice_to o T k router) (notice_at n.core.notices router) (stand.notices router));
+    started = ap (λ (x : ServerNodeState). x.started) rest ∙ stand.started ∙ sym same.began;
+  }
+    where
+      found : (router : RouterId) → notice_to o U k router ≡ notice_to o T k router
+      found router = ap (λ (all : List Notice). find (λ x. router_eq x.router router) all) same.notices
+
+      stood : (router : RouterId) → notice_at m.core.notices router ≡ notice_at n.core.notices router
+      stood router = ap (λ (x : ServerNodeState). notice_at x.core.notices router) rest
+
+  -- in no time
+  pub server_stays : clock U ≡ clock T → StandsForServer o U k n
+  server_stays moment = server_goes n refl (subst (λ (p : List Acceptance × ℕ). StandsForRows n p.0 p.1) (λ i. (sym same.since i, sym moment i)) server_rows)
+
+-- a router
+module _ (o : Opening) (T U : List Step) (k : ℕ) (same : SameRouter o T U k) where
+  -- each of its rounds goes on to stand
+  round_stays : (server part : ℕ) (r : Round) → StandsForRound T k server part r → StandsForRound U k server part r
+  round_stays server part r stand = record {
+    keeps = subst (λ (x : RoundTimes). KeepsRoundTime r x.begin x.moments) (sym (same.round server part)) stand.keeps;
+    latest = stand.latest ∙ sym (same.latest server part);
+  }
+
+  -- so do the numbers that it counts from
+  pub counts_stay : (base : Option ℕ) → CountsFrom o T k base → CountsFrom o U k base
+  counts_stay base counts = subst (λ (p : Option ℕ × List (Option ℕ)). IsBase p.0 p.1 base) (λ i. (sym same.last_sent i, sym same.start_values i)) counts
+
+  -- its configuration stays, since its key does
+  config_stays : etr_config o U k ≡ etr_config o T k
+  config_stays = ap (etr_config_under o.config (router_at o.config k)) same.key
+
+  -- and no other key was used
+  keys_stay : (used : UsedKeysState) → StandsForKeys o T k used → StandsForKeys o U k used
+  keys_stay used stand = record {
+    since_loss = subst (Marks used.since_loss) (sym same.keys_since_loss) stand.since_loss;
+    before_loss = subst (Marks used.before_loss) (sym same.keys_before_loss) stand.before_loss;
+  }
+
+  -- all of it while it is up
+  pub etr_stays : (e : EtrState) → StandsForEtr o T k e → StandsForEtr o U k e
+  etr_stays e stand = record {
+    up = same.is_up ∙ stand.up;
+    config = stand.config ∙ sym config_stays;
+    database = stand.database ∙ sym same.database;
+    last = (stand.last.0, counts_stay stand.last.0 stand.last.1, stand.last.2);
+    safe = subst (λ (p : ShownStore × EtrConfigValue). NoneBelow e.safe (kept_at p.0.kept (sent_pair p.1))) (λ i. (sym same.shown i, sym config_stays i)) stand.safe;
+    count = stand.count;
+    rounds = λ i server rs lists has. rounds_stay T k server rs (stand.rounds i server rs lists has) U (same.acked server) (round_stays server);
+  }
+
+  -- up or down
+  core_stays : (core : RouterCoreState) → StandsForCore o T k core → StandsForCore o U k core
+  core_stays (Up e) stand = etr_stays e stand
+  core_stays (Down config db) stand = (same.is_up ∙ stand.0, stand.1 ∙ sym config_stays, stand.2 ∙ sym same.database)
+
+  -- and with its name and its list
+  pub router_stays : (n : RouterNodeState) → StandsForRouter o T k n → StandsForRouter o U k n
+  router_stays n stand = record { me = stand.me; servers = stand.servers; used = keys_stay n.used stand.used; core = core_stays n.core stand.core }
+
+-- A node acts, and the network stands for the trace with its step: what each kind of event shares.
 
 -- the items that a step adds to the bag, and the datagrams that carry them
 pub record Adds (o : Opening) (T : List Step) (s : Step) (more : List DatagramValue) : Type 0 where
@@ -249,3 +387,191 @@ nobody_acts w o T s stand timeless server router legal adds = goes_on w w o T s 
   servers = λ k n there. inr (λ same. true≢false (sym (server_is w o T stand k n there) ∙ ap (λ m. is_server o.config m) same ∙ server), there);
   routers = λ k n there. inr (λ same. true≢false (sym (router_is w o T stand k n there) ∙ ap (λ m. is_router o.config m) (router_number w o T stand k ∙ same) ∙ router), there);
 })
+
+-- A router acts in a step: what stands of it before, and what the network then stands for.
+
+-- an event, its line, the node that acted, and what its store shows
+abbrev pub step_of : EventValue → ℕ → ShownStore → Line → Step
+step_of event node s line = record { event = event; line = line; actor = node; shown = s }
+
+-- and its turn
+abbrev pub turn_at : Opening → List Step → ℕ → Fate → ShownStore → Context
+turn_at o T node fate s = record { opening = o; past = T; node = node; fate = fate; before = shown_store o T node; after = s }
+
+-- the store of the node that acts shows what the step says
+pub shown_now : (o : Opening) (T : List Step) (event : EventValue) (node : ℕ) (s : ShownStore) (line : Line) → shown_store o (step_of event node s line ∷ T) node ≡ s
+shown_now o T event node s line = ap (λ b. if b then s else shown_store o T node) (same_number node)
+
+-- what a router's step needs: its row, and what stands of the router afterwards
+pub record RouterStep (o : Opening) (T : List Step) (event : EventValue) (node : ℕ) (s : ShownStore) (Row : Line → Type 0) (line : Line) (more : List DatagramValue) (after : RouterNodeState) : Type 0 where
+  pub row : Row line
+  pub count : (shown_store o T node).faults ≤ s.faults
+  pub obedient : s.is_obedient ≡ (shown_store o T node).is_obedient
+  pub adds : Adds o T (step_of event node s line) more
+  pub shows : Shows after.store s
+  pub part : StandsForRouter o (step_of event node s line ∷ T) node after
+
+-- the same of another line, other datagrams and another node that are equal to these
+pub moved : (o : Opening) (T : List Step) (event : EventValue) (node : ℕ) (s : ShownStore) (Row : Line → Type 0) (line said : Line) (more posts : List DatagramValue) (after left : RouterNodeState)
+    → line ≡ said → more ≡ posts → after ≡ left → RouterStep o T event node s Row said posts left → RouterStep o T event node s Row line more after
+moved o T event node s Row line said more posts after left same_line same_posts same_node step =
+    subst (λ (p : Line × List DatagramValue × RouterNodeState). RouterStep o T event node s Row p.0 p.1 p.2) {x = (said, posts, left)} {y = (line, more, after)} (λ i. (sym same_line i, sym same_posts i, sym same_node i)) step
+
+module _ (old new : WorldState) (node : ℕ) (more : List DatagramValue) (acts : RouterActs old new node more) (o : Opening) (T : List Step) (stand : Stands old o T) where
+  -- the node is a router
+  pub acts_router : is_router o.config node ≡ true
+  acts_router = ap (is_router o.config) acts.number ∙ router_is old o T stand acts.place acts.before acts.was
+
+  -- it stands for the trace before the step
+  pub acts_part : StandsForRouter o T node acts.before
+  acts_part = subst (λ (n : ℕ). StandsForRouter o T n acts.before) (sym acts.number) (router_stands old o T stand acts.place acts.before acts.was)
+
+  -- and so does its store
+  pub acts_shows : Shows acts.before.store (shown_store o T node)
+  acts_shows = subst (λ (n : ℕ). Shows acts.before.store (shown_store o T n)) (sym acts.number) (router_shows old o T stand acts.place acts.before acts.was)
+
+  -- its list names no server twice
+  pub acts_once : AllPairs (λ a b. a ≢ b) (router_at o.config node).servers
+  acts_once = is.once
+    where
+      low : node - length o.config.servers < length o.config.routers
+      low = let within = slice_get_within old.routers acts.place acts.before acts.was in
+          let servers = stand.steps.servers in
+          let routers = stand.steps.routers in
+          omega (arith, within, servers, routers, acts.number)
+
+      is : HasServers o.config.servers (router_at o.config node)
+      is = all_at (HasServers o.config.servers) o.config.routers stand.steps.network.servers (node - length o.config.servers) _ low
+
+  -- with such a step the network stands for the trace
+  pub stands_by : (event : EventValue) (s : ShownStore) (line : Line) → is_timeless event ≡ true → RouterStep o T event node s (MayCome (turn_at o T node (fate_of event) s) event) line more acts.after → Stands new o (step_of event node s line ∷ T)
+  stands_by event s line timeless step = router_acts old new node more acts o T (step_of event node s line) stand refl timeless (record { faults = λ other. step.count; obedient = step.obedient; row = step.row }) step.adds step.shows step.part
+
+-- How a router's rounds go on in a step that sends to one of its Map-Servers, or counts from it.
+
+-- three tests that all hold
+all_same : (a b c : ℕ) → (a == a && b == b && c == c) ≡ true
+all_same a b c = λ i. same_number a i && same_number b i && same_number c i
+
+-- the second fails
+second_other : (a b c d e : ℕ) → b ≢ c → (a == a && b == c && d == e) ≡ false
+second_other a b c d e differ = λ i. same_number a i && other_number b c differ i && d == e
+
+-- the third fails
+third_other : (a b c d : ℕ) → c ≢ d → (a == a && b == b && c == d) ≡ false
+third_other a b c d differ = λ i. same_number a i && same_number b i && other_number c d differ i
+
+-- what a round keeps of its timer after a send that was counted
+renews : (r : Round) (begin : ℕ) (moments : List ℕ) → KeepsRoundTime r begin moments → KeepsRoundTime (round_after_count r) (with_renewal (record { begin = begin; moments = moments }) moments).begin (with_renewal (record { begin = begin; moments = moments }) moments).moments
+renews r begin [] keeps = rounds_keep_time.idle r begin keeps
+renews r begin (last ∷ before) keeps = rounds_keep_time.renew r begin last before keeps
+
+-- what counting leaves of the last nonce
+counted_latest : (r : Round) → (round_after_count r).latest ≡ r.latest
+counted_latest r = at (r.sends == 0)
+  where
+    at : (b : Bool) → (if b then r else record r { due = r.renewal; sends = 0 }).latest ≡ r.latest
+    at true = refl
+    at false = refl
+
+module _ (T : List Step) (event : EventValue) (node : ℕ) (s : ShownStore) (server part key nonce : ℕ) where
+  -- a Map-Register of the part went out to the server
+  module _ (datagram : ℕ) where
+    abbrev pub sent_steps : List Step
+    sent_steps = step_of event node s (lines.Sent node server part key nonce datagram) ∷ T
+
+    -- what the moments of a round are, by whether it is that of the part with the server
+    abbrev sent_times : ℕ → ℕ → Bool → RoundTimes
+    sent_times k q b = if b then record (round T node k q) { moments = clock T ∷ (round T node k q).moments } else round T node k q
+
+    -- its round goes on
+    sent_part : (r : Round) → StandsForRound T node server part r → StandsForRound sent_steps node server part (round_after_send nonce (clock T) r)
+    sent_part r old = record {
+      keeps = subst (λ b. KeepsRoundTime (round_after_send nonce (clock T) r) (sent_times server part b).begin (sent_times server part b).moments)
+          (sym (all_same node server part)) (rounds_keep_time.send r (round T node server part).begin (round T node server part).moments nonce (clock T) old.keeps);
+      latest = ap (λ b. if b then nonce else latest_nonce T node server part) (sym (all_same node server part));
+    }
+
+    -- and any other stays
+    sent_other : (k q : ℕ) (r : Round) → (node == node && server == k && part == q) ≡ false → StandsForRound T node k q r → StandsForRound sent_steps node k q r
+    sent_other k q r other old = record {
+      keeps = subst (λ b. KeepsRoundTime r (sent_times k q b).begin (sent_times k q b).moments) (sym other) old.keeps;
+      latest = old.latest ∙ ap (λ b. if b then nonce else latest_nonce T node k q) (sym other);
+    }
+
+    -- so the rounds of all parts with the server stand
+    pub sent_here : (now : ℕ) (rs : Rounds) → now ≡ clock T → part < most_parts → StandsForRounds T node server rs → StandsForRounds sent_steps node server (rounds_after_send part nonce now rs)
+    sent_here now rs moment low old = subst (λ (m : ℕ). StandsForRounds sent_steps node server (rounds_after_send part nonce m rs)) (sym moment) (record {
+      parts = length-slice_set rs.parts part (round_after_send nonce (clock T) (round_of rs part)) ∙ old.parts;
+      acked_parts = old.acked_parts;
+      round = round_set T node server rs old sent_steps part (round_after_send nonce (clock T) (round_of rs part))
+          (sent_part (round_of rs part) (old.round part (round_of rs part) (round_there T node server rs old part low)))
+          (λ other r differ. sent_other server other r (third_other node server part other differ));
+      acked = old.acked;
+    })
+
+    -- and those with another one
+    pub sent_there : (other : ℕ) (rs : Rounds) → server ≢ other → StandsForRounds T node other rs → StandsForRounds sent_steps node other rs
+    sent_there other rs differ old = rounds_stay T node other rs old sent_steps (λ q. refl) (λ q r. sent_other other q r (second_other node server other part q differ))
+
+  -- the last Map-Register of the part to the server was counted
+  abbrev pub counted_steps : List Step
+  counted_steps = step_of event node s (lines.Counted node server part key nonce) ∷ T
+
+  -- what the moments of a round are, by whether it is that of the part with the server
+  abbrev counted_times : ℕ → ℕ → Bool → RoundTimes
+  counted_times k q b = if b then with_renewal (round T node k q) (round T node k q).moments else round T node k q
+
+  -- its round goes on
+  counted_part : (r : Round) → StandsForRound T node server part r → StandsForRound counted_steps node server part (round_after_count r)
+  counted_part r old = record {
+    keeps = subst (λ b. KeepsRoundTime (round_after_count r) (counted_times server part b).begin (counted_times server part b).moments)
+        (sym (all_same node server part)) (renews r (round T node server part).begin (round T node server part).moments old.keeps);
+    latest = counted_latest r ∙ old.latest;
+  }
+
+  -- and any other stays
+  counted_other : (k q : ℕ) (r : Round) → (node == node && server == k && part == q) ≡ false → StandsForRound T node k q r → StandsForRound counted_steps node k q r
+  counted_other k q r other old = record {
+    keeps = subst (λ b. KeepsRoundTime r (counted_times k q b).begin (counted_times k q b).moments) (sym other) old.keeps;
+    latest = old.latest;
+  }
+
+  -- what was counted of the part, and of any other
+  acked_part : acked counted_steps node server part ≡ Some (key, nonce)
+  acked_part = ap (λ b. if b then Some (key, nonce) else acked T node server part) (all_same node server part)
+
+  acked_other : (k q : ℕ) → (node == node && server == k && part == q) ≡ false → acked counted_steps node k q ≡ acked T node k q
+  acked_other k q other = ap (λ b. if b then Some (key, nonce) else acked T node k q) other
+
+  -- so the rounds of all parts with the server stand
+  pub counted_here : (rs : Rounds) → nonce ≡ (round_of rs part).latest → slice_get rs.parts part ≡ Some (round_of rs part) → StandsForRounds T node server rs → StandsForRounds counted_steps node server (rounds_after_count key part rs)
+  counted_here rs is there old = record {
+    parts = length-slice_set rs.parts part (round_after_count (round_of rs part)) ∙ old.parts;
+    acked_parts = length-slice_set rs.acked part (Some (key, (round_of rs part).latest)) ∙ old.acked_parts;
+    round = round_set T node server rs old counted_steps part (round_after_count (round_of rs part)) (counted_part (round_of rs part) (old.round part (round_of rs part) there))
+        (λ other r differ. counted_other server other r (third_other node server part other differ));
+    acked = λ other pair set. at other pair (get_set rs.acked part other (Some (key, (round_of rs part).latest)) pair set);
+  }
+    where
+      at : (other : ℕ) (pair : Option (ℕ × ℕ)) → ((other ≡ part) × (Some (key, (round_of rs part).latest) ≡ pair)) ⊎ ((other ≢ part) × (slice_get rs.acked other ≡ Some pair)) → pair ≡ acked counted_steps node server other
+      at other pair (inl set) = sym set.1 ∙ ap (λ (n : ℕ). Some (key, n)) (sym is) ∙ sym acked_part ∙ ap (acked counted_steps node server) (sym set.0)
+      at other pair (inr same) = old.acked other pair same.1 ∙ sym (acked_other server other (third_other node server part other (λ part_is. same.0 (sym part_is))))
+
+  -- and those with another one
+  pub counted_there : (other : ℕ) (rs : Rounds) → server ≢ other → StandsForRounds T node other rs → StandsForRounds counted_steps node other rs
+  counted_there other rs differ old = rounds_stay T node other rs old counted_steps (λ q. acked_other other q (second_other node server other part q differ)) (λ q r. counted_other other q r (second_other node server other part q differ))
+
+-- the rounds with all servers, where those at one place were set
+module _ (T U : List Step) (node : ℕ) (servers : List ℕ) (rounds : List Rounds) (place server : ℕ) (x : Rounds) (once : AllPairs (λ a b. a ≢ b) servers) (there : slice_get servers place ≡ Some server)
+    (here : StandsForRounds U node server x) (others : (other : ℕ) (rs : Rounds) → server ≢ other → StandsForRounds T node other rs → StandsForRounds U node other rs)
+    (old : (i k : ℕ) (rs : Rounds) → slice_get servers i ≡ Some k → slice_get rounds i ≡ Some rs → StandsForRounds T node k rs) where
+  pub rounds_set : (i k : ℕ) (rs : Rounds) → slice_get servers i ≡ Some k → slice_get (slice_set rounds place x) i ≡ Some rs → StandsForRounds U node k rs
+  rounds_set i k rs listed is = at (get_set rounds place i x rs is)
+    where
+      same_server : i ≡ place → server ≡ k
+      same_server same = let both : ◌≡◌ {A = Option ℕ} (Some server) (Some k) = sym there ∙ ap (slice_get servers) (sym same) ∙ listed in cc
+
+      at : ((i ≡ place) × (x ≡ rs)) ⊎ ((i ≢ place) × (slice_get rounds i ≡ Some rs)) → StandsForRounds U node k rs
+      at (inl set) = subst (λ (y : Rounds). StandsForRounds U node k y) set.1 (subst (λ (n : ℕ). StandsForRounds U node n x) (same_server set.0) here)
+      at (inr same) = others k rs (other_element servers once place i server k there listed same.0) (old i k rs listed same.1)

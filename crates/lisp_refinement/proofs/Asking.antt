@@ -1,18 +1,30 @@
--- What is asked of a node of a network that stands for a trace, at the network's clock.
-use Rattle.std.proofs.Common.{◌≡◌, ℕ, ◌+◌, nat_le, List, [], length, take, Option, Some, None, refl, sym, ap, subst, ◌∙◌, arith}
-use Rattle.std.specs.Prelude.{slice_get}
-use Rattle.std.specs.List.{position}
-use Rattle.std.specs.Option.{option_map, unwrap_or}
-use Rattle.std.proofs.lemmas.Option.{slice_get_within}
+-- A list of the rows that are held is the only one, and who answers by the rows answers by the list.
+use Rattle.std.proofs.Common.{◌≡◌, ℕ, suc, ◌-◌, Bool, true, false, cond, List, [], ◌∷◌, Option, Some, None, refl, sym, ap, subst, ◌∙◌, inl, inr, arith, ◌+◌, nat_le, length, take}
+use Rattle.std.specs.Prelude.{◌⊎◌, slice_get}
+use Rattle.std.specs.Cmp.{IsTotalOrder, on_total}
+use Rattle.std.specs.List.{AllPairs, Contains, position}
+use Rattle.std.specs.Option.{option_and_then, option_map, unwrap_or}
+use Rattle.std.specs.Ordering.{ordering_reverse}
+use Rattle.std.specs.declared.cmp.Ordering.{Ordering}
+use Rattle.std.specs.declared.cmp.Ordering.TheVariants.{Less, Greater}
+use Rattle.std.proofs.lemmas.Bool.{and_parts}
+use Rattle.std.proofs.lemmas.Bool.Decides.{Decides-ltb}
+use Rattle.std.proofs.lemmas.Option.{option_and_then_some, slice_get_within}
 use Rattle.lisp_records.specs.declared.address.Addr.{Addr}
 use Rattle.lisp_records.specs.declared.router.RouterId.{RouterId}
-use Rattle.lisp_records.specs.Parts.{part_count}
-use Rattle.lisp_records.specs.Record.{MapRecordValue}
-use Rattle.lisp_records.specs.Row.{RowValue}
+use Rattle.lisp_records.specs.Address.{PrefixValue, holds}
+use Rattle.lisp_records.specs.Row.{RowValue, IsAlive, is_alive}
 use Rattle.lisp_policy.specs.Site.{SiteValue}
 use Rattle.lisp_lookup.specs.declared.answer.Answer.{Answer}
-use Rattle.lisp_lookup.specs.Answer.{Answers}
-use Rattle.lisp_lookup.specs.Table.{row_at, OneEach, IsHeld}
+use Rattle.lisp_lookup.specs.declared.answer.Answer.TheVariants.{NoSite, NotRegistered, Reply, Forward}
+use Rattle.lisp_lookup.specs.Answer.{may_answer, IsBest, NoneAnswers, Answers}
+use Rattle.lisp_lookup.specs.Table.{is_row_of, row_key, row_at, row_cmp, if_alive, OneEach, IsHeld}
+use Rattle.lisp_lookup.proofs.Orders.{key_total}
+use Rattle.lisp_lookup.proofs.TableLaws.{found_own, found_holds}
+use Rattle.lisp_replies.specs.Kept.{SameLive}
+use Rattle.lisp_model.proofs.ListLemmas.{at_head, in_tail, head_or_tail, in_none}
+use Rattle.lisp_records.specs.Parts.{part_count}
+use Rattle.lisp_records.specs.Record.{MapRecordValue}
 use Rattle.lisp_etr.specs.Etr.{EtrState}
 use Rattle.lisp_etr.specs.Rounds.{due_part as router_part}
 use Rattle.lisp_etr.specs.declared.round.Round.{Round}
@@ -30,9 +42,142 @@ use Rattle.lisp_model.proofs.RowLaws.{rows_are_held}
 use Rattle.lisp_refinement.specs.World.{ServerNodeState, RouterNodeState, RouterCoreState, Up, WorldState}
 use Rattle.lisp_refinement.specs.Stands.{IsStanding, SameNotice, StandsForServer, StandsForCore, StandsForRounds, StandsForEtr, Stands}
 use Rattle.lisp_refinement.specs.Asked.{IsNextNotice, ServerTells, RouterTells}
-use Rattle.lisp_refinement.proofs.Gets.{get_within}
-use Rattle.lisp_refinement.proofs.HeldLists.{one_held, held_alike, answers_listed}
-use Rattle.lisp_refinement.proofs.PartLists.{list_by_parts, first_by_parts, first_alike}
+use Rattle.lisp_refinement.proofs.Gets.{none_is_some, same_some, get_within}
+use Rattle.lisp_refinement.proofs.Places.{list_by_parts, first_by_parts, first_alike}
+
+-- lists that rise strictly by a comparison
+module _ {X : Type 0} (cmp : X → X → Ordering) (total : IsTotalOrder cmp) where
+  -- each element is below all that stand behind it
+  abbrev Rises : List X → Type 0
+  Rises xs = AllPairs (λ a b. cmp a b ≡ Less) xs
+
+  -- each element of one list is one of the other
+  abbrev Within : List X → List X → Type 0
+  Within xs ys = (z : X) → Contains xs z → Contains ys z
+
+  -- no two elements are below each other
+  not_both : (a b : X) → cmp a b ≡ Less → cmp b a ≡ Less → ⊥
+  not_both a b less more = (let clash : Less ≡ Greater = sym less ∙ total.antisymm a b ∙ ap ordering_reverse more in absurd cc)
+
+  -- the head is below each element of the tail
+  head_below : (x : X) (xs : List X) → Rises (x ∷ xs) → (z : X) → Contains xs z → cmp x z ≡ Less
+  head_below x xs rises z (j, lt, is) = subst (λ (y : X). cmp x y ≡ Less) is (rises 0 (suc j) z (omega arith) (omega (arith, lt)))
+
+  -- the tail rises too
+  tail_rises : (x : X) (xs : List X) → Rises (x ∷ xs) → Rises xs
+  tail_rises x xs rises i j d before lt = rises (suc i) (suc j) d (omega (arith, before)) (omega (arith, lt))
+
+  -- where two heads are one, each element of one tail is one of the other
+  tail_within : (x : X) (xs ys : List X) → Rises (x ∷ xs) → Within (x ∷ xs) (x ∷ ys) → Within xs ys
+  tail_within x xs ys rises there z has = by (head_or_tail x ys z (there z (in_tail x xs z has)))
+    where
+      below : cmp x z ≡ Less
+      below = head_below x xs rises z has
+
+      by : (z ≡ x) ⊎ Contains ys z → Contains ys z
+      by (inl same) = (let itself = subst (λ (y : X). cmp x y ≡ Less) same below in absurd (not_both x x itself itself))
+      by (inr more) = more
+
+  -- the heads of two such lists with the same elements are one
+  same_heads : (x y : X) (xs ys : List X) → Rises (x ∷ xs) → Rises (y ∷ ys) → (y ≡ x) ⊎ Contains xs y → (x ≡ y) ⊎ Contains ys x → x ≡ y
+  same_heads x y xs ys rises others (inl is) there = sym is
+  same_heads x y xs ys rises others (inr here) (inl is) = is
+  same_heads x y xs ys rises others (inr here) (inr there) = absurd (not_both x y (head_below x xs rises y here) (head_below y ys others x there))
+
+  -- two such lists with the same elements are one
+  pub one_rising_list : (xs ys : List X) → Rises xs → Rises ys → Within xs ys → Within ys xs → xs ≡ ys
+  one_rising_list [] [] rises others there back = refl
+  one_rising_list [] (y ∷ ys) rises others there back = absurd (in_none y (back y (at_head y ys)))
+  one_rising_list (x ∷ xs) [] rises others there back = absurd (in_none x (there x (at_head x xs)))
+  one_rising_list (x ∷ xs) (y ∷ ys) rises others there back =
+      let heads : x ≡ y = same_heads x y xs ys rises others (head_or_tail x xs y (back y (at_head y ys))) (head_or_tail y ys x (there x (at_head x xs))) in
+      let forth : Within xs ys = tail_within x xs ys rises (subst (λ (h : X). Within (x ∷ xs) (h ∷ ys)) (sym heads) there) in
+      let again : Within ys xs = tail_within y ys xs others (subst (λ (h : X). Within (y ∷ ys) (h ∷ xs)) heads back) in
+      let tails : xs ≡ ys = one_rising_list xs ys (tail_rises x xs rises) (tail_rises y ys others) forth again in
+      λ i. heads i ∷ tails i
+
+-- there is one list of the rows that are held
+pub one_held : (table xs ys : List RowValue) (now : ℕ) → IsHeld table now xs → IsHeld table now ys → xs ≡ ys
+one_held table xs ys now one other =
+    one_rising_list row_cmp (on_total row_key key_total) xs ys one.rising other.rising
+    (λ h has. (other.each h).1 ((one.each h).0 has))
+    (λ h has. (one.each h).1 ((other.each h).0 has))
+
+-- a row that was found stays where it is alive
+pub kept_alive : (now : ℕ) (o : Option RowValue) (h : RowValue) → (o ≡ Some h) × IsAlive h now → option_and_then (if_alive now) o ≡ Some h
+kept_alive now o h (is, alive) =
+    ap (option_and_then (if_alive now)) is ∙ ap (λ (b : Bool). cond b (Some h) None) ((Decides-ltb (now - h.accepted) h.life).1 alive)
+
+-- what stays was found, and is alive
+was_alive : (now : ℕ) (o : Option RowValue) (h : RowValue) → option_and_then (if_alive now) o ≡ Some h → (o ≡ Some h) × IsAlive h now
+was_alive now o h is = option_and_then_some (if_alive now) o h is (λ g at passes. by g at (is_alive g now) refl passes)
+  where
+    by : (g : RowValue) → o ≡ Some g → (b : Bool) → is_alive g now ≡ b → cond b (Some g) None ≡ Some h → (o ≡ Some h) × IsAlive h now
+    by g at true alive passes =
+        let same : g ≡ h = same_some g h passes in
+        (at ∙ ap Some same, subst (λ (x : RowValue). IsAlive x now) same ((Decides-ltb (now - g.accepted) g.life).0 alive))
+    by g at false dead passes = absurd (none_is_some passes)
+
+-- two tables with the same live rows
+module _ (one other : List RowValue) (now : ℕ)
+    (alike : (router : RouterId) (eid : PrefixValue) → option_and_then (if_alive now) (row_at one router eid) ≡ option_and_then (if_alive now) (row_at other router eid)) where
+  -- a live row is found in both, or in neither
+  both_find : (h : RowValue) → option_and_then (if_alive now) (row_at one h.router h.mapping.eid) ≡ option_and_then (if_alive now) (row_at other h.router h.mapping.eid)
+  both_find h = alike h.router h.mapping.eid
+
+  -- a list of what is held by one is a list of what is held by the other
+  pub held_alike : (xs : List RowValue) → IsHeld one now xs → IsHeld other now xs
+  held_alike xs is = record {
+    rising = is.rising;
+    each = λ h. (
+        let here = row_at one h.router h.mapping.eid in
+        let there = row_at other h.router h.mapping.eid in (
+          λ has. was_alive now there h (sym (both_find h) ∙ kept_alive now here h ((is.each h).0 has)),
+          λ at. (is.each h).1 (was_alive now here h (both_find h ∙ kept_alive now there h at)),
+        ));
+  }
+
+-- rows of a table, and the list of those that are held
+module _ (table listed : List RowValue) (now : ℕ) (one : OneEach table) (is : IsHeld table now listed) (addr : Addr) where
+  -- a row that may answer is listed
+  in_list : (h : RowValue) → Contains table h → may_answer addr now h ≡ true → Contains listed h
+  in_list h has may =
+      let alive = (and_parts (is_alive h now) (holds h.mapping.eid addr) may).0 in
+      (is.each h).1 (found_own table h one has, (Decides-ltb (now - h.accepted) h.life).0 alive)
+
+  -- and what is listed is a row
+  in_table : (h : RowValue) → Contains listed h → Contains table h
+  unfolding row_at
+  in_table h has = (found_holds (is_row_of h.router h.mapping.eid) table h ((is.each h).0 has).0).0
+
+  -- the best row is the best of the list
+  best_listed : (h : RowValue) → IsBest table addr now h → IsBest listed addr now h
+  best_listed h best = record {
+    held = in_list h best.held best.may;
+    may = best.may;
+    most = λ other has may. best.most other (in_table other has) may;
+  }
+
+  -- where no row may answer, none of the list may
+  none_listed : NoneAnswers table addr now → NoneAnswers listed addr now
+  none_listed none h has = none h (in_table h has)
+
+  -- who answers by the rows answers by the list
+  pub answers_listed : {A : Type 0} (sites : List SiteValue) (answer : Answer A) → Answers table sites addr now answer → Answers listed sites addr now answer
+  answers_listed sites (Reply record_of) answers = (answers.0, best_listed answers.0 answers.1, answers.2, answers.3)
+  answers_listed sites (Forward to) answers = (answers.0, best_listed answers.0 answers.1, answers.2, answers.3)
+  answers_listed sites NotRegistered answers = (none_listed answers.0, answers.1)
+  answers_listed sites NoSite answers = (none_listed answers.0, answers.1)
+
+-- the list has the rows that are alive, and no others
+pub same_live : (table listed : List RowValue) (now : ℕ) → OneEach table → IsHeld table now listed → SameLive table listed now
+unfolding row_at
+same_live table listed now one is h alive = (
+  λ has. (is.each h).1 (found_own table h one has, (Decides-ltb (now - h.accepted) h.life).0 alive),
+  λ has. (found_holds (is_row_of h.router h.mapping.eid) table h ((is.each h).0 has).0).0,
+)
+
+-- What is asked of a node of a network that stands for a trace, at the network's clock.
 
 -- a Map-Server that stands for a trace
 module _ (o : Opening) (T : List Step) (k : ℕ) (n : ServerNodeState) (part : StandsForServer o T k n) where

@@ -22,9 +22,8 @@ use Rattle.lisp_refinement.specs.World.{RouterNodeState, RouterCoreState, Up, Do
 use Rattle.lisp_refinement.specs.Events.{NetworkChanges, changed_core, change_line}
 use Rattle.lisp_refinement.specs.Stands.{Shows, StandsForRound, StandsForRounds, StandsForEtr, StandsForCore, StandsForRouter, Stands, StandsAfter}
 use Rattle.lisp_refinement.proofs.Gets.{get_mapped}
-use Rattle.lisp_refinement.proofs.Going.{here}
-use Rattle.lisp_refinement.proofs.PartRounds.{rounds_become}
-use Rattle.lisp_refinement.proofs.Acting.{adds_none, router_is, router_stands, router_shows, router_acts}
+use Rattle.lisp_refinement.proofs.Acting.{here, adds_none, router_is, router_stands, router_shows, router_acts}
+use Rattle.lisp_refinement.proofs.Places.{rounds_become}
 
 -- the step of a change, which leaves the store
 abbrev change : Opening → List Step → ℕ → List MapRecordValue → Line → Step

@@ -33,9 +33,8 @@ use Rattle.lisp_refinement.specs.Stands.{Stands}
 use Rattle.lisp_refinement.specs.Headline.{Lists, ListedWasSent, ListedAgree, CountsAreAccepted, OfEachStep, OverClean, Promises}
 use Rattle.lisp_refinement.specs.Asked.{RouterTells}
 use Rattle.lisp_refinement.proofs.Gets.{none_is_some, same_some, get_mapped}
-use Rattle.lisp_refinement.proofs.HeldLists.{kept_alive}
-use Rattle.lisp_refinement.proofs.PartLists.{number_of_part}
-use Rattle.lisp_refinement.proofs.Asking.{servers_tell, routers_tell}
+use Rattle.lisp_refinement.proofs.Asking.{kept_alive, servers_tell, routers_tell}
+use Rattle.lisp_refinement.proofs.Places.{number_of_part}
 
 -- each step of a legal trace has what each legal step has
 replays_in : (o : Opening) (T : List Step) → LegalTrace o T → OfEachStep (ReplaysAreTried o) T

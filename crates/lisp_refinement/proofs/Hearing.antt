@@ -1,26 +1,29 @@
--- What arrives at a router: the row of its line, and what stands of the router afterwards.
-use Rattle.std.proofs.Common.{◌≤◌, ◌≡◌, ℕ, Bool, true, false, List, [], ◌∷◌, ◌++◌, length, Option, Some, None, Result, Ok, Err, refl, sym, ap, subst, inl, inr, ◌∙◌, arith}
-use Rattle.std.specs.Prelude.{◌≢◌, ◌⊎◌, nat_le, slice_get, slice_set, slice_index_or, IfOk, IsErrOf, if◌then◌else◌}
+-- The checks of a router lead to the same with the place of a Map-Server in its list as with the Map-Server's number.
+use Rattle.std.proofs.Common.{◌≡◌, ℕ, Bool, true, false, List, Option, Some, None, Ok, Err, refl, ◌≤◌, [], ◌∷◌, ◌++◌, length, sym, ap, subst, inl, inr, ◌∙◌, arith}
+use Rattle.std.specs.Prelude.{◌==◌, Result, ok_or, if◌then◌else◌, ◌≢◌, ◌⊎◌, nat_le, slice_get, slice_set, slice_index_or, IfOk, IsErrOf}
+use Rattle.std.proofs.lemmas.Bool.Decides.{Decides-eqb}
 use Rattle.std.specs.List.{AllPairs, position}
 use Rattle.std.specs.Option.{option_map, option_to_list}
 use Rattle.std.proofs.lemmas.List.{length-set}
 use Rattle.std.proofs.lemmas.Option.{slice_get_within, slice_get-get_or, get_or_from_slice_get}
+use Rattle.lisp_records.specs.Result.{◌>>=◌}
+use Rattle.lisp_messages.specs.declared.fault.ReadFault.{ReadFault}
+use Rattle.lisp_messages.specs.Authentic.{is_authentic, signed}
+use Rattle.lisp_messages.specs.Message.{MessageValue, MapNotifyValue, Registers, Notifies, IsMapNotify}
+use Rattle.lisp_etr.specs.declared.notify_fault.NotifyFault.{NotifyFault}
+use Rattle.lisp_etr.specs.declared.notify_fault.NotifyFault.TheVariants.{NotMine, WrongKey, BadAuth}
+use Rattle.lisp_etr.specs.Config.{EtrConfigValue, sent_pair}
+use Rattle.lisp_etr.specs.Hearing.{ServerNotify, check, checked_notify, Gives, AnswerFits, HearsNotice, TakesMemory, ack_of, server_at, notify_from as heard_of, first_notice, notice_in, counted_as, counted_in, seen_in, seen_at, etr_after as left_after}
 use Rattle.lisp_records.specs.declared.address.Addr.{Addr}
 use Rattle.lisp_records.specs.Address.{addr_eq}
 use Rattle.lisp_records.specs.Record.{MapRecordValue}
-use Rattle.lisp_records.specs.Result.{◌>>=◌}
-use Rattle.lisp_messages.specs.Authentic.{signed}
-use Rattle.lisp_messages.specs.Message.{MapNotifyValue, IsMapNotify, Notifies}
 use Rattle.lisp_messages.specs.Reading.{HasHead, HasRecords, message_at}
 use Rattle.lisp_messages.specs.Written.{written, written_notify}
 use Rattle.lisp_nonces.specs.declared.fate.Fate.{Fate}
 use Rattle.lisp_nonces.specs.Kept.{kept_at, NoneBelow}
 use Rattle.lisp_nonces.specs.Store.{StoreState}
-use Rattle.lisp_etr.specs.Config.{EtrConfigValue, sent_pair}
 use Rattle.lisp_etr.specs.Etr.{EtrState}
-use Rattle.lisp_etr.specs.Hearing.{Gives, ServerNotify, AnswerFits, HearsNotice, TakesMemory, ack_of, checked_notify, server_at, notify_from as heard_of, first_notice, notice_in, counted_as, counted_in, seen_in, seen_at, etr_after as left_after}
 use Rattle.lisp_etr.specs.Rounds.{round_of, rounds_after_count, latest_of, part_with, greatest, rounds_at}
-use Rattle.lisp_etr.specs.declared.notify_fault.NotifyFault.{NotifyFault}
 use Rattle.lisp_etr.specs.declared.notify_fault.NotifyFault.TheVariants as faults
 use Rattle.lisp_etr.specs.declared.rounds.Rounds.{Rounds}
 use Rattle.lisp_etr.specs.declared.seen.Seen.{Seen}
@@ -28,24 +31,76 @@ use Rattle.lisp_etr.specs.declared.seen.Seen.TheVariants.{Counted}
 use Rattle.lisp_model.specs.declared.event.Event.TheVariants as events
 use Rattle.lisp_model.specs.declared.line.Line.{Line}
 use Rattle.lisp_model.specs.declared.line.Line.TheVariants as lines
-use Rattle.lisp_model.specs.Trace.{EventValue, ShownStore, Step, Opening, fate_of, address_at, is_router, router_at, etr_config_under, etr_config, key, key_after, database, shown_store, is_up, up_after, database_after}
+use Rattle.lisp_model.specs.Trace.{EventValue, ShownStore, Step, Opening, fate_of, address_at, is_router, router_at, etr_config_under, etr_config, key, key_after, database, shown_store, is_up, up_after, database_after, node_at}
 use Rattle.lisp_model.specs.Keys.{keys_since_loss, keys_since_loss_after, keys_before_loss, keys_before_loss_after}
-use Rattle.lisp_model.specs.Bag.{Arrival, bytes_of, as_notify, ack_item, arrival_in, items_added, past, bag}
+use Rattle.lisp_model.specs.Bag.{Arrival, bytes_of, as_notify, ack_item, arrival_in, items_added, past, bag, Item, arrival_of, junk_arrival}
 use Rattle.lisp_model.specs.Counted.{server_from, notify_at, latest_nonces}
 use Rattle.lisp_model.specs.Hearing.{refused_with, counted_line, counted_or_stale, line_of, IsToAnswer, Hears}
-use Rattle.lisp_model.specs.Legal.{Arrives}
+use Rattle.lisp_model.specs.Legal.{Arrives, IsDelivered, MayCome}
 use Rattle.lisp_model.specs.Sending.{last_sent, start_values}
 use Rattle.lisp_model.specs.Context.{Context, IsBase}
+use Rattle.lisp_nonces.specs.declared.fate.Fate.TheVariants.{Done}
 use Rattle.lisp_refinement.specs.World.{DatagramValue, UsedKeysState, RouterNodeState, RouterCoreState, Up, Down, WorldState}
 use Rattle.lisp_refinement.specs.Calls.{CoreHears as HearsAs, UsesStore}
-use Rattle.lisp_refinement.specs.Events.{address_of, server_number, router_line, acknowledges, UpRouterHears, RouterHears, ArrivesAtRouter}
-use Rattle.lisp_refinement.specs.Stands.{Shows, Carries, StandsForRounds, StandsForEtr, StandsForCore, Marks, StandsForKeys, StandsForRouter, Stands}
-use Rattle.lisp_refinement.proofs.Acting.{adds_none, adds_one, Shown-in, uses_shown, address_is}
-use Rattle.lisp_refinement.proofs.HeardAlike.{Both, SameHeard, Alike, alike}
-use Rattle.lisp_refinement.proofs.PartRounds.{latest_known, rounds_stay, found_part}
-use Rattle.lisp_refinement.proofs.Places.{Placed, first_place, position_map}
-use Rattle.lisp_refinement.proofs.RouterEvents.{step_of, turn_at, shown_now, RouterStep, moved, acts_router, acts_part, acts_shows, acts_once}
-use Rattle.lisp_refinement.proofs.RouterRounds.{counted_here, counted_there, rounds_set}
+use Rattle.lisp_refinement.specs.Events.{address_of, server_number, router_line, acknowledges, UpRouterHears, RouterHears, ArrivesAtRouter, node_with}
+use Rattle.lisp_refinement.specs.Stands.{Shows, Carries, StandsForRounds, StandsForEtr, StandsForCore, Marks, StandsForKeys, StandsForRouter, Stands, StandsAfter}
+use Rattle.lisp_refinement.proofs.Acting.{adds_none, adds_one, Shown-in, uses_shown, address_is, step_of, turn_at, shown_now, RouterStep, moved, acts_router, acts_part, acts_shows, acts_once, counted_here, counted_there, rounds_set, stands_by}
+use Rattle.lisp_refinement.proofs.Places.{latest_known, rounds_stay, found_part, Placed, first_place, position_map}
+use Rattle.lisp_refinement.proofs.Gets.{get_within}
+use Rattle.lisp_refinement.proofs.Heads.{reads_signed}
+
+-- both are there, or neither
+abbrev pub Both : {X Y : Type 0} → Option X → Option Y → Type 0
+Both (Some x) (Some y) = Unit {0}
+Both None None = Unit {0}
+Both _ _ = ⊥
+
+-- the same Map-Notify passed, under the router's key
+pub record SameHeard (c : EtrConfigValue) (read : Result MessageValue ReadFault) (p q : Option ℕ) (h g : ServerNotify) : Type 0 where
+  pub message : h.message ≡ g.message
+  pub place : p ≡ Some h.server
+  pub server : q ≡ Some g.server
+  pub says : read ≡ Ok (Notifies g.message)
+  pub under : g.message.key_id ≡ c.key_id
+
+-- two results of the checks, alike
+abbrev pub Alike : EtrConfigValue → Result MessageValue ReadFault → Option ℕ → Option ℕ → Result ServerNotify NotifyFault → Result ServerNotify NotifyFault → Type 0
+Alike c read p q (Ok h) (Ok g) = SameHeard c read p q h g
+Alike c read p q (Err f) (Err g) = f ≡ g
+Alike c read p q _ _ = ⊥
+
+module _ (c : EtrConfigValue) (bytes : List ℕ) where
+  -- key and tag are checked alike
+  tested : (m : MapNotifyValue) (i j : ℕ) (key tag : Bool) → (m.key_id == c.key_id) ≡ key
+      → Alike c (Ok (Notifies m)) (Some i) (Some j) (check key WrongKey >>= λ _. check tag BadAuth >>= λ _. Ok (record { server = i; message = m })) (check key WrongKey >>= λ _. check tag BadAuth >>= λ _. Ok (record { server = j; message = m }))
+  tested m i j false tag is = refl
+  tested m i j true false is = refl
+  tested m i j true true is = record { message = refl; place = refl; server = refl; says = refl; under = (Decides-eqb m.key_id c.key_id).0 is }
+
+  -- the checks after the message was read
+  abbrev later : Option ℕ → MapNotifyValue → Result ServerNotify NotifyFault
+  later from m = ok_or from NotMine >>= λ server. check (m.key_id == c.key_id) WrongKey >>= λ _. check (is_authentic bytes c.secret) BadAuth >>= λ _. Ok (record { server = server; message = m })
+
+  -- they lead to the same from both
+  from_alike : (m : MapNotifyValue) (p q : Option ℕ) → Both p q → Alike c (Ok (Notifies m)) p q (later p m) (later q m)
+  from_alike m None None both = refl
+  from_alike m (Some i) (Some j) both = tested m i j (m.key_id == c.key_id) (is_authentic bytes c.secret) refl
+  from_alike m None (Some j) both = absurd both
+  from_alike m (Some i) None both = absurd both
+
+  -- and so they do where it may be a Map-Notify-Ack
+  notify_alike : (m : MapNotifyValue) (ack : Bool) (p q : Option ℕ) → Both p q → Alike c (Ok (Notifies m)) p q ((if ack then Err NotMine else Ok m) >>= later p) ((if ack then Err NotMine else Ok m) >>= later q)
+  notify_alike m true p q both = refl
+  notify_alike m false p q both = from_alike m p q both
+
+  -- all checks together
+  pub alike : (read : Result MessageValue ReadFault) (p q : Option ℕ) → Both p q → Alike c read p q (checked_notify c bytes read p) (checked_notify c bytes read q)
+  unfolding checked_notify
+  alike (Err fault) p q both = refl
+  alike (Ok (Registers m)) p q both = refl
+  alike (Ok (Notifies m)) p q both = notify_alike m m.ack p q both
+
+-- What arrives at a router: the row of its line, and what stands of the router afterwards.
 
 -- a datagram arrives, or bytes from outside
 abbrev pub IsArrival : EventValue → Type 0
@@ -420,3 +475,54 @@ module _ (A : Type 0) (old new : WorldState) (o : Opening) (T : List Step) (stan
   -- its row, and what stands of the router afterwards
   pub router_hears : Goes
   router_hears = hears_at arrived.acts.before.core refl part_here.core arrived.hears
+
+-- A datagram or bytes from outside arrive at a router: the network stands for the trace with that step.
+
+-- the row of a datagram that arrives, whichever line it comes to
+may_deliver : (t : Context) (k : ℕ) (fate : Fate) (line : Line) → IsDelivered t k line → MayCome t (events.Deliver k fate) line
+may_deliver t k fate (lines.Nowhere datagram) row = absurd row.arrives
+may_deliver t k fate _ row = row
+
+-- what was sent is read as it was said
+pub item_read : (d : DatagramValue) (i : Item) → Carries d i → message_at d.bytes ≡ Ok i.message
+unfolding bytes_of
+item_read d i carries = ap message_at carries.bytes ∙ reads_signed i.secret i.message carries.message
+
+-- a step with its row of an arrival, and with the row of its event
+with_row : (o : Opening) (T : List Step) (event : EventValue) (node : ℕ) (s : ShownStore) (Row Next : Line → Type 0) (line : Line) (more : List DatagramValue) (after : RouterNodeState) → (Row line → Next line)
+    → RouterStep o T event node s Row line more after → RouterStep o T event node s Next line more after
+with_row o T event node s Row Next line more after f step = record { row = f step.row; count = step.count; obedient = step.obedient; adds = step.adds; shows = step.shows; part = step.part }
+
+-- a datagram of the bag arrives at a router: the item that it carries is what the trace says of it
+module _ (A : Type 0) (old new : WorldState) (node : ℕ) (fate : Fate) (line : Line) (k : ℕ) (d : DatagramValue) (got : slice_get old.bag k ≡ Some d) (whom : node_with old d.to ≡ Some node)
+    (arrived : ArrivesAtRouter A old new node fate d.from d.bytes line) (o : Opening) (T : List Step) (stand : Stands old o T) where
+  delivered : (item : Item) → slice_get (bag o T) k ≡ Some item → Carries d item → Stands new o (step_of (events.Deliver k fate) node (shown_store o T node) line ∷ T)
+  delivered item sent carries = stands_by old new node arrived.more arrived.acts o T stand (events.Deliver k fate) (shown_store o T node) line refl
+      (with_row o T (events.Deliver k fate) node (shown_store o T node) (Arrives (turn_at o T node fate (shown_store o T node)) (arrival_of item)) (MayCome (turn_at o T node fate (shown_store o T node)) (events.Deliver k fate)) line arrived.more arrived.acts.after
+      (λ row. may_deliver (turn_at o T node fate (shown_store o T node)) k fate line (record { item = item; sent = sent; there = there; arrives = row }))
+      (router_hears A old new o T stand node fate d.from d.bytes line arrived (events.Deliver k fate) tt (arrival_of item) (ap (option_map arrival_of) sent) (sym carries.from) (sym carries.bytes) (sym (item_read d item carries))))
+    where
+      there : node_at o.config item.to ≡ Some node
+      there = (λ i. position (λ x. addr_eq x (sym carries.to i)) (sym stand.steps.addresses i)) ∙ whom
+
+  -- which item it is, the bag says
+  deliver_stands : Stands new o (step_of (events.Deliver k fate) node (shown_store o T node) line ∷ T)
+  deliver_stands =
+      let found = get_within (bag o T) k (let within = slice_get_within old.bag k d got in let count = stand.bag.count in omega (arith, within, count)) in
+      delivered found.0 found.1 (stand.bag.each k d found.0 got found.1)
+
+-- so the network stands for the trace with that step
+pub deliver_to_router_stands : (A : Type 0) (old new : WorldState) (node : ℕ) (fate : Fate) (line : Line) (k : ℕ) (d : DatagramValue) → slice_get old.bag k ≡ Some d → node_with old d.to ≡ Some node
+    → ArrivesAtRouter A old new node fate d.from d.bytes line → StandsAfter old new (events.Deliver k fate) line
+deliver_to_router_stands A old new node fate line k d got whom arrived o T stand = (node, shown_store o T node, deliver_stands A old new node fate line k d got whom arrived o T stand)
+
+-- bytes from outside arrive at a router
+pub junk_to_router_stands : (A : Type 0) (old new : WorldState) (node : ℕ) (from : Addr) (bytes : List ℕ) (line : Line) → ArrivesAtRouter A old new node Done from bytes line → StandsAfter old new (events.Junk node from bytes) line
+junk_to_router_stands A old new node from bytes line arrived o T stand = (
+  node,
+  shown_store o T node,
+  stands_by old new node arrived.more arrived.acts o T stand (events.Junk node from bytes) (shown_store o T node) line refl
+      (with_row o T (events.Junk node from bytes) node (shown_store o T node) (Arrives (turn_at o T node Done (shown_store o T node)) (junk_arrival from bytes)) (MayCome (turn_at o T node Done (shown_store o T node)) (events.Junk node from bytes)) line arrived.more arrived.acts.after
+      (λ row. record { acts = refl; arrives = row })
+      (router_hears A old new o T stand node Done from bytes line arrived (events.Junk node from bytes) tt (junk_arrival from bytes) refl refl refl refl)),
+)

@@ -22,10 +22,9 @@ use Rattle.lisp_refinement.specs.World.{RouterNodeState, WorldState}
 use Rattle.lisp_refinement.specs.Calls.{config_of, database_of}
 use Rattle.lisp_refinement.specs.Events.{NetworkLoses, loss_line}
 use Rattle.lisp_refinement.specs.Stands.{shown_by, Marks, StandsForKeys, StandsForRouter, Stands, StandsAfter}
-use Rattle.lisp_refinement.proofs.Going.{here}
-use Rattle.lisp_refinement.proofs.RouterEvents.{step_of, turn_at, acts_router, acts_part}
-use Rattle.lisp_refinement.proofs.Starting.{config_known, database_known, answer_line, goes_on, StartsBy, become_honest, loaded, start_stands}
-use Rattle.lisp_refinement.proofs.UsedKeys.{lists_one, lists_both, config_under, may_start}
+use Rattle.lisp_refinement.proofs.Acting.{here, step_of, turn_at, acts_router, acts_part}
+use Rattle.lisp_refinement.proofs.Restarting.{config_known, database_known, answer_line, goes_on, StartsBy, become_honest, loaded, start_stands}
+use Rattle.lisp_refinement.proofs.Rotating.{lists_one, lists_both, config_under, may_start}
 
 module _ (old new : WorldState) (node key : ℕ) (db : Option (List MapRecordValue)) (line : Line) (fits : Fits db) (loses : NetworkLoses old new node key db line) (o : Opening) (T : List Step) (stand : Stands old o T) where
   -- the router before

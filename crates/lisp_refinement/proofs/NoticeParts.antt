@@ -59,7 +59,7 @@ its_router router (x ∷ xs) n is = by (router_eq x.router router) refl is (its_
     by false other at later = later at
 
 -- a notice that was sent again is still its router's
-again_router : (me : RouterId) (now : ℕ) (x : Notice) → (resent_at me now x).router ≡ x.router
+pub again_router : (me : RouterId) (now : ℕ) (x : Notice) → (resent_at me now x).router ≡ x.router
 again_router me now x = by (router_eq x.router me)
   where
     by : (t : Bool) → (cond t (record x { moments = now ∷ x.moments }) x).router ≡ x.router

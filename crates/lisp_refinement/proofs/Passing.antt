@@ -3,7 +3,7 @@ use Rattle.std.proofs.Common.{◌≡◌, ℕ, ◌+◌, ◌-◌, ◌≤◌, Bool,
 use Rattle.std.specs.Prelude.{if◌then◌else◌, slice_get}
 use Rattle.std.specs.List.{find}
 use Rattle.std.specs.Option.{option_and_then}
-use Rattle.std.proofs.lemmas.Bool.{lt-ltb, ltb-true, le-ltb, and_right}
+use Rattle.std.proofs.lemmas.Bool.{le-ltb, and_right}
 use Rattle.std.proofs.lemmas.Option.{slice_get_within}
 use Rattle.lisp_records.specs.declared.router.RouterId.{RouterId}
 use Rattle.lisp_records.specs.Address.{PrefixValue}
@@ -25,13 +25,9 @@ use Rattle.lisp_refinement.specs.World.{ServerNodeState, RouterNodeState, WorldS
 use Rattle.lisp_refinement.specs.Events.{ExpiresNode, NetworkTicks}
 use Rattle.lisp_refinement.specs.Stands.{Shows, StandsInSteps, StandsInBag, StandsForServer, Stands, StandsAfter}
 use Rattle.lisp_refinement.proofs.Gets.{none_is_some, same_some, get_within}
-use Rattle.lisp_refinement.proofs.Going.{StandsForRows, server_rows, server_goes, router_stays}
-use Rattle.lisp_refinement.proofs.Acting.{server_is, router_is, router_number}
+use Rattle.lisp_refinement.proofs.Acting.{StandsForRows, server_rows, server_goes, router_stays, server_is, router_is, router_number}
 use Rattle.lisp_refinement.specs.Passing.{PassesNode, NetworkPasses, PassingStands, TicksArePasses, IdlingPasses}
-
--- what is alive later is alive now
-alive_before : (h : RowValue) (now later : ℕ) → now ≤ later → is_alive h later ≡ true → is_alive h now ≡ true
-alive_before h now later le alive = lt-ltb (now - h.accepted) h.life (omega (arith, le, ltb-true (later - h.accepted) h.life alive))
+use Rattle.lisp_model.proofs.LimitLaws.{alive_before}
 
 -- by what is alive now and later
 alive_twice_case : (h : RowValue) (now later : ℕ) → now ≤ later → (a b : Bool) → is_alive h now ≡ a → is_alive h later ≡ b
@@ -187,14 +183,6 @@ expired_passes n m now expires = record {
 -- and so does who drops none
 pub idle_passes : (n : ServerNodeState) (now : ℕ) → PassesNode n n now
 idle_passes n now = record { rows = λ router eid. refl; rest = refl }
-
--- the live rows of later stay, whatever went before
-pub pass_twice : (a b c : ServerNodeState) (now later : ℕ) → now ≤ later → PassesNode a b now → PassesNode b c later → PassesNode a c later
-pass_twice a b c now later le first second = record {
-  rows = λ router eid. second.rows router eid ∙ sym (alive_twice now later le (row_at b.core.rows router eid))
-      ∙ ap (option_and_then (if_alive later)) (first.rows router eid) ∙ alive_twice now later le (row_at a.core.rows router eid);
-  rest = second.rest ∙ ap (λ (x : ServerNodeState). record x { core = record x.core { rows = c.core.rows } }) first.rest;
-}
 
 -- in networks
 pub ticks_are_passes : TicksArePasses

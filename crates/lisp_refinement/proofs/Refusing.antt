@@ -1,41 +1,375 @@
--- What a Map-Server refuses is refused by a row of legal steps.
-use Rattle.std.proofs.Common.{◌≡◌, ℕ, Bool, List, Option, Some, None, Ok, Err, refl, sym, ap, subst, inl, inr, ◌∙◌}
-use Rattle.std.specs.Prelude.{IsTrue, ◌≢◌, ◌<◌, ◌⊎◌, ◌-◌, ◌^◌, Result}
+-- What a Map-Server has after it accepted a Map-Register, beside what a trace says that it holds.
+use Rattle.std.proofs.Common.{◌≡◌, ℕ, Bool, true, false, cond, List, ◌∷◌, Option, Some, None, refl, sym, ap, ◌∙◌, true≢false, Ok, Err, subst, [], map, inl, inr, ◌++◌}
+use Rattle.std.specs.Prelude.{◌≢◌, Result, IsTrue, ◌⊎◌, ◌==◌, not, if◌then◌else◌, ◌&&◌, slice_get, ◌<◌, ◌-◌, ◌^◌}
+use Rattle.std.specs.List.{find, Contains, filter}
+use Rattle.std.specs.Option.{option_map, option_and_then, option_or}
+use Rattle.std.specs.Ordering.{eq_by_cmp}
+use Rattle.std.proofs.lemmas.List.Elements.{All-contains, filter_passes}
+use Rattle.std.proofs.lemmas.Bool.{and_parts}
+use Rattle.std.proofs.lemmas.Bool.Decides.{Decides-eqb}
 use Rattle.lisp_records.specs.declared.address.Addr.{Addr}
+use Rattle.lisp_records.specs.declared.router.RouterId.{RouterId}
+use Rattle.lisp_records.specs.Address.{PrefixValue, addr_eq}
+use Rattle.lisp_records.specs.Router.{router_eq}
+use Rattle.lisp_records.specs.Row.{RowValue}
+use Rattle.lisp_records.proofs.RouterLaws.{router_eq-Decides}
+use Rattle.lisp_messages.specs.Message.{MapRegisterValue, MapNotifyValue, MessageValue, Registers, Notifies}
+use Rattle.lisp_nonces.specs.declared.pair.Pair.{Pair}
+use Rattle.lisp_nonces.specs.declared.pair.PairKind.TheVariants as kinds
+use Rattle.lisp_nonces.specs.Pair.{pair_cmp}
+use Rattle.lisp_lookup.specs.Table.{row_at, is_row_of, if_alive, last_of as last_given, Sets}
+use Rattle.lisp_admission.specs.Pairs.{router_of, pair_of, notice_pair}
+use Rattle.lisp_server.specs.declared.contacts.Contact.{Contact}
+use Rattle.lisp_admission.specs.AcceptedRows.{row_values}
+use Rattle.lisp_server.specs.Contacts.{contact_at, SetsContact}
+use Rattle.lisp_server.specs.LastNonces.{Nonces, nonce_at, SetsNonce}
+use Rattle.lisp_server.specs.Receiving.{contact_of, ServerRefuses, RefusesRegister, HasSpace as HasSpaceOf, LacksSpace as LacksSpaceOf}
+use Rattle.lisp_model.specs.Held.{Acceptance, is_of_pair, last_of, heard_last, accepted_rows, held_row}
+use Rattle.lisp_model.proofs.RowLaws.{held_more, held_other}
+use Rattle.lisp_model.proofs.KeptLemmas.{pair_itself, pair_same}
+use Rattle.lisp_records.specs.Result.{◌>>=◌}
 use Rattle.lisp_policy.specs.Site.{SiteValue}
-use Rattle.lisp_messages.specs.declared.fault.ReadFault.{ReadFault}
-use Rattle.lisp_messages.specs.Message.{MessageValue, MapRegisterValue, MapNotifyValue, Registers, Notifies}
-use Rattle.lisp_messages.specs.Reading.{HasHead}
-use Rattle.lisp_nonces.specs.declared.fault.StoreFault.{StoreFault}
-use Rattle.lisp_nonces.specs.declared.fate.Fate.{Fate}
-use Rattle.lisp_nonces.specs.declared.fate.Fate.TheVariants.{Doubt, LoadFails}
 use Rattle.lisp_nonces.specs.Kept.{Kept, kept_at, with_value, SameElsewhere, InDoubt}
 use Rattle.lisp_nonces.specs.Store.{StoreState}
-use Rattle.lisp_nonces.specs.declared.pair.Pair.{Pair}
 use Rattle.lisp_admission.specs.declared.refused.Refused.{Refused}
+use Rattle.lisp_admission.specs.Checks.{secret_under, secret_at, signed_by, most_jump_at, most_routers_at, most_rows_at}
+use Rattle.lisp_admission.specs.Nonces.{IsBase, IsFar, IsNear, KeepsLists, HasCause, IsBase as IsStoreBase, IsFresh as IsFreshFor}
+use Rattle.lisp_server.specs.Checks.{Passed, register_checked, answers_under, RefusesAck as RefusesAckOf}
+use Rattle.lisp_model.specs.Context.{IsBase as IsBaseIn, Context, Same, HasCause as HasCauseIn}
+use Rattle.lisp_model.specs.declared.line.Line.{Line}
+use Rattle.lisp_model.specs.Trace.{Step, Opening, router_at, clock, ShownStore, sites, shown_store}
+use Rattle.lisp_model.specs.Timers.{Notice, notices, notices_after, notices_to_others, resent_at, notice_to}
+use Rattle.lisp_model.proofs.CleanLemmas.{in_find, from_map}
+use Rattle.lisp_model.proofs.HearingLemmas.{find_true}
+use Rattle.lisp_model.proofs.ListLemmas.{in_none, head_or_tail}
+use Rattle.lisp_model.proofs.NoticeOrigins.{in_filter, notices_left}
+use Rattle.lisp_server.specs.Notices.{StandingNoticeValue, notice_at, awaits as waits_for, IsAwaiting, NoneAwaits, EndsNotice}
+use Rattle.lisp_nonces.specs.declared.fate.Fate.{Fate}
+use Rattle.lisp_model.specs.Bag.{Item, bag, Arrival, since_start}
+use Rattle.lisp_model.specs.Receiving.{went_to, awaits, awaiting, last_in, Admits, IsFresh, HasSpace, LacksSpace, rows_before, rows_with, RefusesAck, FailsNotify, RefusesMessage}
+use Rattle.lisp_model.specs.Legal.{LegalTrace}
+use Rattle.lisp_model.proofs.NoticeRising.{notices_differ}
+use Rattle.lisp_messages.specs.declared.fault.ReadFault.{ReadFault}
+use Rattle.lisp_messages.specs.Reading.{HasHead}
+use Rattle.lisp_nonces.specs.declared.fault.StoreFault.{StoreFault}
+use Rattle.lisp_nonces.specs.declared.fate.Fate.TheVariants.{Doubt, LoadFails}
 use Rattle.lisp_admission.specs.declared.refused.Refused.TheVariants as refuseds
 use Rattle.lisp_policy.specs.declared.full.Full.{Full}
 use Rattle.lisp_lookup.specs.Growth.{Fits, IsFull, live_rows, live_rows_with}
 use Rattle.lisp_lookup.proofs.GrowthLaws.{fits_alike, full_alike}
-use Rattle.lisp_admission.specs.Checks.{secret_under, most_jump_at, most_routers_at, most_rows_at}
-use Rattle.lisp_admission.specs.AcceptedRows.{row_values}
-use Rattle.lisp_admission.specs.Nonces.{IsFar, IsNear, KeepsLists, HasCause, IsBase as IsStoreBase, IsFresh as IsFreshFor}
-use Rattle.lisp_admission.specs.Pairs.{pair_of}
-use Rattle.lisp_server.specs.Checks.{Passed, register_checked, RefusesAck as RefusesAckOf, answers_under}
-use Rattle.lisp_server.specs.LastNonces.{nonce_at}
-use Rattle.lisp_server.specs.Receiving.{ServerRefuses, RefusesRegister, HasSpace as HasSpaceOf, LacksSpace as LacksSpaceOf}
-use Rattle.lisp_model.specs.Trace.{Step, Opening, sites, shown_store, clock}
-use Rattle.lisp_model.specs.Timers.{Notice}
-use Rattle.lisp_model.specs.Bag.{Arrival, since_start}
-use Rattle.lisp_model.specs.Legal.{LegalTrace}
-use Rattle.lisp_model.specs.Context.{Context, Same, HasCause as HasCauseIn}
-use Rattle.lisp_model.specs.Receiving.{last_in, Admits, IsFresh, HasSpace, LacksSpace, rows_before, rows_with, RefusesAck, FailsNotify, RefusesMessage}
+use Rattle.lisp_refinement.specs.Stands.{IsStanding, SameNotice, shown_by, Shows, StandsForServer}
 use Rattle.lisp_refinement.specs.World.{ServerNodeState}
-use Rattle.lisp_refinement.specs.Stands.{shown_by, Shows, StandsForServer}
-use Rattle.lisp_refinement.proofs.Acting.{by_fate}
-use Rattle.lisp_refinement.proofs.Acceptances.{not_notices, held_with}
-use Rattle.lisp_refinement.proofs.Checked.{is_passed, is_failed, base_in}
-use Rattle.lisp_refinement.proofs.StandingNotices.{awaited, none_awaited, signed_same}
+use Rattle.lisp_refinement.proofs.Gets.{none_is_some}
+use Rattle.lisp_refinement.proofs.Acting.{notice_goes, by_fate}
+use Rattle.lisp_refinement.proofs.NoticeParts.{again_router}
+
+-- the pair of a Map-Register isn't that of notices
+pub not_notices : (m : MapRegisterValue) → pair_of m ≢ notice_pair
+not_notices m e = absurd (let clash : kinds.Received ≡ kinds.Notice = ap (λ (p : Pair). p.kind) e in cc)
+
+-- what follows the first of two values only counts where there is no first one
+first_or : {X Y : Type 0} (f : X → Option Y) (x y z : Option X) → option_and_then f y ≡ option_and_then f z → option_and_then f (option_or x y) ≡ option_and_then f (option_or x z)
+first_or f None y z same = same
+first_or f (Some x) y z same = refl
+
+module _ (m : MapRegisterValue) (from : Addr) (now : ℕ) (since : List Acceptance) where
+  abbrev one : Acceptance
+  one = record { message = m; from = from; moment = now }
+
+  -- the last nonces
+  pub nonces_after : (old new : Nonces) → SetsNonce old new (pair_of m) m.nonce → (pair : Pair) → nonce_at old pair ≡ last_of pair since → nonce_at new pair ≡ last_of pair (one ∷ since)
+  nonces_after old new sets pair was = at (eq_by_cmp pair_cmp pair (pair_of m)) refl
+    where
+      at : (b : Bool) → eq_by_cmp pair_cmp pair (pair_of m) ≡ b → nonce_at new pair ≡ option_map (λ a. a.message.nonce) (cond b (Some one) (find (is_of_pair pair) since))
+      at true same = ap (nonce_at new) (pair_same pair (pair_of m) same) ∙ sets.here
+      at false other = sets.others pair (λ e. true≢false (sym (ap (λ (p : Pair). eq_by_cmp pair_cmp p (pair_of m)) e ∙ pair_itself (pair_of m)) ∙ other)) ∙ was
+
+  module _ (router : RouterId) (eid : PrefixValue) where
+    -- what is held then is what rows would show that show what is held
+    pub held_with : (old : List RowValue) → option_and_then (if_alive now) (row_at old router eid) ≡ held_row since router eid now
+        → option_and_then (if_alive now) (option_or (last_given (row_values m from now) router eid) (row_at old router eid)) ≡ held_row (one ∷ since) router eid now
+    held_with old was = first_or (if_alive now) (last_given (row_values m from now) router eid) (row_at old router eid) (find (is_row_of router eid) (accepted_rows since)) was ∙ held_more m from now since router eid
+
+    -- what is held of a router and a prefix
+    pub rows_after : (old new : List RowValue) → Sets old new (row_values m from now) → option_and_then (if_alive now) (row_at old router eid) ≡ held_row since router eid now
+        → option_and_then (if_alive now) (row_at new router eid) ≡ held_row (one ∷ since) router eid now
+    rows_after old new sets was =
+        ap (option_and_then (if_alive now)) (sets router eid)
+        ∙ held_with old was
+
+    -- where routers were heard
+    pub contacts_after : (old new : List Contact) → SetsContact old new (contact_of m from)
+        → ((h : RowValue) → held_row since router eid now ≡ Some h → contact_at old router ≡ option_map (λ a. contact_of a.message a.from) (heard_last router since))
+        → (h : RowValue) → held_row (one ∷ since) router eid now ≡ Some h → contact_at new router ≡ option_map (λ a. contact_of a.message a.from) (heard_last router (one ∷ since))
+    contacts_after old new sets was h is = at (router_eq (router_of m) router) refl
+      where
+        at : (b : Bool) → router_eq (router_of m) router ≡ b → contact_at new router ≡ option_map (λ a. contact_of a.message a.from) (cond b (Some one) (heard_last router since))
+        at true same = ap (contact_at new) (sym ((router_eq-Decides (router_of m) router).0 same)) ∙ sets.here
+        at false other = sets.others router (λ e. true≢false (sym ((router_eq-Decides (router_of m) router).1 (sym e)) ∙ other)) ∙ was h (held_other m from now since router eid other ∙ is)
+
+-- What the checks of a Map-Register come to, its fields and its secret, and the number that its nonce is above.
+
+-- a result is a value or a refusal
+module _ {X : Type 0} where
+  ok_clash : {why : Refused} {x : X} → ◌≡◌ {A = Result X Refused} (Err why) (Ok x) → ⊥
+  ok_clash e = absurd cc
+
+  err_clash : {why : Refused} {x : X} → ◌≡◌ {A = Result X Refused} (Ok x) (Err why) → ⊥
+  err_clash e = absurd cc
+
+  err_same : (one other : Refused) → ◌≡◌ {A = Result X Refused} (Err one) (Err other) → one ≡ other
+  err_same one other e = cc
+
+-- a Map-Register that passed the checks: what passed is its own, and it stands under its secret
+pub record IsPassed (sites : List SiteValue) (from : Addr) (bytes : List ℕ) (m : MapRegisterValue) (passed : Passed) : Type 0 where
+  pub message : passed.message ≡ m
+  pub checks : secret_under sites from bytes m ≡ Ok passed.secret
+
+module _ (sites : List SiteValue) (from : Addr) (bytes : List ℕ) (m : MapRegisterValue) where
+  -- what passed the checks has passed each
+  passed_case : (passed : Passed) (r : Result (List ℕ) Refused) → secret_under sites from bytes m ≡ r → (r >>= λ secret. Ok (record { message = m; secret = secret })) ≡ Ok passed → IsPassed sites from bytes m passed
+  passed_case passed (Ok secret) is e =
+      let same : record { message = m; secret = secret } ≡ passed = (let at : ◌≡◌ {A = Result Passed Refused} (Ok (record { message = m; secret = secret })) (Ok passed) = e in cc) in
+      record { message = ap (λ (p : Passed). p.message) (sym same); checks = is ∙ ap (λ (p : Passed). Ok p.secret) same }
+  passed_case passed (Err why) is e = absurd (ok_clash e)
+
+  pub is_passed : (passed : Passed) → register_checked sites from bytes m ≡ Ok passed → IsPassed sites from bytes m passed
+  is_passed passed e = passed_case passed (secret_under sites from bytes m) refl e
+
+  -- one that failed a check is refused for it
+  failed_case : (why : Refused) (r : Result (List ℕ) Refused) → ◌≡◌ {A = Result Passed Refused} (r >>= λ secret. Ok (record { message = m; secret = secret })) (Err why) → r ≡ Err why
+  failed_case why (Ok secret) e = absurd (err_clash e)
+  failed_case why (Err other) e = ap Err (err_same other why e)
+
+  pub is_failed : (why : Refused) → register_checked sites from bytes m ≡ Err why → secret_under sites from bytes m ≡ Err why
+  is_failed why e = failed_case why (secret_under sites from bytes m) e
+
+-- a base that an honest store may answer is one by what it keeps
+base_kept : (last : Option ℕ) (store : StoreState) (pair : Pair) (base : Option ℕ) → IsTrue store.is_honest → IsBase last store pair base → IsBaseIn last (kept_at store.kept pair) base
+base_kept (Some x) store pair base honest is = is
+base_kept None store pair base honest is = is.1 honest
+
+-- and by what the trace says of the last nonce and of the store
+pub base_in : (known last : Option ℕ) (store : StoreState) (kept : Kept) (pair : Pair) (base : Option ℕ) → IsTrue store.is_honest → store.kept ≡ kept → known ≡ last → IsBase known store pair base → IsBaseIn last (kept_at kept pair) base
+base_in known last store kept pair base honest shown same is =
+    subst (λ (l : Option ℕ). IsBaseIn l (kept_at kept pair) base) same (subst (λ (k : Kept). IsBaseIn known (kept_at k pair) base) shown (base_kept known store pair base honest is))
+
+-- A look-up that one element alone passes; and of the notices that stand at a Map-Server one for each router.
+
+-- what a look-up finds, where one element alone passes
+module _ {X : Type 0} (p : X → Bool) where
+  some_clash : {x : X} → ◌≡◌ {A = Option X} (Some x) None → ⊥
+  some_clash e = absurd cc
+
+  -- where nothing is found, nothing passes
+  find_none : (xs : List X) (x : X) → find p xs ≡ None → Contains xs x → p x ≡ false
+  find_none [] x e has = absurd (in_none x has)
+  find_none (y ∷ ys) x e has = at (p y) refl e (head_or_tail y ys x has) (find_none ys x)
+    where
+      at : (b : Bool) → p y ≡ b → cond b (Some y) (find p ys) ≡ None → (x ≡ y) ⊎ Contains ys x → (find p ys ≡ None → Contains ys x → p x ≡ false) → p x ≡ false
+      at true is e where_is later = absurd (some_clash e)
+      at false is e (inl same) later = ap p same ∙ is
+      at false is e (inr more) later = later e more
+
+  -- what alone passes is found
+  pub find_only : (xs : List X) (x : X) → Contains xs x → p x ≡ true → ((y : X) → Contains xs y → p y ≡ true → y ≡ x) → find p xs ≡ Some x
+  find_only xs x has passes only = at (find p xs) refl
+    where
+      at : (found : Option X) → find p xs ≡ found → found ≡ Some x
+      at None e = absurd (true≢false (sym passes ∙ find_none xs x e has))
+      at (Some y) e = ap Some (only y (in_find p xs y e) (find_true p xs y e))
+
+  -- where nothing passes, nothing is found
+  pub find_nothing : (xs : List X) → ((y : X) → Contains xs y → p y ≡ true → ⊥) → find p xs ≡ None
+  find_nothing xs none = at (find p xs) refl
+    where
+      at : (found : Option X) → find p xs ≡ found → found ≡ None
+      at None e = refl
+      at (Some y) e = absurd (none y (in_find p xs y e) (find_true p xs y e))
+
+  -- what a filter leaves passes it
+  pub passes_filter : (xs : List X) (x : X) → Contains (filter p xs) x → p x ≡ true
+  passes_filter xs x has = All-contains (λ x. p x ≡ true) (filter p xs) x (filter_passes p xs) has
+
+  -- a filter that leaves what is looked for leaves the look-up
+  pub find_filter : (q : X → Bool) (xs : List X) → ((x : X) → q x ≡ true → p x ≡ true) → find q (filter p xs) ≡ find q xs
+  find_filter q [] leaves = refl
+  find_filter q (x ∷ xs) leaves = at (p x) (q x) refl refl (find_filter q xs leaves)
+    where
+      at : (b c : Bool) → p x ≡ b → q x ≡ c → find q (filter p xs) ≡ find q xs → find q (cond b (x ∷ filter p xs) (filter p xs)) ≡ cond c (Some x) (find q xs)
+      at true true is its later = ap (λ d. cond d (Some x) (find q (filter p xs))) its
+      at true false is its later = ap (λ d. cond d (Some x) (find q (filter p xs))) its ∙ later
+      at false true is its later = absurd (true≢false (sym (leaves x its) ∙ is))
+      at false false is its later = later
+
+not_true : (b : Bool) → not b ≡ true → b ≡ false
+not_true true e = absurd (true≢false (sym e))
+not_true false e = refl
+
+-- no two notices are for one router
+abbrev pub OneEach : List Notice → Type 0
+OneEach ns = (m n : Notice) → Contains ns m → Contains ns n → m.router ≡ n.router → m ≡ n
+
+module _ (router : RouterId) (old : List Notice) where
+  -- a notice that is left is another router's
+  pub not_its : (x : Notice) → Contains (notices_to_others router old) x → x.router ≢ router
+  not_its x has same = true≢false (sym ((router_eq-Decides x.router router).1 same) ∙ not_true (router_eq x.router router) (passes_filter (λ n. not (router_eq n.router router)) old x has))
+
+  was : (x : Notice) → Contains (notices_to_others router old) x → Contains old x
+  was x has = in_filter (λ n. not (router_eq n.router router)) old x has
+
+  -- fewer notices are one for each router too
+  one_less : OneEach old → OneEach (notices_to_others router old)
+  one_less one m n has_m has_n same = one m n (was m has_m) (was n has_n) same
+
+  -- and so are they with one for the router whose notice was taken out
+  one_more : (x : Notice) → x.router ≡ router → OneEach old → OneEach (x ∷ notices_to_others router old)
+  one_more x its one m n has_m has_n same = at (head_or_tail x (notices_to_others router old) m has_m) (head_or_tail x (notices_to_others router old) n has_n)
+    where
+      at : (m ≡ x) ⊎ Contains (notices_to_others router old) m → (n ≡ x) ⊎ Contains (notices_to_others router old) n → m ≡ n
+      at (inl is_m) (inl is_n) = is_m ∙ sym is_n
+      at (inl is_m) (inr more_n) = absurd (not_its n more_n (sym same ∙ ap (λ (y : Notice). y.router) is_m ∙ its))
+      at (inr more_m) (inl is_n) = absurd (not_its m more_m (same ∙ ap (λ (y : Notice). y.router) is_n ∙ its))
+      at (inr more_m) (inr more_n) = one m n (was m more_m) (was n more_n) same
+
+one_again : (router : RouterId) (now : ℕ) (old : List Notice) → OneEach old → OneEach (map (resent_at router now) old)
+one_again router now old one m n has_m has_n same =
+    let of_m = from_map (resent_at router now) old m has_m in
+    let of_n = from_map (resent_at router now) old n has_n in
+    let both : of_m.0.router ≡ of_n.0.router = sym (ap (λ (y : Notice). y.router) of_m.2 ∙ again_router router now of_m.0) ∙ same ∙ ap (λ (y : Notice). y.router) of_n.2 ∙ again_router router now of_n.0 in
+    of_m.2 ∙ ap (resent_at router now) (one of_m.0 of_n.0 of_m.1 of_n.1 both) ∙ sym of_n.2
+
+module _ (o : Opening) where
+  -- a line leaves one notice for each router
+  one_case : (line : Line) (now k : ℕ) (old : List Notice) → OneEach old → OneEach (notices_after o.config line now k old)
+  one_case line now k old one = notices_left o.config now k old OneEach one (λ router. one_again router now old one) (λ router. one_less router old one) (λ m n has_m has_n same. absurd (in_none m has_m)) line
+      (λ router key nonce datagram is. one_more (router_at o.config router).me old _ refl one)
+
+  -- so does a trace
+  pub one_each : (T : List Step) (k : ℕ) → OneEach (notices o T k)
+  one_each [] k = λ m n has_m has_n same. absurd (in_none m has_m)
+  one_each (s ∷ T) k = one_case s.line (clock T) k (notices o T k) (one_each T k)
+
+-- The notices that stand at a Map-Server, by the trace and by what it keeps.
+
+module _ (o : Opening) (T : List Step) (node : ℕ) (kept : List StandingNoticeValue) (same : (router : RouterId) → SameNotice o T node (notice_to o T node router) (notice_at kept router)) where
+  -- a notice that is kept stands
+  pub record Stood (router : RouterId) (n : StandingNoticeValue) : Type 0 where
+    pub notice : Notice
+    pub there : notice_to o T node router ≡ Some notice
+    pub is : IsStanding o T node notice n
+
+  -- it is found by its router
+  pub stood : (router : RouterId) (n : StandingNoticeValue) → notice_at kept router ≡ Some n → Stood router n
+  stood router n at_router = at (notice_to o T node router) (notice_at kept router) refl at_router (same router)
+    where
+      at : (a : Option Notice) (b : Option StandingNoticeValue) → notice_to o T node router ≡ a → b ≡ Some n → SameNotice o T node a b → Stood router n
+      at (Some x) (Some k) there e is = let its : k ≡ n = cc in record { notice = x; there = there; is = subst (λ (z : StandingNoticeValue). IsStanding o T node x z) its is }
+      at None (Some k) there e is = absurd is
+      at a None there e is = absurd (none_is_some e)
+
+  -- and one that stands is kept
+  pub record KeptFor (x : Notice) (router : RouterId) : Type 0 where
+    pub standing : StandingNoticeValue
+    pub there : notice_at kept router ≡ Some standing
+    pub is : IsStanding o T node x standing
+
+  -- it too is found by its router
+  pub kept_for : (x : Notice) (router : RouterId) → notice_to o T node router ≡ Some x → KeptFor x router
+  kept_for x router at_router = at (notice_to o T node router) (notice_at kept router) at_router refl (same router)
+    where
+      at : (a : Option Notice) (b : Option StandingNoticeValue) → a ≡ Some x → notice_at kept router ≡ b → SameNotice o T node a b → KeptFor x router
+      at (Some y) (Some k) e there is = let its : y ≡ x = cc in record { standing = k; there = there; is = subst (λ (z : Notice). IsStanding o T node z k) its is }
+      at (Some y) None e there is = absurd is
+      at None b e there is = absurd (none_is_some e)
+
+  module _ (fate : Fate) (before after : ShownStore) (from : Addr) (m : MapNotifyValue) where
+    abbrev hearing_turn : Context
+    hearing_turn = record { opening = o; past = T; node = node; fate = fate; before = before; after = after }
+
+    -- they wait for the same acknowledgements
+    waits_same : (x : Notice) (n : StandingNoticeValue) → IsStanding o T node x n → awaits hearing_turn from m x ≡ waits_for from m.key_id m.nonce n
+    waits_same x n is =
+        ap (λ (i : Option Item). went_to from i && (x.key == m.key_id) && (x.nonce == m.nonce)) is.sent
+        ∙ (λ i. addr_eq (sym is.to i) from && (sym is.key i == m.key_id) && (sym is.nonce i == m.nonce))
+
+    -- the nonce that is awaited is the notice's
+    its_nonce : (x : Notice) → awaits hearing_turn from m x ≡ true → x.nonce ≡ m.nonce
+    its_nonce x waits = (Decides-eqb x.nonce m.nonce).0
+        (and_parts (went_to from (slice_get (bag o T) x.datagram) && (x.key == m.key_id)) (x.nonce == m.nonce) waits).1
+
+    -- the notice that is awaited
+    pub record Awaited (n : StandingNoticeValue) : Type 0 where
+      pub notice : Notice
+      pub there : notice_to o T node n.router ≡ Some notice
+      pub is : IsStanding o T node notice n
+      pub stands : awaiting hearing_turn from m ≡ Some notice
+
+    -- what is awaited by a notice that is kept is awaited by the one that stands, and that alone
+    pub awaited : LegalTrace o T → (n : StandingNoticeValue) → IsAwaiting kept from m.key_id m.nonce n → Awaited n
+    awaited legal n its =
+        let s = stood n.router n its.stands in
+        let has = in_find (λ x. router_eq x.router n.router) (notices o T node) s.notice s.there in
+        let waits = waits_same s.notice n s.is ∙ its.waits in
+        record {
+          notice = s.notice;
+          there = s.there;
+          is = s.is;
+          stands = find_only (awaits hearing_turn from m) (notices o T node) s.notice has waits
+              (λ y has_y waits_y. notices_differ o T legal node y s.notice has_y has (its_nonce y waits_y ∙ sym (its_nonce s.notice waits)));
+        }
+
+    -- what no notice that is kept waits for, none that stands waits for
+    pub none_awaited : NoneAwaits kept from m.key_id m.nonce → awaiting hearing_turn from m ≡ None
+    none_awaited none = find_nothing (awaits hearing_turn from m) (notices o T node) never
+      where
+        never : (x : Notice) → Contains (notices o T node) x → awaits hearing_turn from m x ≡ true → ⊥
+        never x has waits =
+            let there = find_only (λ y. router_eq y.router x.router) (notices o T node) x has ((router_eq-Decides x.router x.router).1 refl)
+            (λ y has_y passes. one_each o T node y x has_y has ((router_eq-Decides y.router x.router).0 passes)) in
+            let k = kept_for x x.router there in
+            true≢false (sym waits ∙ waits_same x k.standing k.is ∙ none x.router k.standing k.there)
+
+  -- they are signed by the same key
+  pub signed_same : (sites : List SiteValue) (bytes : List ℕ) (x : Notice) (n : StandingNoticeValue) → IsStanding o T node x n → signed_by (secret_at sites x.router.site x.key) bytes ≡ answers_under sites bytes n
+  signed_same sites bytes x n is = λ i. signed_by (secret_at sites (sym is.router i).site (sym is.key i)) bytes
+
+  -- after one has ended, the others stand
+  pub ended_same : (U : List Step) (new : List StandingNoticeValue) (ended : RouterId) → EndsNotice kept new ended → bag o U ≡ bag o T ++ [] → (router : RouterId) → SameNotice o U node (find (λ x. router_eq x.router router) (notices_to_others ended (notices o T node))) (notice_at new router)
+  ended_same U new ended ends grown router = at (router_eq router ended) refl
+    where
+      others : Notice → Bool
+      others n = not (router_eq n.router ended)
+
+      at : (b : Bool) → router_eq router ended ≡ b → SameNotice o U node (find (λ x. router_eq x.router router) (notices_to_others ended (notices o T node))) (notice_at new router)
+      at true its = nowhere
+        where
+          is : router ≡ ended
+          is = (router_eq-Decides router ended).0 its
+
+          none : find (λ x. router_eq x.router router) (notices_to_others ended (notices o T node)) ≡ None
+          none = find_nothing (λ x. router_eq x.router router) (notices_to_others ended (notices o T node))
+              (λ x has passes. not_its ended (notices o T node) x has ((router_eq-Decides x.router router).0 passes ∙ is))
+
+          nowhere : SameNotice o U node (find (λ x. router_eq x.router router) (notices_to_others ended (notices o T node))) (notice_at new router)
+          nowhere = subst (λ (a : Option Notice). SameNotice o U node a (notice_at new router)) (sym none) (subst (λ (b : Option StandingNoticeValue). SameNotice o U node None b) (sym (ap (notice_at new) is ∙ ends.here)) tt)
+      at false other = elsewhere
+        where
+          differs : router ≢ ended
+          differs e = true≢false (sym ((router_eq-Decides router ended).1 e) ∙ other)
+
+          leaves : (x : Notice) → router_eq x.router router ≡ true → others x ≡ true
+          leaves x passes = is_other (router_eq x.router ended) refl
+            where
+              is_other : (b : Bool) → router_eq x.router ended ≡ b → not (router_eq x.router ended) ≡ true
+              is_other true its = absurd (differs (sym ((router_eq-Decides x.router router).0 passes) ∙ (router_eq-Decides x.router ended).0 its))
+              is_other false apart = ap not apart
+
+          elsewhere : SameNotice o U node (find (λ x. router_eq x.router router) (notices_to_others ended (notices o T node))) (notice_at new router)
+          elsewhere = subst (λ (a : Option Notice). SameNotice o U node a (notice_at new router)) (sym (find_filter others (λ x. router_eq x.router router) (notices o T node) leaves))
+              (subst (λ (b : Option StandingNoticeValue). SameNotice o U node (notice_to o T node router) b) (sym (ends.others router differs)) (notice_goes o T U node ([], grown) (notice_to o T node router) (notice_at kept router) (same router)))
+
+-- What a Map-Server refuses is refused by a row of legal steps.
 
 -- what arrives, from where, and what is read in it
 abbrev pub arriving : Addr → List ℕ → Result MessageValue ReadFault → Arrival

@@ -25,8 +25,7 @@ use Rattle.lisp_refinement.specs.World.{ServerNodeState, WorldState}
 use Rattle.lisp_refinement.specs.Events.{reload_line, NetworkReloads}
 use Rattle.lisp_refinement.specs.Stands.{Shows, SameNotice, StandsForServer, Stands, StandsAfter}
 use Rattle.lisp_refinement.proofs.Gets.{none_is_some}
-use Rattle.lisp_refinement.proofs.Going.{here, notice_goes}
-use Rattle.lisp_refinement.proofs.Acting.{adds_none, server_is, server_acts}
+use Rattle.lisp_refinement.proofs.Acting.{here, notice_goes, adds_none, server_is, server_acts}
 use Rattle.lisp_refinement.proofs.Restarting.{no_row, no_nonce, no_notice}
 
 module _ (old new : WorldState) (server : ℕ) (given : List SiteValue) (line : Line) (turn : NetworkReloads old new server given line) (o : Opening) (T : List Step) (stand : Stands old o T) where

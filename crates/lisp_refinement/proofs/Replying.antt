@@ -28,9 +28,8 @@ use Rattle.lisp_refinement.specs.World.{ServerNodeState, WorldState}
 use Rattle.lisp_refinement.specs.Stands.{StandsForServer, Stands}
 use Rattle.lisp_refinement.specs.Headline.{Lists, IsSentRow}
 use Rattle.lisp_refinement.specs.Replied.{NodeReplies, IsSentRecord, GoesOn, ReadsWhatWasSent, RepliesArePromised}
-use Rattle.lisp_refinement.proofs.Asking.{lists_held}
+use Rattle.lisp_refinement.proofs.Asking.{lists_held, same_live}
 use Rattle.lisp_refinement.proofs.Headlines.{networks_promise}
-use Rattle.lisp_refinement.proofs.HeldLists.{same_live}
 
 -- two lists that are one have one first element
 same_first : {X : Type 0} (all : List X) (x y : X) (xs ys : List X) → all ≡ x ∷ xs → all ≡ y ∷ ys → x ≡ y

@@ -27,9 +27,8 @@ use Rattle.lisp_messages.specs.Message.{IsMessage}
 use Rattle.lisp_refinement.specs.World.{DatagramValue, ServerNodeState, WorldState}
 use Rattle.lisp_refinement.specs.Events.{address_of, NodeResends, SaysResendAnswer, NetworkResends}
 use Rattle.lisp_refinement.specs.Stands.{Shows, IsStanding, SameNotice, StandsForServer, Stands, StandsAfter}
-use Rattle.lisp_refinement.proofs.Acting.{Adds, adds_none, adds_one, server_is, address_is, server_acts}
+use Rattle.lisp_refinement.proofs.Acting.{Adds, adds_none, adds_one, server_is, address_is, server_acts, notice_goes}
 use Rattle.lisp_refinement.proofs.Gets.{get_before}
-use Rattle.lisp_refinement.proofs.Going.{notice_goes}
 use Rattle.lisp_refinement.proofs.NoticeParts.{its_me, known_router, same_or_other, found, found_again, its_router, sent_again_own, others_again, kept_stands, part_after}
 
 -- the trace's notice is due where the server's is

@@ -43,13 +43,9 @@ use Rattle.lisp_refinement.specs.World.{DatagramValue, RouterNodeState, RouterCo
 use Rattle.lisp_refinement.specs.Calls.{CoreSends, IsSendFaultOf, CoreRefusesToSend, CoreAnswersSend}
 use Rattle.lisp_refinement.specs.Events.{address_of, place_of, SaysSendAnswer, UpRouterSends, RouterSends, NetworkSends}
 use Rattle.lisp_refinement.specs.Stands.{shown_by, Shows, Carries, StandsForRounds, StandsForEtr, StandsForCore, StandsForKeys, StandsForRouter, Stands, StandsAfter}
-use Rattle.lisp_refinement.proofs.Acting.{adds_none, adds_one, by_fate, Shown-in, uses_shown, address_is}
+use Rattle.lisp_refinement.proofs.Acting.{adds_none, adds_one, by_fate, Shown-in, uses_shown, address_is, step_of, turn_at, shown_now, RouterStep, moved, acts_router, acts_part, acts_shows, acts_once, stands_by, sent_here, sent_there, rounds_set}
 use Rattle.lisp_refinement.proofs.Heads.{head_written}
-use Rattle.lisp_refinement.proofs.PartLists.{few_parts}
-use Rattle.lisp_refinement.proofs.PartRounds.{rounds_stay}
-use Rattle.lisp_refinement.proofs.Places.{Placed, first_place, any_found}
-use Rattle.lisp_refinement.proofs.RouterEvents.{step_of, turn_at, shown_now, RouterStep, moved, acts_router, acts_part, acts_shows, acts_once, stands_by}
-use Rattle.lisp_refinement.proofs.RouterRounds.{sent_here, sent_there, rounds_set}
+use Rattle.lisp_refinement.proofs.Places.{few_parts, rounds_stay, Placed, first_place, any_found}
 
 -- the place of a server in a list, or none
 abbrev HasPlace : List ℕ → ℕ → ℕ → Type 0

@@ -1,5 +1,3 @@
 pub mod Fault
 pub mod Table
 pub mod Numbers
-pub mod Document
-pub mod Output

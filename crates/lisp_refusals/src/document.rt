@@ -2,8 +2,7 @@
 
 ghost use Rattle.std.specs.Prelude.{◌≡◌, ◌++◌, OnOk, IfErr, codes};
 ghost use Rattle.std.specs.Fmt.{decimal};
-ghost use Rattle.lisp_refusals.specs.Output.{joined, Writes};
-ghost use Rattle.lisp_refusals.specs.Document.{WritesDocument, body, section_document, section_head, row_line};
+ghost use Rattle.lisp_refusals.specs.Table.{joined, Writes, WritesDocument, body, section_document, section_head, row_line};
 ghost use Rattle.lisp_refusals.specs.declared.fault.ExplainFault.TheVariants as faults;
 
 use crate::fault::ExplainFault;
@@ -44,7 +43,7 @@ fn write_section<W: Write>(section: &Section, writer: &mut W) -> Result<(), Expl
 }
 
 // What stands before the rows of a section.
-#[tactic(auto, unfolding(crate::specs::Document::section_head))]
+#[tactic(auto, unfolding(crate::specs::Table::section_head))]
 fn texts_before_rows(section: &Section) -> [&'static str; 6]
     ensures { joined result ≡ section_head section.now }
 {
@@ -70,7 +69,7 @@ fn write_row<W: Write>(row: &Row, writer: &mut W) -> Result<(), ExplainFault>
 }
 
 // What stands behind the number in the line of a row.
-#[tactic(auto, unfolding(crate::specs::Document::row_line))]
+#[tactic(auto, unfolding(crate::specs::Table::row_line))]
 fn texts_behind_number(row: &Row) -> [&'static str; 14]
     ensures { codes "| " ++ decimal row.now.number ++ joined result ≡ row_line row.now }
 {

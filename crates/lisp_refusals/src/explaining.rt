@@ -3,14 +3,12 @@
 ghost use Rattle.std.specs.Prelude.{◌≡◌, ◌↔◌, ◌++◌, OnOk, IfErr, IsErrOf, false};
 ghost use Rattle.std.specs.Fmt.{decimal};
 ghost use Rattle.std.specs.Io.KnownBytes.{Keeps};
-ghost use Rattle.lisp_refusals.specs.Output.{joined, Writes};
+ghost use Rattle.lisp_refusals.specs.Table.{joined, Writes, has_row, is_in, explained, section_text, entry, row_text, Explains};
 ghost use Rattle.lisp_refusals.specs.Numbers.{is_known};
-ghost use Rattle.lisp_refusals.specs.Table.{has_row, is_in, explained, section_text, entry, row_text, Explains};
 ghost use Rattle.lisp_refusals.specs.declared.fault.ExplainFault.TheVariants.{Unknown};
 ghost use Rattle.lisp_refusals.specs.declared.fault.ExplainFault.TheVariants as faults;
 
 use crate::fault::ExplainFault;
-use crate::first_row::{first_row, first_section};
 use crate::output::{mark_at, write_number, write_texts};
 use crate::row::{Row, Section};
 use crate::table::sections;
@@ -41,14 +39,14 @@ pub fn explain<W: Write>(number: u16, writer: &mut W) -> Result<(), ExplainFault
 fn is_in(sections: &[Section], number: u16) -> bool
     ensures { result ≡ is_in number sections.now }
 {
-    first_section(sections, number).is_some()
+    sections.iter().any(|section| has_row(section, number))
 }
 
 // Whether a row of the section has the number.
 pub(crate) fn has_row(section: &Section, number: u16) -> bool
     ensures { result ≡ has_row number section.now }
 {
-    first_row(section, number).is_some()
+    section.rows.iter().any(|row| row.number == number)
 }
 
 // Writes the rows with the number.

@@ -1,19 +1,12 @@
 //! Every number of a refusal or a fault, in one table: what it means, when it comes, and what an operator does about it.
 #![tactic(auto)]
 
-mod configuration_faults;
 mod document;
 mod explaining;
 mod fault;
-mod first_row;
-mod library_refusals;
 mod message_faults;
-mod network_faults;
-mod notice_faults;
 mod output;
 mod program_faults;
-mod request_faults;
-mod resolve_refusals;
 mod router_faults;
 mod row;
 mod server_refusals;
@@ -22,4 +15,4 @@ mod table;
 pub use document::explain_all;
 pub use explaining::{explain, is_known};
 pub use fault::ExplainFault;
-pub use first_row::{meaning, name, remedy};
+pub use table::{meaning, name, remedy};

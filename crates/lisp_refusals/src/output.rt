@@ -2,8 +2,7 @@
 
 ghost use Rattle.std.specs.Prelude.{◌≡◌, IfErr};
 ghost use Rattle.std.specs.Fmt.{decimal};
-ghost use Rattle.lisp_refusals.specs.Output.{joined, Writes};
-ghost use Rattle.lisp_refusals.specs.Table.{mark_at};
+ghost use Rattle.lisp_refusals.specs.Table.{joined, Writes, mark_at};
 ghost use Rattle.lisp_refusals.specs.declared.fault.ExplainFault.TheVariants as faults;
 
 use crate::fault::ExplainFault;

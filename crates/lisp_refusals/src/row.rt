@@ -38,3 +38,20 @@ pub(crate) struct Row {
     /// What an operator does about it.
     pub(crate) remedy: &'static str,
 }
+
+/// Rows, each with its number, its name, `carried` and `status` where it has them, its meaning and its remedy.
+macro_rules! rows {
+    ($($number:literal $name:literal $(carried $carried:literal)? $(status $status:literal)?:
+        $meaning:literal, $remedy:literal;)*) => {
+        &[$(Row {
+            number: $number,
+            carried: concat!($($carried)?),
+            name: $name,
+            meaning: $meaning,
+            status: concat!($($status)?),
+            remedy: $remedy,
+        }),*]
+    };
+}
+
+pub(crate) use rows;

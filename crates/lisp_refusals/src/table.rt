@@ -1,19 +1,20 @@
-//! The whole table.
+//! The whole table, and what its first row tells that has a number.
 
 ghost use Rattle.std.specs.Prelude.{◌≡◌};
-ghost use Rattle.lisp_refusals.specs.Numbers.{section_numbers, HasNumbers, refusals_of_a_message, faults_of_a_notice, faults_of_a_router_that_starts, faults_of_a_router_that_sends, faults_of_a_router_that_changes_its_key, refusals_of_a_router, why_bytes_are_not_a_message, why_bytes_are_not_a_record, why_bytes_are_not_a_request, why_a_request_is_not_answered, faults_of_a_configuration, faults_of_a_database, faults_of_a_store_of_nonces, faults_of_a_network, faults_of_a_script, refusals_of_a_socket, faults_of_the_program, refusals_of_the_library};
+ghost use Rattle.std.specs.Option.{option_map};
+ghost use Rattle.std.specs.List.{find};
+ghost use Rattle.lisp_refusals.specs.Numbers.{HasNumbers};
+ghost use Rattle.lisp_refusals.specs.Table.{has_number, has_row, first_in, IsToldOf};
 
-use crate::configuration_faults::{CONFIGURATION_FAULTS, DATABASE_FAULTS};
-use crate::library_refusals::LIBRARY_REFUSALS;
-use crate::message_faults::{MESSAGE_FAULTS, RECORD_FAULTS};
-use crate::network_faults::{NETWORK_FAULTS, SCRIPT_FAULTS};
-use crate::notice_faults::{NOTICE_FAULTS, STORE_FAULTS};
-use crate::program_faults::{PROGRAM_FAULTS, SOCKET_FAULTS};
-use crate::request_faults::REQUEST_FAULTS;
-use crate::resolve_refusals::RESOLVE_REFUSALS;
+use crate::explaining::has_row;
+use crate::message_faults::{MESSAGE_FAULTS, RECORD_FAULTS, REQUEST_FAULTS, RESOLVE_REFUSALS};
+use crate::program_faults::{
+    CONFIGURATION_FAULTS, DATABASE_FAULTS, LIBRARY_REFUSALS, NETWORK_FAULTS, PROGRAM_FAULTS,
+    SCRIPT_FAULTS, SOCKET_FAULTS,
+};
 use crate::router_faults::{ROTATE_FAULTS, ROUTER_REFUSALS, SEND_FAULTS, START_FAULTS};
-use crate::row::Section;
-use crate::server_refusals::SERVER_REFUSALS;
+use crate::row::{Row, Section};
+use crate::server_refusals::{NOTICE_FAULTS, SERVER_REFUSALS, STORE_FAULTS};
 
 // The head of the document.
 const OPENING: &str = "# Refusals and faults
@@ -41,131 +42,65 @@ pub(crate) fn sections() -> [Section; 18]
     ensures { HasNumbers result }
 {
     [
-        server_refusals(),
-        notice_faults(),
-        start_faults(),
-        send_faults(),
-        rotate_faults(),
-        router_refusals(),
-        message_faults(),
-        record_faults(),
-        request_faults(),
-        resolve_refusals(),
-        configuration_faults(),
-        database_faults(),
-        store_faults(),
-        network_faults(),
-        script_faults(),
-        socket_faults(),
-        program_faults(),
-        library_refusals(),
+        SERVER_REFUSALS,
+        NOTICE_FAULTS,
+        START_FAULTS,
+        SEND_FAULTS,
+        ROTATE_FAULTS,
+        ROUTER_REFUSALS,
+        MESSAGE_FAULTS,
+        RECORD_FAULTS,
+        REQUEST_FAULTS,
+        RESOLVE_REFUSALS,
+        CONFIGURATION_FAULTS,
+        DATABASE_FAULTS,
+        STORE_FAULTS,
+        NETWORK_FAULTS,
+        SCRIPT_FAULTS,
+        SOCKET_FAULTS,
+        PROGRAM_FAULTS,
+        LIBRARY_REFUSALS,
     ]
 }
 
-fn server_refusals() -> Section
-    ensures { section_numbers result ≡ refusals_of_a_message }
+/// What an operator does about the number, of the first row that has it, in the order of the table; `None` where no row has it.
+pub fn remedy(number: u16) -> Option<&'static str>
+    ensures value { IsToldOf (λ row. row.remedy.now) number (option_map (λ text. text.now) result) }
 {
-    SERVER_REFUSALS
+    Some(first_in(&sections(), number)?.remedy)
 }
 
-fn notice_faults() -> Section
-    ensures { section_numbers result ≡ faults_of_a_notice }
+/// The name of the number in the code, empty where it has none, of the first row that has it; `None` where no row has it.
+pub fn name(number: u16) -> Option<&'static str>
+    ensures value { IsToldOf (λ row. row.name.now) number (option_map (λ text. text.now) result) }
 {
-    NOTICE_FAULTS
+    Some(first_in(&sections(), number)?.name)
 }
 
-fn start_faults() -> Section
-    ensures { section_numbers result ≡ faults_of_a_router_that_starts }
+/// What the number means, and when it comes, of the first row that has it; `None` where no row has it.
+pub fn meaning(number: u16) -> Option<&'static str>
+    ensures value { IsToldOf (λ row. row.meaning.now) number
+        (option_map (λ text. text.now) result) }
 {
-    START_FAULTS
+    Some(first_in(&sections(), number)?.meaning)
 }
 
-fn send_faults() -> Section
-    ensures { section_numbers result ≡ faults_of_a_router_that_sends }
+fn first_in(sections: &[Section], number: u16) -> Option<&'static Row>
+    ensures { option_map (λ row. row.now) result ≡ first_in number sections.now }
 {
-    SEND_FAULTS
+    first_row(first_section(sections, number)?, number)
 }
 
-fn rotate_faults() -> Section
-    ensures { section_numbers result ≡ faults_of_a_router_that_changes_its_key }
+// The first section with the number.
+fn first_section(sections: &[Section], number: u16) -> Option<&Section>
+    ensures { option_map (λ section. section.now) result ≡ find (has_row number) sections.now }
 {
-    ROTATE_FAULTS
+    sections.iter().find(|section| has_row(section, number))
 }
 
-fn router_refusals() -> Section
-    ensures { section_numbers result ≡ refusals_of_a_router }
+// The first row of the section with the number.
+fn first_row(section: &Section, number: u16) -> Option<&'static Row>
+    ensures { option_map (λ row. row.now) result ≡ find (has_number number) section.now.rows.now }
 {
-    ROUTER_REFUSALS
-}
-
-fn message_faults() -> Section
-    ensures { section_numbers result ≡ why_bytes_are_not_a_message }
-{
-    MESSAGE_FAULTS
-}
-
-fn record_faults() -> Section
-    ensures { section_numbers result ≡ why_bytes_are_not_a_record }
-{
-    RECORD_FAULTS
-}
-
-fn request_faults() -> Section
-    ensures { section_numbers result ≡ why_bytes_are_not_a_request }
-{
-    REQUEST_FAULTS
-}
-
-fn resolve_refusals() -> Section
-    ensures { section_numbers result ≡ why_a_request_is_not_answered }
-{
-    RESOLVE_REFUSALS
-}
-
-fn configuration_faults() -> Section
-    ensures { section_numbers result ≡ faults_of_a_configuration }
-{
-    CONFIGURATION_FAULTS
-}
-
-fn database_faults() -> Section
-    ensures { section_numbers result ≡ faults_of_a_database }
-{
-    DATABASE_FAULTS
-}
-
-fn store_faults() -> Section
-    ensures { section_numbers result ≡ faults_of_a_store_of_nonces }
-{
-    STORE_FAULTS
-}
-
-fn network_faults() -> Section
-    ensures { section_numbers result ≡ faults_of_a_network }
-{
-    NETWORK_FAULTS
-}
-
-fn script_faults() -> Section
-    ensures { section_numbers result ≡ faults_of_a_script }
-{
-    SCRIPT_FAULTS
-}
-
-fn socket_faults() -> Section
-    ensures { section_numbers result ≡ refusals_of_a_socket }
-{
-    SOCKET_FAULTS
-}
-
-fn program_faults() -> Section
-    ensures { section_numbers result ≡ faults_of_the_program }
-{
-    PROGRAM_FAULTS
-}
-
-fn library_refusals() -> Section
-    ensures { section_numbers result ≡ refusals_of_the_library }
-{
-    LIBRARY_REFUSALS
+    section.rows.iter().find(|row| row.number == number)
 }

@@ -14,8 +14,8 @@ use Rattle.toml.specs.Parse.{parse_document}
 use Rattle.std.proofs.lemmas.Bool.{ltb-false}
 use Rattle.std.proofs.lemmas.Option.{slice_get_past}
 use Rattle.lisp_registration.specs.Starting.{Comes, configured, text_config, or_no_router}
-use Rattle.lisp_registration.specs.declared.node_fault.NodeFault.{NodeFault}
-use Rattle.lisp_registration.specs.declared.node_fault.NodeFault.TheVariants.{NotUtf8, Configuration, NoRouter, OutOfMemory}
+use Rattle.lisp_registration.specs.declared.fault.NodeFault.{NodeFault}
+use Rattle.lisp_registration.specs.declared.fault.NodeFault.TheVariants.{NotUtf8, Configuration, NoRouter, OutOfMemory}
 
 -- bytes that are no text
 pub not_text : (bytes : List ℕ) → ¬ (IsUtf8 bytes) → is_utf8 bytes ≡ false

@@ -3,8 +3,8 @@ use Rattle.std.proofs.Common.{◌≡◌, ℕ, Bool, true, false, cond, nat_lt, L
 use Rattle.std.proofs.lemmas.List.{length-map}
 use Rattle.lisp_records.specs.declared.locator.Locator.{Locator}
 use Rattle.lisp_records.specs.Row.{RowValue}
-use Rattle.lisp_registration.specs.declared.locator.PlainLocator.{PlainLocator}
-use Rattle.lisp_registration.specs.declared.row.PlainRow.{PlainRow}
+use Rattle.lisp_registration.specs.declared.record.PlainLocator.{PlainLocator}
+use Rattle.lisp_registration.specs.declared.held.PlainRow.{PlainRow}
 use Rattle.lisp_registration.specs.Plain.{plain_locator, plain_locators}
 use Rattle.lisp_registration.specs.Rows.{RowLeft, next_place, plain_row, told_row, with_front}
 use Rattle.lisp_registration.specs.Told.{put_in}

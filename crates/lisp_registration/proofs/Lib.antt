@@ -1,14 +1,12 @@
-pub mod Asking
-pub mod Datagrams
+pub mod Buffers
 pub mod Replying
 pub mod Holding
 pub mod Lengths
 pub mod Loops
-pub mod Noticing
+pub mod Telling
 pub mod Putting
 pub mod Replies
 pub mod Whole
 pub mod Sending
-pub mod Serving
 pub mod Standing
 pub mod Configured

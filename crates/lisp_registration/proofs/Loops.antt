@@ -1,69 +1,55 @@
--- Locators and records made one after the other, as a loop does.
-use Rattle.std.proofs.Common.{◌≡◌, ℕ, zero, suc, ◌+◌, Bool, true, false, cond, eqb, ltb, ◌<◌, ◌≤◌, List, [], ◌∷◌, ◌++◌, length, get_or, take, drop, Some, None, Result, Ok, Err, refl, sym, ap, subst, ◌∙◌, append_assoc, append-nil, arith}
-use Rattle.std.proofs.lemmas.Bool.{le-ltb, lt-ltb, ltb-true}
+-- Items and records made one after the other, as a loop does.
+use Rattle.std.proofs.Common.{◌≡◌, ℕ, zero, suc, ◌+◌, Bool, true, false, eqb, ◌<◌, ◌≤◌, List, [], ◌∷◌, ◌++◌, length, get_or, take, drop, Some, None, Result, Ok, Err, refl, sym, ap, subst, ◌∙◌, append_assoc, append-nil, arith, Option}
+use Rattle.std.specs.Prelude.{◌≢◌}
+use Rattle.std.proofs.lemmas.Bool.{le-ltb, lt-ltb}
 use Rattle.std.proofs.lemmas.List.{drop_all, drop_more, length-append}
-use Rattle.lisp_records.specs.declared.locator.Locator.{Locator}
-use Rattle.lisp_records.specs.Address.{PrefixValue}
-use Rattle.lisp_records.specs.Record.{FitRecord, MapRecordValue}
+use Rattle.lisp_records.specs.Record.{MapRecordValue}
 use Rattle.lisp_records.specs.Result.{◌>>=◌}
 use Rattle.lisp_records.proofs.Faults.{Passes}
 use Rattle.lisp_registration.specs.declared.fault.WriteFault.{WriteFault}
-use Rattle.lisp_registration.specs.declared.fault.WriteFault.TheVariants.{Room, Field, Counts, OutOfMemory}
-use Rattle.lisp_registration.specs.declared.locator.PlainLocator.{PlainLocator}
+use Rattle.lisp_registration.specs.declared.fault.WriteFault.TheVariants.{Counts, Field, OutOfMemory}
+use Rattle.lisp_registration.specs.declared.record.PlainLocator.{PlainLocator}
 use Rattle.lisp_registration.specs.declared.record.PlainRecord.{PlainRecord}
-use Rattle.lisp_registration.specs.Meaning.{Fails, Makes, block_in, locator_in, locators_in, or_fault, record_in, record_of, records_in}
+use Rattle.lisp_registration.specs.Meaning.{Makes, record_in, records_in, each_in}
 
 -- what was made before, and what is still made
 abbrev pub with_front : {X : Type 0} → List X → Result (List X) WriteFault → Result (List X) WriteFault
 with_front front made = made >>= λ xs. Ok (front ++ xs)
 
--- before the first
-pub none_made : {X : Type 0} (made : Result (List X) WriteFault) → with_front [] made ≡ made
-none_made (Ok xs) = refl
-none_made (Err e) = refl
-
 pub regrouped : {X : Type 0} (front : List X) (x : X) (made : Result (List X) WriteFault) → with_front front (made >>= λ xs. Ok (x ∷ xs)) ≡ with_front (front ++ x ∷ []) made
 regrouped front x (Ok xs) = ap (λ (ys : List _). Ok ys) (simp append_assoc)
 regrouped front x (Err e) = refl
 
--- ---- locators
+-- what is passed on of a fault is what was found
+pub makes_fault : {X Y : Type 0} (view : X → Y) (r : Result X WriteFault) (e : WriteFault) (found : Result Y WriteFault) → Passes r e → (e ≢ OutOfMemory → found ≡ Err e) → Makes view r found
+makes_fault view (Ok x) e found passes fails = absurd passes
+makes_fault view (Err d) e found passes fails = subst (λ (f : WriteFault). f ≢ OutOfMemory → found ≡ Err f) (sym passes) fails
 
--- one more locator is made
-pub locator_made : (front : List Locator) (plain : List PlainLocator) (i : ℕ) (d : PlainLocator) (l : Locator) (total : Result (List Locator) WriteFault) → i < length plain → locator_in (get_or plain i d) ≡ Some l
-    → with_front front (locators_in (drop i plain)) ≡ total → with_front (front ++ l ∷ []) (locators_in (drop (i + 1) plain)) ≡ total
-unfolding locators_in
-locator_made front plain i d l total lt h so_far =
-    let one : with_front front (locators_in (drop i plain)) ≡ with_front (front ++ l ∷ []) (locators_in (drop (i + 1) plain)) = rw (drop_more plain i d lt, h) (regrouped front l (locators_in (drop (i + 1) plain))) in
-    sym one ∙ so_far
+-- ---- items made one after the other, as a loop does
 
--- the next locator is none
-pub no_locator : (front : List Locator) (plain : List PlainLocator) (i : ℕ) (d : PlainLocator) (total : Result (List Locator) WriteFault) → i < length plain → locator_in (get_or plain i d) ≡ None
-    → with_front front (locators_in (drop i plain)) ≡ total → total ≡ Err Field
-unfolding locators_in
-no_locator front plain i d total lt h so_far =
-    let one : with_front front (locators_in (drop i plain)) ≡ Err Field = rw (drop_more plain i d lt, h) refl in
-    sym so_far ∙ one
+module _ {X Y : Type 0} (says : X → Option Y) (front : List Y) (plain : List X) (i : ℕ) (total : Result (List Y) WriteFault) (so_far : with_front front (each_in says (drop i plain)) ≡ total) where
+  -- one more is made
+  pub item_made : (d : X) (y : Y) → i < length plain → says (get_or plain i d) ≡ Some y → with_front (front ++ y ∷ []) (each_in says (drop (i + 1) plain)) ≡ total
+  unfolding each_in
+  item_made d y lt h =
+      let one : with_front front (each_in says (drop i plain)) ≡ with_front (front ++ y ∷ []) (each_in says (drop (i + 1) plain)) = rw (drop_more plain i d lt, h) (regrouped front y (each_in says (drop (i + 1) plain))) in
+      sym one ∙ so_far
 
--- all locators are made
-pub locators_made : (front : List Locator) (plain : List PlainLocator) (i : ℕ) (total : Result (List Locator) WriteFault) → length plain ≤ i → with_front front (locators_in (drop i plain)) ≡ total → total ≡ Ok front
-unfolding locators_in
-locators_made front plain i total le so_far =
-    let one : with_front front (locators_in (drop i plain)) ≡ Ok front = rw (drop_all i plain le) (ap (λ (ls : List Locator). Ok ls) (append-nil front)) in
-    sym so_far ∙ one
+  -- the next one is none
+  pub no_item : (d : X) → i < length plain → says (get_or plain i d) ≡ None → total ≡ Err Field
+  unfolding each_in
+  no_item d lt h =
+      let one : with_front front (each_in says (drop i plain)) ≡ Err Field = rw (drop_more plain i d lt, h) refl in
+      sym so_far ∙ one
+
+  -- all are made
+  pub items_made : length plain ≤ i → total ≡ Ok front
+  unfolding each_in
+  items_made le =
+      let one : with_front front (each_in says (drop i plain)) ≡ Ok front = rw (drop_all i plain le) (ap (λ (ys : List Y). Ok ys) (append-nil front)) in
+      sym so_far ∙ one
 
 -- ---- records
-
--- a fault of a part is the fault of the whole, where each is passed on
-pub Fails-passed : {X Y : Type 0} (e : WriteFault) (part : Result X WriteFault) (whole : Result Y WriteFault) → ((f : WriteFault) → part ≡ Err f → whole ≡ Err f) → Fails e part → Fails e whole
-Fails-passed OutOfMemory part whole pass fails = tt
-Fails-passed Room part whole pass fails = pass Room fails
-Fails-passed Field part whole pass fails = pass Field fails
-Fails-passed Counts part whole pass fails = pass Counts fails
-
--- what is passed on of a fault is what was found
-pub makes_fault : {X Y : Type 0} (view : X → Y) (r : Result X WriteFault) (e : WriteFault) (found : Result Y WriteFault) → Passes r e → Fails e found → Makes view r found
-makes_fault view (Ok x) e found passes fails = absurd passes
-makes_fault view (Err d) e found passes fails = subst (λ (f : WriteFault). Fails f found) (sym passes) fails
 
 module _ (front : List MapRecordValue) (plain : List PlainRecord) (i : ℕ) (d : PlainRecord) (ls : List PlainLocator) (total : Result (List MapRecordValue) WriteFault) (lt : i < length plain) (so_far : with_front front (records_in (drop i plain) ls) ≡ total) where
   -- the next record, and those after it
@@ -79,14 +65,11 @@ module _ (front : List MapRecordValue) (plain : List PlainRecord) (i : ℕ) (d :
 
   module _ (enough : next.locator_count ≤ length ls) where
     -- it is none
-    no_record : (f : WriteFault) → record_in next (take next.locator_count ls) ≡ Err f → total ≡ Err f
+    pub no_record : (f : WriteFault) → record_in next (take next.locator_count ls) ≡ Err f → total ≡ Err f
     unfolding records_in
     no_record f h =
         let one : with_front front (records_in (drop i plain) ls) ≡ Err f = rw (drop_more plain i d lt, le-ltb (length ls) next.locator_count enough, h) refl in
         sym so_far ∙ one
-
-    pub record_fails : (e : WriteFault) → Fails e (record_in next (take next.locator_count ls)) → Fails e total
-    record_fails e = Fails-passed e (record_in next (take next.locator_count ls)) total no_record
 
     -- it is made
     pub record_made : (m : MapRecordValue) → record_in next (take next.locator_count ls) ≡ Ok m → with_front (front ++ m ∷ []) (records_in (drop (i + 1) plain) (drop next.locator_count ls)) ≡ total
@@ -122,44 +105,3 @@ one_longer xs ys x n is size = ap length is ∙ length-append xs (x ∷ []) ∙ 
 pub some_left : (b : Bool) (n : ℕ) → b ≡ eqb n 0 → b ≡ false → 0 < n
 some_left b (suc n) is test = omega arith
 some_left b zero is test = let clash : false ≡ true = sym test ∙ is in absurd cc
-
--- as many locators are made as were given
-count_made : (first : Result Locator WriteFault) (others : Result (List Locator) WriteFault) (ls : List Locator) (n : ℕ) → ((xs : List Locator) → others ≡ Ok xs → length xs ≡ n) → (first >>= λ l. others >>= λ xs. Ok (l ∷ xs)) ≡ Ok ls → length ls ≡ suc n
-count_made (Ok l) (Ok xs) ls n counts is = let same : l ∷ xs ≡ ls = cc in ap length (sym same) ∙ ap suc (counts xs refl)
-count_made (Ok l) (Err e) ls n counts is = absurd cc
-count_made (Err e) others ls n counts is = absurd cc
-
-pub length-locators_in : (plain : List PlainLocator) (ls : List Locator) → locators_in plain ≡ Ok ls → length ls ≡ length plain
-unfolding locators_in
-length-locators_in [] ls is = let same : [] ≡ ls = cc in ap length (sym same)
-length-locators_in (p ∷ plain) ls is = count_made (or_fault Field (locator_in p)) (locators_in plain) ls (length plain) (length-locators_in plain) is
-
--- ---- a record of locators
-
-pub no_block : (r : PlainRecord) (plain : List PlainLocator) → block_in r ≡ None → record_in r plain ≡ Err Field
-unfolding record_in
-no_block r plain h = rw h refl
-
-pub locators_fail : (r : PlainRecord) (plain : List PlainLocator) (eid : PrefixValue) (e : WriteFault) → block_in r ≡ Some eid → Fails e (locators_in plain) → Fails e (record_in r plain)
-unfolding record_in
-locators_fail r plain eid e h = Fails-passed e (locators_in plain) (record_in r plain) (λ f at. rw (h, at) refl)
-
--- its EID-Prefix and its locators are made
-parts_made : (r : PlainRecord) (plain : List PlainLocator) (eid : PrefixValue) (ls : List Locator) → block_in r ≡ Some eid → locators_in plain ≡ Ok ls
-    → record_in r plain ≡ cond (ltb r.act 8) (cond (ltb r.version 4096) (Ok (record_of r eid ls)) (Err Field)) (Err Field)
-unfolding record_in
-parts_made r plain eid ls h made = rw (h, made) refl
-
-pub record_fits : (r : PlainRecord) (plain : List PlainLocator) (eid : PrefixValue) (ls : List Locator) → block_in r ≡ Some eid → locators_in plain ≡ Ok ls → FitRecord r.act r.version ls → record_in r plain ≡ Ok (record_of r eid ls)
-record_fits r plain eid ls h made fits = parts_made r plain eid ls h made ∙ rw (lt-ltb r.act 8 fits.0, lt-ltb r.version 4096 fits.1) refl
-
--- a record whose numbers have no place
-refused : (r : PlainRecord) (eid : PrefixValue) (ls : List Locator) (act version : Bool) → (act ≡ true → version ≡ true → ⊥) → cond act (cond version (Ok (record_of r eid ls)) (Err Field)) (Err Field) ≡ Err Field
-refused r eid ls true true none = absurd (none refl refl)
-refused r eid ls true false none = refl
-refused r eid ls false version none = refl
-
-pub record_unfit : (r : PlainRecord) (plain : List PlainLocator) (eid : PrefixValue) (ls : List Locator) → block_in r ≡ Some eid → locators_in plain ≡ Ok ls → length plain < 256 → (FitRecord r.act r.version ls → ⊥) → record_in r plain ≡ Err Field
-record_unfit r plain eid ls h made few none =
-    let count = length-locators_in plain ls made in
-    parts_made r plain eid ls h made ∙ refused r eid ls (ltb r.act 8) (ltb r.version 4096) (λ act version. none (ltb-true r.act 8 act, ltb-true r.version 4096 version, omega (arith, few, count)))

@@ -6,9 +6,9 @@ use Rattle.lisp_requests.specs.Fault.{fault_number}
 use Rattle.lisp_requests.specs.Reply.{reply_at}
 use Rattle.lisp_requests.specs.ReplyLayout.{IsReplyLayout, with_records}
 use Rattle.lisp_records.specs.Record.{bit}
-use Rattle.lisp_registration.specs.declared.reply.PlainReply.{PlainReply}
-use Rattle.lisp_registration.specs.Requests.{RecordsStand, plain_layout, plain_reply}
-use Rattle.lisp_registration.specs.Told.{told}
+use Rattle.lisp_registration.specs.declared.requests.PlainReply.{PlainReply}
+use Rattle.lisp_registration.specs.Plain.{plain_layout, plain_reply}
+use Rattle.lisp_registration.specs.Told.{RecordsStand, told}
 
 module _ (bytes : List ℕ) (layout : ReplyLayout) (is : IsReplyLayout bytes layout) where
   as_read : plain_layout layout ≡ plain_reply (with_records layout is.records)

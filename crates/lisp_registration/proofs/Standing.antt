@@ -1,7 +1,6 @@
 -- The notices that stand at a Map-Server have room in a buffer that has room for every message, whatever calls made and changed it.
 use Rattle.std.proofs.Common.{◌≡◌, ℕ, ◌≤◌, Bool, true, false, List, [], length, Option, Some, None, Result, Ok, Err, refl, sym, ap, subst, ◌∙◌, arith}
 use Rattle.std.specs.Prelude.{◌≢◌, ⊤, MatchResult}
-use Rattle.std.specs.Option.{MatchOption}
 use Rattle.std.specs.Global.{Global}
 use Rattle.lisp_records.specs.declared.address.Addr.{Addr}
 use Rattle.lisp_records.specs.declared.router.RouterId.{RouterId}
@@ -19,23 +18,23 @@ use Rattle.lisp_server.specs.Receiving.{ServerTakes}
 use Rattle.lisp_server.specs.Server.{ServerState, empty_server, reloaded}
 use Rattle.lisp_server.specs.declared.took.Took.{Took}
 use Rattle.lisp_server.specs.declared.took.Took.TheVariants.{Accepted, NoticeDone}
-use Rattle.lisp_embedded.specs.declared.hosted_server.HostedServer.{HostedServer}
+use Rattle.lisp_embedded.specs.declared.hosted.HostedServer.{HostedServer}
 use Rattle.lisp_embedded.specs.declared.notice.HostedNotice.{HostedNotice}
 use Rattle.lisp_policy.specs.Extends.{extends}
 use Rattle.lisp_policy.specs.Site.{SiteValue}
-use Rattle.lisp_registration.specs.declared.handle_fault.HandleFault.{HandleFault}
-use Rattle.lisp_registration.specs.declared.handle_fault.HandleFault.TheVariants as faults
+use Rattle.lisp_registration.specs.declared.fault.HandleFault.{HandleFault}
 use Rattle.lisp_registration.specs.Fault.{handle_fault_number}
-use Rattle.lisp_registration.specs.declared.node_fault.NodeFault.{NodeFault}
-use Rattle.lisp_registration.specs.declared.notice.PlainNotice.{PlainNotice}
+use Rattle.lisp_registration.specs.declared.fault.NodeFault.{NodeFault}
+use Rattle.lisp_registration.specs.declared.notices.PlainNotice.{PlainNotice}
 use Rattle.lisp_registration.specs.declared.pair.PlainNonce.{PlainNonce}
 use Rattle.lisp_registration.specs.declared.address.PlainAddress.{PlainAddress}
-use Rattle.lisp_registration.specs.declared.received.PlainReceived.{PlainReceived}
-use Rattle.lisp_registration.specs.declared.router_id.PlainRouter.{PlainRouter}
-use Rattle.lisp_registration.specs.Notices.{AreShort, DropsRows, ExpiresRows, HoldsShort, KeepsShort, LeavesNotice, Made, Making, NoticeLeft, NotifiesKept, ResendsDue, TellsNotice, TellsResent, router_in}
-use Rattle.lisp_registration.specs.Room.{in_time, message_room, ready}
-use Rattle.lisp_registration.specs.Server.{Left, LeavesFrom, ReceivesKept, RestartsServer, TellsReceived, kept_in, source_of}
+use Rattle.lisp_registration.specs.declared.server.PlainReceived.{PlainReceived}
+use Rattle.lisp_registration.specs.declared.pair.PlainRouter.{PlainRouter}
+use Rattle.lisp_registration.specs.Notices.{AreShort, DropsRows, ExpiresRows, HoldsShort, KeepsShort, Makes, Making, NotifiesKept, ResendsDue, TellsMade, TellsNotice, TellsResent, router_in, told_notice}
+use Rattle.lisp_registration.specs.Handle.{in_time, message_room, ready, source_of}
+use Rattle.lisp_registration.specs.Server.{Receives, ReceivesKept, RestartsServer, TellsReceived, kept_in, told_received}
 use Rattle.lisp_registration.specs.Starting.{Comes, ReloadsServer, StartsNode, text_server, text_sites, told_reload, told_start}
+use Rattle.lisp_registration.proofs.Telling.{keeps}
 use Rattle.lisp_registration.proofs.Whole.{notice_has_room}
 
 ok_is : {X E : Type 0} (x y : X) → ◌≡◌ {A = Result X E} (Ok x) (Ok y) → x ≡ y
@@ -138,32 +137,24 @@ told_short (Err fault) old goes_on short = short
 pub reload_keeps : (text : List ℕ) (goes_on goes_on' : ℕ) → KeepsShort (λ old number new. ReloadsServer (text_sites text) old goes_on number new goes_on')
 reload_keeps text goes_on goes_on' old new number (answer, comes, is) short = holds new _ (ap (λ (x : ℕ × (Option HostedServer × ℕ)). x.1.0) is) (told_short answer old goes_on short)
 
--- a datagram
-received_left : (kept : Option ℕ) (from : Result Addr HandleFault) (bytes : List ℕ) (now : ℕ) (held : Option HostedServer) (buffer : List ℕ) (received : PlainReceived) (left : Left) → LeavesFrom kept from bytes now held buffer received left → HoldsShort held → HoldsShort left.1.0
-received_left kept (Ok from) bytes now (Some hosted) buffer received left (answer, after, makes, whole, is) short = holds left.1.0 _ (ap (λ (l : Left). l.1.0) is) (received_short kept from bytes now hosted.server after answer makes short)
-received_left kept (Ok from) bytes now None buffer received left is short = holds left.1.0 None (ap (λ (l : Left). l.1.0) is) tt
-received_left kept (Err e) bytes now held buffer received left is short = holds left.1.0 held (ap (λ (l : Left). l.1.0) is) short
-
 module _ (buffer buffer' : List ℕ) where
+  -- a datagram
   pub receive_keeps : (kept : PlainNonce) (from : PlainAddress) (bytes : List ℕ) (now : ℕ) (received received' : PlainReceived) → KeepsShort (λ old number new. TellsReceived kept from bytes now old buffer received number new buffer' received')
-  receive_keeps kept from bytes now received received' old new number tells = received_left (kept_in kept) (source_of from bytes buffer) bytes now old buffer received (number, (new, (buffer', received'))) tells
+  receive_keeps kept from bytes now received received' old new number =
+      keeps (source_of from bytes buffer) (Receives (kept_in kept) bytes now buffer) told_received old buffer received (number, (new, (buffer', received'))) HoldsShort tt
+      (λ a node after answer makes. received_short (kept_in kept) a bytes now node.server after.server answer makes.0)
 
   -- a notice, by what keeps the notices of a Map-Server short
-  module _ (makes : Making) (short_after : (old new : ServerState) (answer : Result (HostedNotice Global) NoticeFault) → makes buffer old new answer → AreShort old.notices → AreShort new.notices) where
-    notice_left : (now : ℕ) (held : Option HostedServer) (notice : PlainNotice) (left : NoticeLeft) → LeavesNotice makes now held buffer notice left → HoldsShort held → HoldsShort left.1.0
-    notice_left now held notice left leaves short = by (ready buffer now) held leaves short
-      where
-        by : (good : Result ⊤ HandleFault) (held : Option HostedServer) → MatchResult good (λ _. MatchOption held (left ≡ (handle_fault_number faults.Null, (None, (buffer, notice)))) (λ hosted. Made makes hosted.server buffer notice left)) (λ fault. left ≡ (handle_fault_number fault, (held, (buffer, notice)))) → HoldsShort held → HoldsShort left.1.0
-        by (Ok _) (Some hosted) (answer, after, made, is) short = holds left.1.0 _ (ap (λ (l : NoticeLeft). l.1.0) is) (short_after hosted.server after answer made short)
-        by (Ok _) None is short = holds left.1.0 None (ap (λ (l : NoticeLeft). l.1.0) is) tt
-        by (Err fault) held is short = holds left.1.0 held (ap (λ (l : NoticeLeft). l.1.0) is) short
+  made_keeps : (makes : Making) → ((old new : ServerState) (answer : Result (HostedNotice Global) NoticeFault) → makes buffer old new answer → AreShort old.notices → AreShort new.notices)
+      → (now : ℕ) (notice notice' : PlainNotice) → KeepsShort (λ old number new. TellsMade makes now old buffer notice number new buffer' notice')
+  made_keeps makes short_after now notice notice' old new number =
+      keeps (ready buffer now) (Makes makes buffer) told_notice old buffer notice (number, (new, (buffer', notice'))) HoldsShort tt (λ _ node after answer. short_after node.server after.server answer)
 
   pub notify_keeps : (kept : PlainNonce) (router : PlainRouter) (now : ℕ) (notice notice' : PlainNotice) → KeepsShort (λ old number new. TellsNotice kept router now old buffer notice number new buffer' notice')
-  notify_keeps kept router now notice notice' old new number tells =
-      notice_left (NotifiesKept (kept_in kept) (router_in router) now) (notified_short (kept_in kept) (router_in router) now buffer) now old notice (number, (new, (buffer', notice'))) tells
+  notify_keeps kept router now = made_keeps (NotifiesKept (kept_in kept) (router_in router) now) (notified_short (kept_in kept) (router_in router) now buffer) now
 
   pub resend_keeps : (router : PlainRouter) (now : ℕ) (notice notice' : PlainNotice) → KeepsShort (λ old number new. TellsResent router now old buffer notice number new buffer' notice')
-  resend_keeps router now notice notice' old new number tells = notice_left (ResendsDue (router_in router) now) (again_short (router_in router) now buffer) now old notice (number, (new, (buffer', notice'))) tells
+  resend_keeps router now = made_keeps (ResendsDue (router_in router) now) (again_short (router_in router) now buffer) now
 
 -- rows that are dropped
 pub expire_keeps : (now : ℕ) → KeepsShort (ExpiresRows now)

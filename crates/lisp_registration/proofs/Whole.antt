@@ -22,13 +22,14 @@ use Rattle.lisp_embedded.specs.Notices.{AnnouncesKept}
 use Rattle.lisp_embedded.specs.Receiving.{TakesKept}
 use Rattle.lisp_embedded.specs.Routers.{SendsKept}
 use Rattle.lisp_registration.specs.declared.address.PlainAddress.{PlainAddress}
-use Rattle.lisp_registration.specs.declared.handle_fault.HandleFault.{HandleFault}
-use Rattle.lisp_registration.specs.declared.handle_fault.HandleFault.TheVariants as faults
+use Rattle.lisp_registration.specs.declared.fault.HandleFault.{HandleFault}
+use Rattle.lisp_registration.specs.declared.fault.HandleFault.TheVariants as faults
 use Rattle.lisp_registration.specs.Meaning.{address_in, or_fault}
 use Rattle.lisp_registration.specs.Notices.{AreShort, SendsAgain}
-use Rattle.lisp_registration.specs.Room.{in_time, message_room, ready}
+use Rattle.lisp_registration.specs.Handle.{in_time, message_room, ready, source_of}
 use Rattle.lisp_registration.specs.Router.{answer_bytes}
-use Rattle.lisp_registration.specs.Server.{ToldWhole, reply_bytes, source_of}
+use Rattle.lisp_registration.specs.Server.{reply_bytes}
+use Rattle.lisp_registration.specs.Told.{ToldWhole}
 use Rattle.lisp_registration.proofs.Lengths.{length-notify, length-register, notice_is_short, part_is_short}
 use Rattle.lisp_registration.proofs.Replies.{ack_is_short, reply_is_short}
 

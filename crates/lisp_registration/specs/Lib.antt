@@ -2,9 +2,7 @@ pub mod Fault
 pub mod Plain
 pub mod Meaning
 pub mod Told
-pub mod Requests
-pub mod RequestMeaning
-pub mod Room
+pub mod Handle
 pub mod Server
 pub mod Starting
 pub mod Rows

@@ -1,5 +1,5 @@
 -- What a call from C leaves that drops dead rows, or makes a Map-Server's unsolicited Map-Notifies (notices).
-use Rattle.std.specs.Prelude.{◌≡◌, ℕ, ◌≤◌, List, length, replicate, Option, Some, None, Result, Ok, Err, IfSome, MatchResult}
+use Rattle.std.specs.Prelude.{◌≡◌, ℕ, ◌≤◌, List, length, replicate, Option, Some, None, Result, ⊤, IfSome, MatchResult}
 use Rattle.std.specs.Global.{Global}
 use Rattle.std.specs.Option.{MatchOption}
 use Rattle.lisp_records.specs.declared.router.RouterId.{RouterId}
@@ -8,18 +8,18 @@ use Rattle.lisp_admission.specs.NoticeFault.{notice_fault_number}
 use Rattle.lisp_lookup.specs.Table.{Expires}
 use Rattle.lisp_server.specs.Notices.{IsDueRouter, RefusesResend, Resends, StandingNoticeValue, notice_at}
 use Rattle.lisp_server.specs.Server.{ServerState}
-use Rattle.lisp_embedded.specs.declared.hosted_server.HostedServer.{HostedServer}
+use Rattle.lisp_embedded.specs.declared.hosted.HostedServer.{HostedServer}
 use Rattle.lisp_embedded.specs.declared.notice.HostedNotice.{HostedNotice}
 use Rattle.lisp_embedded.specs.Notices.{AnnouncesKept, IsOfNoStore, RefusesKeptNotice}
-use Rattle.lisp_registration.specs.declared.handle_fault.HandleFault.TheVariants as faults
-use Rattle.lisp_registration.specs.declared.notice.PlainNotice.{PlainNotice}
+use Rattle.lisp_registration.specs.declared.fault.HandleFault.TheVariants as faults
+use Rattle.lisp_registration.specs.declared.notices.PlainNotice.{PlainNotice}
 use Rattle.lisp_registration.specs.declared.pair.PlainNonce.{PlainNonce}
-use Rattle.lisp_registration.specs.declared.router_id.PlainRouter.{PlainRouter}
+use Rattle.lisp_registration.specs.declared.pair.PlainRouter.{PlainRouter}
 use Rattle.lisp_registration.specs.Fault.{handle_fault_number}
 use Rattle.lisp_registration.specs.Plain.{plain_address}
-use Rattle.lisp_registration.specs.Room.{in_time, message_room, ready}
-use Rattle.lisp_registration.specs.Server.{ToldWhole, kept_in, length_in}
-use Rattle.lisp_registration.specs.Told.{put_in}
+use Rattle.lisp_registration.specs.Handle.{Tells, in_time, message_room, ready, told_bytes}
+use Rattle.lisp_registration.specs.Server.{kept_in}
+use Rattle.lisp_registration.specs.Told.{ToldWhole}
 
 -- ---- dead rows
 
@@ -58,8 +58,7 @@ plain_notice n size = record { nonce = n.nonce; to = plain_address n.to; length 
 
 -- the number, the buffer and the struct that a notice leaves, or why there is none
 abbrev pub told_notice : {A : Type 0} → Result (HostedNotice A) NoticeFault → List ℕ → PlainNotice → ℕ × (List ℕ × PlainNotice)
-told_notice (Ok n) buffer old = (0, ((put_in n.bytes.items buffer).1, plain_notice n (length_in n.bytes.items buffer)))
-told_notice (Err why) buffer old = (notice_fault_number why, (buffer, old))
+told_notice {A} answer buffer old = told_bytes (λ (n : HostedNotice A). n.bytes.items) plain_notice notice_fault_number answer buffer old
 
 -- how a notice is made for a buffer, or why not: what is answered, of the Map-Server before and after
 abbrev pub Making : Type 1
@@ -83,30 +82,22 @@ abbrev pub ResendsDue : RouterId → ℕ → Making
 ResendsDue router now buffer old new answer =
     MatchResult answer (λ n. SendsAgain old new router now n × (AreShort old.notices → ToldWhole n.bytes.items buffer)) (λ why. RefusesResend old.notices router now why × (new ≡ old))
 
--- all that a call leaves
-abbrev pub NoticeLeft : Type 0
-NoticeLeft = ℕ × (Option HostedServer × (List ℕ × PlainNotice))
-
--- what making leaves, of the Map-Server that a handle holds
-abbrev pub Made : Making → ServerState → List ℕ → PlainNotice → NoticeLeft → Type 0
-Made makes old buffer notice left =
-    (answer : Result (HostedNotice Global) NoticeFault) × (after : ServerState) × makes buffer old after answer
-    × (left ≡ ((told_notice answer buffer notice).0, (Some (record { server = after }), (told_notice answer buffer notice).1)))
+-- the same of what a handle holds
+abbrev pub Makes : Making → List ℕ → ⊤ → HostedServer → HostedServer → Result (HostedNotice Global) NoticeFault → Type 0
+Makes makes buffer _ before after answer = makes buffer before.server after.server answer
 
 -- what making leaves, where it can be asked for at the time
-abbrev pub LeavesNotice : Making → ℕ → Option HostedServer → List ℕ → PlainNotice → NoticeLeft → Type 0
-LeavesNotice makes now old buffer notice left =
-    MatchResult (ready buffer now)
-    (λ _. MatchOption old (left ≡ (handle_fault_number faults.Null, (None, (buffer, notice)))) (λ hosted. Made makes hosted.server buffer notice left))
-    (λ fault. left ≡ (handle_fault_number fault, (old, (buffer, notice))))
+abbrev pub TellsMade : Making → ℕ → Option HostedServer → List ℕ → PlainNotice → ℕ → Option HostedServer → List ℕ → PlainNotice → Type 0
+TellsMade makes now old buffer notice number new buffer' notice' =
+    Tells (ready buffer now) (Makes makes buffer) told_notice old buffer notice (number, (new, (buffer', notice')))
 
 -- what a call for a new notice leaves
 abbrev pub TellsNotice : PlainNonce → PlainRouter → ℕ → Option HostedServer → List ℕ → PlainNotice → ℕ → Option HostedServer → List ℕ → PlainNotice → Type 0
-TellsNotice kept router now old buffer notice number new buffer' notice' = LeavesNotice (NotifiesKept (kept_in kept) (router_in router) now) now old buffer notice (number, (new, (buffer', notice')))
+TellsNotice kept router now = TellsMade (NotifiesKept (kept_in kept) (router_in router) now) now
 
 -- what a call for a notice that is due leaves
 abbrev pub TellsResent : PlainRouter → ℕ → Option HostedServer → List ℕ → PlainNotice → ℕ → Option HostedServer → List ℕ → PlainNotice → Type 0
-TellsResent router now old buffer notice number new buffer' notice' = LeavesNotice (ResendsDue (router_in router) now) now old buffer notice (number, (new, (buffer', notice')))
+TellsResent router now = TellsMade (ResendsDue (router_in router) now) now
 
 -- ---- notices that stand
 

@@ -8,22 +8,21 @@ use Rattle.lisp_records.specs.Address.{PrefixValue}
 use Rattle.lisp_records.specs.Result.{◌>>=◌}
 use Rattle.lisp_replies.specs.Own.{IsOwnReply}
 use Rattle.lisp_replies.specs.Reply.{IsReply}
-use Rattle.lisp_resolve.specs.declared.replier.Replier.TheVariants.{MapServer, Router}
+use Rattle.lisp_mapping.specs.declared.replier.Replier.TheVariants.{MapServer, Router}
 use Rattle.lisp_mapping.specs.declared.outcome.Outcome.{Outcome}
 use Rattle.lisp_mapping.specs.declared.outcome.Outcome.TheVariants.{Replied, Negative, Forwarded, Silent}
-use Rattle.lisp_embedded.specs.declared.hosted_router.HostedRouter.{HostedRouter}
-use Rattle.lisp_embedded.specs.declared.hosted_server.HostedServer.{HostedServer}
+use Rattle.lisp_embedded.specs.declared.hosted.HostedRouter.{HostedRouter}
+use Rattle.lisp_embedded.specs.declared.hosted.HostedServer.{HostedServer}
 use Rattle.lisp_embedded.specs.Replying.{HostedReplyValue, Says}
 use Rattle.lisp_registration.specs.declared.address.PlainAddress.{PlainAddress}
-use Rattle.lisp_registration.specs.declared.eid.PlainPrefix.{PlainPrefix}
+use Rattle.lisp_registration.specs.declared.address.PlainPrefix.{PlainPrefix}
 use Rattle.lisp_registration.specs.declared.fault.WriteFault.TheVariants.{OutOfMemory}
-use Rattle.lisp_registration.specs.declared.handle_fault.HandleFault.{HandleFault}
-use Rattle.lisp_registration.specs.declared.handle_fault.HandleFault.TheVariants as faults
-use Rattle.lisp_registration.specs.declared.replied.PlainReplied.{PlainReplied}
+use Rattle.lisp_registration.specs.declared.fault.HandleFault.{HandleFault}
+use Rattle.lisp_registration.specs.declared.fault.HandleFault.TheVariants as faults
+use Rattle.lisp_registration.specs.declared.resolving.PlainReplied.{PlainReplied}
 use Rattle.lisp_registration.specs.Fault.{handle_fault_number, write_fault_number}
-use Rattle.lisp_registration.specs.Meaning.{address_in, is_on, or_fault}
+use Rattle.lisp_registration.specs.Meaning.{address_in, is_on, or_fault, prefix_in}
 use Rattle.lisp_registration.specs.Plain.{no_address, plain_address}
-use Rattle.lisp_registration.specs.RequestMeaning.{prefix_in}
 use Rattle.lisp_registration.specs.Told.{put_in}
 
 -- ---- what is sent, in plain numbers

@@ -1,5 +1,5 @@
 -- What a call from C makes of the router that a handle holds, and what it tells.
-use Rattle.std.specs.Prelude.{◌≡◌, ℕ, List, [], Option, Some, None, Result, Ok, Err, ⊤, MatchResult, unwrap_or}
+use Rattle.std.specs.Prelude.{◌≡◌, ℕ, List, [], Option, Some, None, Result, Ok, ⊤, MatchResult, unwrap_or}
 use Rattle.std.specs.Global.{Global}
 use Rattle.lisp_records.specs.declared.address.Addr.{Addr}
 use Rattle.lisp_etr.specs.declared.notify_fault.NotifyFault.{NotifyFault}
@@ -9,21 +9,19 @@ use Rattle.lisp_etr.specs.declared.send_fault.SendFault.{SendFault}
 use Rattle.lisp_etr.specs.Etr.{EtrState, due_at}
 use Rattle.lisp_etr.specs.Faults.{notify_fault_number, send_fault_number}
 use Rattle.lisp_etr.specs.Hearing.{Gives, RefusesBadHead, TakesMemoryIfOut, etr_after, seen_at}
-use Rattle.lisp_embedded.specs.declared.hosted_router.HostedRouter.{HostedRouter}
+use Rattle.lisp_embedded.specs.declared.hosted.HostedRouter.{HostedRouter}
 use Rattle.lisp_embedded.specs.declared.router_send.HostedRegister.{HostedRegister}
 use Rattle.lisp_embedded.specs.Routers.{RefusesKeptSend, SendsKept}
 use Rattle.lisp_registration.specs.declared.address.PlainAddress.{PlainAddress}
-use Rattle.lisp_registration.specs.declared.due.PlainDue.{PlainDue}
-use Rattle.lisp_registration.specs.declared.handle_fault.HandleFault.{HandleFault}
-use Rattle.lisp_registration.specs.declared.handle_fault.HandleFault.TheVariants as faults
-use Rattle.lisp_registration.specs.declared.seen.PlainSeen.{PlainSeen}
-use Rattle.lisp_registration.specs.declared.sent.PlainSent.{PlainSent}
+use Rattle.lisp_registration.specs.declared.router.PlainDue.{PlainDue}
+use Rattle.lisp_registration.specs.declared.fault.HandleFault.TheVariants as faults
+use Rattle.lisp_registration.specs.declared.router.PlainSeen.{PlainSeen}
+use Rattle.lisp_registration.specs.declared.router.PlainSent.{PlainSent}
 use Rattle.lisp_registration.specs.Fault.{handle_fault_number}
 use Rattle.lisp_registration.specs.Meaning.{address_in}
 use Rattle.lisp_registration.specs.Plain.{plain_address}
-use Rattle.lisp_registration.specs.Room.{ready}
-use Rattle.lisp_registration.specs.Server.{IsInFront, length_in, source_of}
-use Rattle.lisp_registration.specs.Told.{put_in}
+use Rattle.lisp_registration.specs.Told.{IsInFront}
+use Rattle.lisp_registration.specs.Handle.{Tells, ready, source_of, told_bytes}
 
 -- ---- what is due
 
@@ -50,32 +48,20 @@ plain_sent register size = record { nonce = unwrap_or register.save 0; must_save
 
 -- the number, the buffer and the struct that a Map-Register leaves, or why there is none
 abbrev pub told_sent : {A : Type 0} → Result (HostedRegister A) SendFault → List ℕ → PlainSent → ℕ × (List ℕ × PlainSent)
-told_sent (Ok register) buffer old = (0, ((put_in register.bytes.items buffer).1, plain_sent register (length_in register.bytes.items buffer)))
-told_sent (Err why) buffer old = (send_fault_number why, (buffer, old))
+told_sent {A} answer buffer old = told_bytes (λ (register : HostedRegister A). register.bytes.items) plain_sent send_fault_number answer buffer old
 
 -- a router makes the Map-Register of a part to a Map-Server; at a refusal nothing changes
 abbrev pub AnswersSend : {A : Type 0} → ℕ → ℕ → ℕ → EtrState → EtrState → Result (HostedRegister A) SendFault → Type 0
 AnswersSend server part now old new answer = MatchResult answer (SendsKept old new server part now) (λ why. RefusesKeptSend old server part why × (new ≡ old))
 
--- all that a call leaves that sends
-abbrev pub SentLeft : Type 0
-SentLeft = ℕ × (Option HostedRouter × (List ℕ × PlainSent))
+-- the same of what a handle holds
+abbrev pub Sends : ℕ → ℕ → ℕ → ⊤ → HostedRouter → HostedRouter → Result (HostedRegister Global) SendFault → Type 0
+Sends server part now _ before after answer = AnswersSend server part now before.router after.router answer
 
--- what sending leaves, by what the handle holds
-abbrev pub LeavesSent : ℕ → ℕ → ℕ → Option HostedRouter → List ℕ → PlainSent → SentLeft → Type 0
-LeavesSent server part now None buffer sent left = left ≡ (handle_fault_number faults.Null, (None, (buffer, sent)))
-LeavesSent server part now (Some hosted) buffer sent left =
-    (answer : Result (HostedRegister Global) SendFault) × (after : EtrState) × AnswersSend server part now hosted.router after answer
-    × (left ≡ ((told_sent answer buffer sent).0, (Some (record { router = after }), (told_sent answer buffer sent).1)))
-
--- what sending leaves, where it can be asked for, and where not
-abbrev pub LeavesAsked : Result ⊤ HandleFault → ℕ → ℕ → ℕ → Option HostedRouter → List ℕ → PlainSent → SentLeft → Type 0
-LeavesAsked (Ok _) server part now old buffer sent left = LeavesSent server part now old buffer sent left
-LeavesAsked (Err fault) server part now old buffer sent left = left ≡ (handle_fault_number fault, (old, (buffer, sent)))
-
--- the same of a call
+-- what a call leaves that sends
 abbrev pub TellsSent : ℕ → ℕ → ℕ → Option HostedRouter → List ℕ → PlainSent → ℕ → Option HostedRouter → List ℕ → PlainSent → Type 0
-TellsSent server part now old buffer sent number new buffer' sent' = LeavesAsked (ready buffer now) server part now old buffer sent (number, (new, (buffer', sent')))
+TellsSent server part now old buffer sent number new buffer' sent' =
+    Tells (ready buffer now) (Sends server part now) told_sent old buffer sent (number, (new, (buffer', sent')))
 
 -- ---- receiving
 
@@ -91,8 +77,7 @@ answer_bytes (Notice server nonce records answer) = answer
 
 -- the number, the buffer and the struct that an answer leaves
 abbrev pub told_seen : {A : Type 0} → Result (Seen A) NotifyFault → List ℕ → PlainSeen → ℕ × (List ℕ × PlainSeen)
-told_seen (Ok seen) buffer old = (0, ((put_in (answer_bytes seen) buffer).1, plain_seen seen (length_in (answer_bytes seen) buffer)))
-told_seen (Err why) buffer old = (notify_fault_number why, (buffer, old))
+told_seen {A} answer buffer old = told_bytes (answer_bytes {A = A}) plain_seen notify_fault_number answer buffer old
 
 -- what a router sees in bytes from an address is answered whole
 abbrev pub AnswersWhole : EtrState → PlainAddress → List ℕ → List ℕ → ℕ → List ℕ → Type 0
@@ -102,22 +87,11 @@ AnswersWhole e from bytes old size new = (a : Addr) × (seen : Seen Global) × (
 abbrev pub Sees : {A : Type 0} → EtrState → Addr → List ℕ → Result (Seen A) NotifyFault → Type 0
 Sees e from bytes answer = Gives (λ seen. seen) answer (seen_at e from bytes) × TakesMemoryIfOut e.config from bytes answer × RefusesBadHead bytes answer
 
--- all that a call leaves that receives
-abbrev pub SeenLeft : Type 0
-SeenLeft = ℕ × (Option HostedRouter × (List ℕ × PlainSeen))
+-- the same of what a handle holds
+abbrev pub Hears : List ℕ → Addr → HostedRouter → HostedRouter → Result (Seen Global) NotifyFault → Type 0
+Hears bytes from before after answer = Sees before.router from bytes answer × (after.router ≡ etr_after before.router answer)
 
--- what receiving leaves, by what the handle holds
-abbrev pub LeavesSeen : Addr → List ℕ → Option HostedRouter → List ℕ → PlainSeen → SeenLeft → Type 0
-LeavesSeen from bytes None buffer seen left = left ≡ (handle_fault_number faults.Null, (None, (buffer, seen)))
-LeavesSeen from bytes (Some hosted) buffer seen left =
-    (answer : Result (Seen Global) NotifyFault) × Sees hosted.router from bytes answer
-    × (left ≡ ((told_seen answer buffer seen).0, (Some (record { router = etr_after hosted.router answer }), (told_seen answer buffer seen).1)))
-
--- what receiving leaves, by the source
-abbrev pub LeavesSeenFrom : Result Addr HandleFault → List ℕ → Option HostedRouter → List ℕ → PlainSeen → SeenLeft → Type 0
-LeavesSeenFrom (Ok from) bytes old buffer seen left = LeavesSeen from bytes old buffer seen left
-LeavesSeenFrom (Err fault) bytes old buffer seen left = left ≡ (handle_fault_number fault, (old, (buffer, seen)))
-
--- the same of a call
+-- what a call leaves that receives
 abbrev pub TellsSeen : PlainAddress → List ℕ → Option HostedRouter → List ℕ → PlainSeen → ℕ → Option HostedRouter → List ℕ → PlainSeen → Type 0
-TellsSeen from bytes old buffer seen number new buffer' seen' = LeavesSeenFrom (source_of from bytes buffer) bytes old buffer seen (number, (new, (buffer', seen')))
+TellsSeen from bytes old buffer seen number new buffer' seen' =
+    Tells (source_of from bytes buffer) (Hears bytes) told_seen old buffer seen (number, (new, (buffer', seen')))

@@ -11,12 +11,12 @@ use Rattle.lisp_lookup.specs.declared.answer.Answer.TheVariants.{NoSite, NotRegi
 use Rattle.lisp_lookup.specs.Answer.{Answers}
 use Rattle.lisp_lookup.specs.Table.{IsNextLive, live_from}
 use Rattle.lisp_server.specs.Server.{ServerState}
-use Rattle.lisp_embedded.specs.declared.hosted_server.HostedServer.{HostedServer}
+use Rattle.lisp_embedded.specs.declared.hosted.HostedServer.{HostedServer}
 use Rattle.lisp_registration.specs.declared.address.PlainAddress.{PlainAddress}
-use Rattle.lisp_registration.specs.declared.answer.PlainAnswer.{PlainAnswer}
-use Rattle.lisp_registration.specs.declared.handle_fault.HandleFault.TheVariants as faults
-use Rattle.lisp_registration.specs.declared.locator.PlainLocator.{PlainLocator}
-use Rattle.lisp_registration.specs.declared.row.PlainRow.{PlainRow}
+use Rattle.lisp_registration.specs.declared.held.PlainAnswer.{PlainAnswer}
+use Rattle.lisp_registration.specs.declared.fault.HandleFault.TheVariants as faults
+use Rattle.lisp_registration.specs.declared.record.PlainLocator.{PlainLocator}
+use Rattle.lisp_registration.specs.declared.held.PlainRow.{PlainRow}
 use Rattle.lisp_registration.specs.Fault.{handle_fault_number}
 use Rattle.lisp_registration.specs.Meaning.{address_in}
 use Rattle.lisp_registration.specs.Plain.{no_address, no_record, plain_address, plain_locators, plain_mapping}

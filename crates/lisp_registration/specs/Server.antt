@@ -1,9 +1,8 @@
 -- What a call from C makes of the Map-Server that a handle holds, and what it tells.
-use Rattle.std.specs.Prelude.{◌≡◌, ℕ, ◌==◌, nat_lt, List, [], ◌++◌, length, drop, replicate, Option, Some, None, Result, Ok, Err, IfOk, MatchResult, if◌then◌else◌}
+use Rattle.std.specs.Prelude.{◌≡◌, ℕ, ◌==◌, List, [], replicate, Option, Some, None, Result, IfOk, MatchResult, if◌then◌else◌}
 use Rattle.std.specs.Option.{MatchOption}
 use Rattle.std.specs.Global.{Global}
 use Rattle.lisp_records.specs.declared.address.Addr.{Addr}
-use Rattle.lisp_records.specs.Result.{◌>>=◌}
 use Rattle.lisp_nonces.specs.declared.pair.Pair.{Pair}
 use Rattle.lisp_admission.specs.declared.refused.Refused.{Refused}
 use Rattle.lisp_admission.specs.Refused.{refused_number}
@@ -11,18 +10,17 @@ use Rattle.lisp_server.specs.declared.took.Took.{Took}
 use Rattle.lisp_server.specs.declared.took.Took.TheVariants.{Accepted, NoticeDone}
 use Rattle.lisp_server.specs.Server.{ServerState, empty_server}
 use Rattle.lisp_server.specs.Took.{reply_in}
-use Rattle.lisp_embedded.specs.declared.hosted_server.HostedServer.{HostedServer}
+use Rattle.lisp_embedded.specs.declared.hosted.HostedServer.{HostedServer}
 use Rattle.lisp_embedded.specs.Host.{pair_in}
 use Rattle.lisp_embedded.specs.Receiving.{IsOfNoStore, RefusesKept, TakesKept}
 use Rattle.lisp_registration.specs.declared.address.PlainAddress.{PlainAddress}
-use Rattle.lisp_registration.specs.declared.handle_fault.HandleFault.{HandleFault}
-use Rattle.lisp_registration.specs.declared.handle_fault.HandleFault.TheVariants.{Field, Null, Room}
+use Rattle.lisp_registration.specs.declared.fault.HandleFault.TheVariants.{Null}
 use Rattle.lisp_registration.specs.declared.pair.PlainNonce.{PlainNonce}
 use Rattle.lisp_registration.specs.declared.pair.PlainPair.{PlainPair}
-use Rattle.lisp_registration.specs.declared.received.PlainReceived.{PlainReceived}
+use Rattle.lisp_registration.specs.declared.server.PlainReceived.{PlainReceived}
 use Rattle.lisp_registration.specs.Fault.{handle_fault_number}
-use Rattle.lisp_registration.specs.Meaning.{address_in, or_fault}
-use Rattle.lisp_registration.specs.Told.{put_in}
+use Rattle.lisp_registration.specs.Told.{ToldWhole}
+use Rattle.lisp_registration.specs.Handle.{Tells, source_of, told_bytes}
 
 -- a pair, or none
 abbrev pub plain_pair : Option Pair → PlainPair
@@ -56,47 +54,19 @@ bytes_of None = []
 abbrev pub reply_bytes : {A : Type 0} → Took A → List ℕ
 reply_bytes took = bytes_of (reply_in took)
 
--- how many bytes of the buffer are an answer: none where it has no room for it
-abbrev pub length_in : List ℕ → List ℕ → ℕ
-length_in reply buffer = if nat_lt (length buffer) (length reply) then 0 else length reply
-
--- so many bytes in front of a buffer are these, and the others are as they were
-abbrev pub IsInFront : List ℕ → List ℕ → ℕ → List ℕ → Type 0
-IsInFront bytes old size new = (size ≡ length bytes) × (new ≡ bytes ++ drop (length bytes) old)
-
--- bytes are told whole: how many they are, and they stand in front of the buffer
-abbrev pub ToldWhole : List ℕ → List ℕ → Type 0
-ToldWhole bytes buffer = IsInFront bytes buffer (length_in bytes buffer) (put_in bytes buffer).1
-
 -- the number, the buffer and the struct that an answer leaves
 abbrev pub told_received : {A : Type 0} → Result (Took A) Refused → List ℕ → PlainReceived → ℕ × (List ℕ × PlainReceived)
-told_received (Ok took) buffer old = (0, ((put_in (reply_bytes took) buffer).1, plain_received took (length_in (reply_bytes took) buffer)))
-told_received (Err why) buffer old = (refused_number why, (buffer, old))
-
--- the source of a datagram, where that is an address and the buffer has as much room as the datagram
-abbrev pub source_of : PlainAddress → List ℕ → List ℕ → Result Addr HandleFault
-source_of from bytes buffer = or_fault Field (address_in from) >>= λ a. if nat_lt (length buffer) (length bytes) then Err Room else Ok a
+told_received {A} answer buffer old = told_bytes (reply_bytes {A = A}) plain_received refused_number answer buffer old
 
 -- an answer is what a Map-Server makes of the datagram, over the nonce that was passed; a refusal is not of a store, and changes nothing
 abbrev pub ReceivesKept : {A : Type 0} → Option ℕ → Addr → List ℕ → ℕ → ServerState → ServerState → Result (Took A) Refused → Type 0
 ReceivesKept kept from bytes now old new answer = MatchResult answer (λ took. TakesKept kept from bytes old new now took) (λ why. RefusesKept kept from bytes old now why × IsOfNoStore why × (new ≡ old))
 
--- all that a call leaves
-abbrev pub Left : Type 0
-Left = ℕ × (Option HostedServer × (List ℕ × PlainReceived))
+-- the same of what a handle holds; an answer is told whole
+abbrev pub Receives : Option ℕ → List ℕ → ℕ → List ℕ → Addr → HostedServer → HostedServer → Result (Took Global) Refused → Type 0
+Receives kept bytes now buffer from before after answer = ReceivesKept kept from bytes now before.server after.server answer × IfOk answer (λ took. ToldWhole (reply_bytes took) buffer)
 
--- what receiving leaves, by what the handle holds; an answer is told whole
-abbrev pub LeavesReceived : Option ℕ → Addr → List ℕ → ℕ → Option HostedServer → List ℕ → PlainReceived → Left → Type 0
-LeavesReceived kept from bytes now None buffer received left = left ≡ (handle_fault_number Null, (None, (buffer, received)))
-LeavesReceived kept from bytes now (Some hosted) buffer received left =
-    (answer : Result (Took Global) Refused) × (after : ServerState) × ReceivesKept kept from bytes now hosted.server after answer × IfOk answer (λ took. ToldWhole (reply_bytes took) buffer)
-    × (left ≡ ((told_received answer buffer received).0, (Some (record { server = after }), (told_received answer buffer received).1)))
-
--- what receiving leaves, by the source
-abbrev pub LeavesFrom : Option ℕ → Result Addr HandleFault → List ℕ → ℕ → Option HostedServer → List ℕ → PlainReceived → Left → Type 0
-LeavesFrom kept (Ok from) bytes now old buffer received left = LeavesReceived kept from bytes now old buffer received left
-LeavesFrom kept (Err e) bytes now old buffer received left = left ≡ (handle_fault_number e, (old, (buffer, received)))
-
+-- what receiving leaves
 abbrev pub TellsReceived : PlainNonce → PlainAddress → List ℕ → ℕ → Option HostedServer → List ℕ → PlainReceived → ℕ → Option HostedServer → List ℕ → PlainReceived → Type 0
 TellsReceived kept from bytes now old buffer received number new buffer' received' =
-    LeavesFrom (kept_in kept) (source_of from bytes buffer) bytes now old buffer received (number, (new, (buffer', received')))
+    Tells (source_of from bytes buffer) (Receives (kept_in kept) bytes now buffer) told_received old buffer received (number, (new, (buffer', received')))

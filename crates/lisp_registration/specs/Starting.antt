@@ -10,30 +10,22 @@ use Rattle.lisp_policy.specs.Extends.{extends}
 use Rattle.lisp_policy.specs.Site.{SiteValue}
 use Rattle.lisp_sites.specs.declared.fault.ConfigFault.{ConfigFault}
 use Rattle.lisp_sites.specs.declared.fault.ConfigFault.TheVariants as config_faults
-use Rattle.lisp_sites.specs.Field.{fault_number}
 use Rattle.lisp_sites.specs.Table.{config_of}
 use Rattle.lisp_nonces.specs.declared.pair.Pair.{Pair}
 use Rattle.lisp_etr.specs.Config.{EtrConfigValue, sent_pair}
 use Rattle.lisp_etr.specs.Etr.{etr_changed}
 use Rattle.lisp_model.specs.Trace.{etr_config_of}
 use Rattle.lisp_server.specs.Server.{empty_server, reloaded}
-use Rattle.lisp_embedded.specs.declared.hosted_server.HostedServer.{HostedServer}
-use Rattle.lisp_embedded.specs.declared.hosted_router.HostedRouter.{HostedRouter}
+use Rattle.lisp_embedded.specs.declared.hosted.HostedServer.{HostedServer}
+use Rattle.lisp_embedded.specs.declared.hosted.HostedRouter.{HostedRouter}
 use Rattle.lisp_embedded.specs.Routers.{started_from}
-use Rattle.lisp_registration.specs.declared.node_fault.NodeFault.{NodeFault}
-use Rattle.lisp_registration.specs.declared.handle_fault.HandleFault.TheVariants.{Null}
+use Rattle.lisp_registration.specs.declared.fault.NodeFault.{NodeFault}
+use Rattle.lisp_registration.specs.declared.fault.HandleFault.TheVariants.{Null}
 use Rattle.lisp_registration.specs.declared.pair.PlainPair.{PlainPair}
-use Rattle.lisp_registration.specs.Fault.{handle_fault_number}
+use Rattle.lisp_registration.specs.Fault.{handle_fault_number, node_fault_number}
 use Rattle.lisp_registration.specs.Server.{plain_pair}
-use Rattle.lisp_registration.specs.declared.node_fault.NodeFault.TheVariants.{NotUtf8, Configuration, NoRouter, OutOfMemory}
+use Rattle.lisp_registration.specs.declared.fault.NodeFault.TheVariants.{NotUtf8, Configuration, NoRouter, OutOfMemory}
 pub mod Asked
-
--- the numbers of the faults
-abbrev pub node_fault_number : NodeFault → ℕ
-node_fault_number NotUtf8 = 95
-node_fault_number (Configuration fault) = fault_number fault
-node_fault_number NoRouter = 106
-node_fault_number OutOfMemory = 105
 
 -- what is read of a configuration, or its fault
 abbrev pub configured : {X : Type 0} → Result X ConfigFault → Result X NodeFault

@@ -1,18 +1,15 @@
-//! Addresses, as C has them.
+//! Addresses and EID-Prefixes, as C has them.
 
-ghost use Rattle.std.specs.Prelude.{◌≡◌, ◌++◌, length, replicate, IfOk, IsErrOf};
-ghost use Rattle.lisp_registration.specs.Plain.{no_address, plain_address};
-ghost use Rattle.lisp_registration.specs.RequestMeaning.{each_in};
-ghost use Rattle.lisp_registration.specs.Meaning.{Makes, address_in};
-ghost use Rattle.lisp_registration.specs.declared.fault.WriteFault.TheVariants.{OutOfMemory};
+ghost use Rattle.std.specs.Prelude.{◌≡◌, ◌++◌, replicate};
+ghost use Rattle.lisp_registration.specs.Meaning.{address_in, prefix_in};
+ghost use Rattle.lisp_registration.specs.Plain.{no_address, plain_address, plain_prefix};
 
-use crate::fault::WriteFault;
-use lisp_memory::{FallibleVec, Memory};
-use lisp_records::{Addr, Family};
+use crate::items::Says;
+use lisp_records::{Addr, Family, Prefix};
 
 /// An address, in plain numbers (RFC 9301 section 5.4).
 #[repr(C)]
-#[derive(Clone, Copy, Debug, PartialEq, Eq)]
+#[derive(Clone, Copy)]
 pub struct PlainAddress {
     /// The family, as an AFI field names it: 1 is IPv4, 2 is IPv6.
     pub family: u16,
@@ -42,9 +39,15 @@ impl PlainAddress {
             octets: [0; 16],
         }
     }
+}
+
+impl Says for PlainAddress {
+    type Said = Addr;
+
+    ghost said = { address_in };
 
     /// The address; `None` where the family is neither IPv4 nor IPv6.
-    pub(crate) fn addr(&self) -> Option<Addr>
+    fn said(&self) -> Option<Addr>
         ensures { result ≡ address_in self.now }
     {
         if self.family == Family::Ipv4.afi() {
@@ -66,21 +69,37 @@ fn sixteen(octets: [u8; 4]) -> [u8; 16]
     [a, b, c, d, 0, 0, 0, 0, 0, 0, 0, 0, 0, 0, 0, 0]
 }
 
-/// The addresses, in memory of `alloc`; `Field` for the first that is none.
-pub(crate) fn addresses_of<A: Memory>(
-    alloc: A,
-    plain: &[PlainAddress],
-) -> Result<Vec<Addr, A>, WriteFault>
-    ensures value { Makes (λ v. v.items) result (each_in address_in plain.now) }
-    ensures count { IfOk result (λ v. length v.items ≡ length plain.now) }
-    ensures memory { IsErrOf result OutOfMemory → A.may_refuse }
-{
-    let mut addresses = Vec::new(alloc);
-    for address in plain {
-        let Some(addr) = address.addr() else {
-            return Err(WriteFault::Field);
-        };
-        addresses.try_push(addr)?;
+/// An EID-Prefix, in plain numbers (RFC 9301 section 5.2).
+#[repr(C)]
+#[derive(Clone, Copy)]
+pub struct PlainPrefix {
+    /// How many bits its addresses share.
+    pub mask_len: u8,
+    /// Its first address. Of one that is written, bits past the mask are cleared.
+    pub address: PlainAddress,
+}
+
+impl PlainPrefix {
+    /// An EID-Prefix in plain numbers.
+    pub(crate) fn of(prefix: &Prefix) -> PlainPrefix
+        ensures { result ≡ plain_prefix prefix.now }
+    {
+        PlainPrefix {
+            mask_len: prefix.mask_len(),
+            address: PlainAddress::of(prefix.addr()),
+        }
     }
-    Ok(addresses)
+}
+
+impl Says for PlainPrefix {
+    type Said = Prefix;
+
+    ghost said = { prefix_in };
+
+    /// The EID-Prefix; `None` where the family is neither IPv4 nor IPv6, and where the mask is longer than the address.
+    fn said(&self) -> Option<Prefix>
+        ensures { result ≡ prefix_in self.now }
+    {
+        Prefix::new(self.address.said()?, self.mask_len)
+    }
 }

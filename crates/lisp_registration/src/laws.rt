@@ -3,18 +3,19 @@
 ghost use Rattle.std.specs.Prelude.{ℕ, List, Option, Some};
 ghost use Rattle.lisp_records.specs.Spelling.{IsBytes};
 ghost use Rattle.lisp_etr.specs.Sending.{next_datagram};
-ghost use Rattle.lisp_embedded.specs.declared.hosted_router.HostedRouter.{HostedRouter};
+ghost use Rattle.lisp_embedded.specs.declared.hosted.HostedRouter.{HostedRouter};
 ghost use Rattle.lisp_registration.specs.declared.address.PlainAddress.{PlainAddress};
-ghost use Rattle.lisp_registration.specs.declared.notice.PlainNotice.{PlainNotice};
+ghost use Rattle.lisp_registration.specs.declared.notices.PlainNotice.{PlainNotice};
 ghost use Rattle.lisp_registration.specs.declared.pair.PlainNonce.{PlainNonce};
-ghost use Rattle.lisp_registration.specs.declared.received.PlainReceived.{PlainReceived};
-ghost use Rattle.lisp_registration.specs.declared.router_id.PlainRouter.{PlainRouter};
-ghost use Rattle.lisp_registration.specs.declared.seen.PlainSeen.{PlainSeen};
-ghost use Rattle.lisp_registration.specs.declared.sent.PlainSent.{PlainSent};
+ghost use Rattle.lisp_registration.specs.declared.server.PlainReceived.{PlainReceived};
+ghost use Rattle.lisp_registration.specs.declared.pair.PlainRouter.{PlainRouter};
+ghost use Rattle.lisp_registration.specs.declared.router.PlainSeen.{PlainSeen};
+ghost use Rattle.lisp_registration.specs.declared.router.PlainSent.{PlainSent};
 ghost use Rattle.lisp_registration.specs.Notices.{ExpiresRows, KeepsShort, TellsNotice, TellsResent};
 ghost use Rattle.lisp_registration.specs.Router.{AnswersWhole, TellsSeen, TellsSent};
-ghost use Rattle.lisp_registration.specs.Server.{IsInFront, RestartsServer, TellsReceived};
+ghost use Rattle.lisp_registration.specs.Server.{RestartsServer, TellsReceived};
 ghost use Rattle.lisp_registration.specs.Starting.{ReloadsServer, StartsNode, text_server, text_sites};
+ghost use Rattle.lisp_registration.specs.Told.{IsInFront};
 
 /// Where a router makes a Map-Register, so many bytes in front of the buffer are told as it has, and they are the Map-Register.
 pub fn registers_are_told_whole()

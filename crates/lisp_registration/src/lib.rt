@@ -28,92 +28,58 @@
 #![tactic(auto)]
 
 mod address;
-mod answer;
-mod due;
-mod eid;
-mod encapsulated;
 mod fault;
-mod handle_fault;
 mod held;
+mod items;
 pub mod laws;
-mod locator;
 mod message;
-mod node_fault;
-mod notice;
 mod notices;
 mod pair;
 mod reading;
-mod reading_requests;
-mod received;
 mod record;
-mod records;
-mod replied;
-mod reply;
-mod request;
+mod requests;
 mod resolving;
 mod room;
 mod router;
 mod router_handle;
-mod router_id;
-mod row;
-mod seen;
-mod sent;
 mod server;
 mod starting;
-mod tag;
-mod telling;
 mod writing;
-mod writing_requests;
 
-pub use address::PlainAddress;
-pub use answer::PlainAnswer;
-pub use due::PlainDue;
-pub use eid::PlainPrefix;
-pub use encapsulated::PlainEncapsulated;
-pub use fault::WriteFault;
-pub use handle_fault::HandleFault;
-pub use held::{lisp_registration_server_answer, lisp_registration_server_row};
-pub use locator::PlainLocator;
-pub use message::PlainMessage;
-pub use node_fault::NodeFault;
-pub use notice::PlainNotice;
+pub use address::{PlainAddress, PlainPrefix};
+pub use fault::{HandleFault, NodeFault, WriteFault};
+pub use held::{
+    PlainAnswer, PlainRow, lisp_registration_server_answer, lisp_registration_server_row,
+};
+pub use message::{PlainMessage, lisp_registration_authentic, lisp_registration_sign};
 pub use notices::{
-    lisp_registration_server_due, lisp_registration_server_expire, lisp_registration_server_notify,
-    lisp_registration_server_resend,
+    PlainNotice, lisp_registration_server_due, lisp_registration_server_expire,
+    lisp_registration_server_notify, lisp_registration_server_resend,
 };
-pub use pair::{PlainNonce, PlainPair};
+pub use pair::{PlainNonce, PlainPair, PlainRouter};
 pub use reading::{
-    lisp_registration_read_locator, lisp_registration_read_message, lisp_registration_read_record,
-};
-pub use reading_requests::{
     lisp_registration_read_eid, lisp_registration_read_encapsulated,
-    lisp_registration_read_itr_rloc, lisp_registration_read_reply, lisp_registration_read_request,
+    lisp_registration_read_itr_rloc, lisp_registration_read_locator,
+    lisp_registration_read_message, lisp_registration_read_record, lisp_registration_read_reply,
+    lisp_registration_read_request,
 };
-pub use received::PlainReceived;
-pub use record::PlainRecord;
-pub use replied::PlainReplied;
-pub use reply::PlainReply;
-pub use request::PlainRequest;
-pub use resolving::{lisp_registration_router_reply, lisp_registration_server_reply};
+pub use record::{PlainLocator, PlainRecord};
+pub use requests::{PlainEncapsulated, PlainReply, PlainRequest};
+pub use resolving::{PlainReplied, lisp_registration_router_reply, lisp_registration_server_reply};
 pub use router::{
-    lisp_registration_router_due, lisp_registration_router_receive, lisp_registration_router_send,
+    PlainDue, PlainSeen, PlainSent, lisp_registration_router_due, lisp_registration_router_receive,
+    lisp_registration_router_send,
 };
 pub use router_handle::{
     lisp_registration_router_change, lisp_registration_router_pair, lisp_registration_router_start,
     lisp_registration_router_stop,
 };
-pub use router_id::PlainRouter;
-pub use row::PlainRow;
-pub use seen::PlainSeen;
-pub use sent::PlainSent;
 pub use server::{
-    lisp_registration_server_pair, lisp_registration_server_receive,
+    PlainReceived, lisp_registration_server_pair, lisp_registration_server_receive,
     lisp_registration_server_reload, lisp_registration_server_restart,
     lisp_registration_server_start, lisp_registration_server_stop,
 };
-pub use tag::{lisp_registration_authentic, lisp_registration_sign};
-pub use writing::lisp_registration_write_message;
-pub use writing_requests::{
-    lisp_registration_write_encapsulated, lisp_registration_write_reply,
-    lisp_registration_write_request,
+pub use writing::{
+    lisp_registration_write_encapsulated, lisp_registration_write_message,
+    lisp_registration_write_reply, lisp_registration_write_request,
 };

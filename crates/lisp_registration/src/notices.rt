@@ -5,19 +5,43 @@ ghost use Rattle.lisp_admission.specs.declared.notice_fault.NoticeFault.{NoticeF
 ghost use Rattle.lisp_memory.specs.Refusal.{MachineMayRefuse};
 ghost use Rattle.lisp_records.specs.Moment.{max_moment};
 ghost use Rattle.lisp_server.specs.Notices.{RefusesResend};
-ghost use Rattle.lisp_registration.specs.Notices.{Dropped, ExpiresRows, SendsAgain, TellsDue, TellsNotice, TellsResent, told_notice};
+ghost use Rattle.lisp_registration.specs.Notices.{plain_notice, Dropped, ExpiresRows, SendsAgain, TellsDue, TellsNotice, TellsResent, told_notice};
 
-use crate::handle_fault::HandleFault;
-use crate::notice::PlainNotice;
-use crate::pair::PlainNonce;
+use crate::address::PlainAddress;
+use crate::fault::HandleFault;
+use crate::pair::{PlainNonce, PlainRouter};
 use crate::room::{in_time, ready};
-use crate::router_id::PlainRouter;
 use crate::writing::put_length;
 use lisp_embedded::{HostedNotice, ServerHandle, notify_kept};
 use lisp_memory::Memory;
 use lisp_records::RouterId;
 use lisp_server::{NoticeFault, Server};
 use std::alloc::{Allocator, Global};
+
+/// A notice that is to be sent, in plain numbers, but its bytes (RFC 9301 section 5.7).
+#[repr(C)]
+#[derive(Clone, Copy)]
+pub struct PlainNotice {
+    /// Its nonce, which has to be saved before it is sent; 0 of a notice that is sent again.
+    pub nonce: u64,
+    /// Where to send it.
+    pub to: PlainAddress,
+    /// How many bytes of the buffer are the notice.
+    pub length: usize,
+}
+
+impl PlainNotice {
+    /// A notice in plain numbers, of which so many bytes are in the buffer.
+    pub(crate) fn of<A: Allocator>(notice: &HostedNotice<A>, length: usize) -> PlainNotice
+        ensures { result ≡ plain_notice notice.now length }
+    {
+        PlainNotice {
+            nonce: notice.nonce,
+            to: PlainAddress::of(notice.to),
+            length,
+        }
+    }
+}
 
 /// Makes a router a notice of what is held of it, at a time, in ms, with `kept`, the nonce that the program loaded for the pair
 /// of all notices. The notice is the first `notice.length` bytes of the buffer. The program has to save `notice.nonce` before

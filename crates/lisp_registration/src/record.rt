@@ -1,21 +1,86 @@
-//! Records, as C has them.
+//! Records and their locators, as C has them.
 
-ghost use Rattle.std.specs.Prelude.{◌≡◌, ◌<◌, length, IsErrOf};
-ghost use Rattle.lisp_records.specs.Result.{Reads};
-ghost use Rattle.lisp_registration.specs.Plain.{no_record, plain_mapping, plain_record, plain_record_at};
-ghost use Rattle.lisp_registration.specs.Meaning.{Makes, block_in, locators_in, record_in};
+ghost use Rattle.std.specs.Prelude.{◌≡◌, ◌<◌, length, IsErrOf, IfOk};
+ghost use Rattle.lisp_registration.specs.Plain.{plain_locator, no_record, plain_mapping, plain_record, plain_record_at};
+ghost use Rattle.lisp_registration.specs.Meaning.{Makes, block_in, few_records_in, locator_in, record_in, records_in};
 ghost use Rattle.lisp_registration.specs.declared.fault.WriteFault.TheVariants.{OutOfMemory};
 
 use crate::address::PlainAddress;
 use crate::fault::WriteFault;
-use crate::locator::PlainLocator;
+use crate::items::{Says, items_of};
 use lisp_memory::{FallibleVec, Memory};
-use lisp_records::{Locator, MapRecord, Prefix, RecordLayout};
+use lisp_records::{Locator, MAX_RECORDS, MapRecord, Prefix, RecordLayout, Records};
 use std::alloc::Allocator;
+
+/// A locator, in plain numbers (RFC 9301 section 5.4).
+#[repr(C)]
+#[derive(Clone, Copy)]
+pub struct PlainLocator {
+    /// Unicast priority: less is preferred, 255 is never used.
+    pub priority: u8,
+    /// The share of unicast traffic among locators of one priority.
+    pub weight: u8,
+    /// Multicast priority.
+    pub m_priority: u8,
+    /// Multicast weight.
+    pub m_weight: u8,
+    /// L, as 1 or 0: the locator is of the router that sent the record.
+    pub local: u8,
+    /// p, as 1 or 0: the locator is probed.
+    pub probe: u8,
+    /// R, as 1 or 0: the sender can reach the locator.
+    pub reachable: u8,
+    /// The locator itself.
+    pub address: PlainAddress,
+    /// Where it ends in the message that it was read from. Not written.
+    pub end: usize,
+}
+
+impl PlainLocator {
+    /// A locator in plain numbers, which ends at byte `end`.
+    pub(crate) fn of(locator: &Locator, end: usize) -> PlainLocator
+        ensures { result ≡ plain_locator locator.now end }
+    {
+        PlainLocator {
+            priority: locator.priority,
+            weight: locator.weight,
+            m_priority: locator.m_priority,
+            m_weight: locator.m_weight,
+            local: u8::from(locator.local),
+            probe: u8::from(locator.probe),
+            reachable: u8::from(locator.reachable),
+            address: PlainAddress::of(locator.addr),
+            end,
+        }
+    }
+}
+
+impl Says for PlainLocator {
+    type Said = Locator;
+
+    ghost said = { locator_in };
+
+    /// The locator, of which each flag but 0 is set; `None` where the family is neither IPv4 nor IPv6.
+    fn said(&self) -> Option<Locator>
+        ensures { result ≡ locator_in self.now }
+    {
+        let addr = self.address.said()?;
+        Some(Locator {
+            priority: self.priority,
+            weight: self.weight,
+            m_priority: self.m_priority,
+            m_weight: self.m_weight,
+            local: self.local != 0,
+            probe: self.probe != 0,
+            reachable: self.reachable != 0,
+            addr,
+        })
+    }
+}
 
 /// A record but its locators, in plain numbers (RFC 9301 section 5.4).
 #[repr(C)]
-#[derive(Clone, Copy, Debug, PartialEq, Eq)]
+#[derive(Clone, Copy)]
 pub struct PlainRecord {
     /// How long a cache may keep the record, in minutes.
     pub ttl: u32,
@@ -108,7 +173,7 @@ impl PlainRecord {
         let Some(eid) = self.block() else {
             return Err(WriteFault::Field);
         };
-        let locators = locators_of(alloc, locators)?;
+        let locators = items_of(alloc, locators)?;
         let authoritative = self.authoritative != 0;
         let ttl = self.ttl;
         match MapRecord::new(ttl, self.act, authoritative, self.version, eid, locators) {
@@ -121,21 +186,51 @@ impl PlainRecord {
     fn block(&self) -> Option<Prefix>
         ensures { result ≡ block_in self.now }
     {
-        Prefix::new(self.eid.addr()?, self.mask_len)
+        Prefix::new(self.eid.said()?, self.mask_len)
     }
 }
 
-// The locators, in memory of `alloc`.
-fn locators_of<A: Memory>(alloc: A, plain: &[PlainLocator]) -> Result<Vec<Locator, A>, WriteFault>
-    ensures value { Makes (λ v. v.items) result (locators_in plain.now) }
+/// The records of a message, of which each has so many of the locators as it counts, those of the first record first; in
+/// memory of `alloc`. Faults: `Counts` for more than 255 records; of each record `Counts` where too few locators are left, and
+/// `Field`; then `Counts` where locators are left.
+pub(crate) fn records_of<A: Memory + Copy>(
+    alloc: A,
+    plain: &[PlainRecord],
+    locators: &[PlainLocator],
+) -> Result<Records<A>, WriteFault>
+    ensures value { Makes (λ r. r) result (few_records_in plain.now locators.now) }
+    ensures few { IfOk result (λ r. length r < 256) }
     ensures memory { IsErrOf result OutOfMemory → A.may_refuse }
 {
-    let mut locators = Vec::new(alloc);
-    for locator in plain {
-        let Some(locator) = locator.locator() else {
-            return Err(WriteFault::Field);
-        };
-        locators.try_push(locator)?;
+    if plain.len() > MAX_RECORDS {
+        return Err(WriteFault::Counts);
     }
-    Ok(locators)
+    let records = each_record(alloc, plain, locators)?;
+    Ok(Records::from_vec(records))
+}
+
+// The records, one after the other. Faults: those of `records_of` but the first.
+fn each_record<A: Memory + Copy>(
+    alloc: A,
+    plain: &[PlainRecord],
+    locators: &[PlainLocator],
+) -> Result<Vec<MapRecord<A>, A>, WriteFault>
+    ensures value { Makes (λ v. v.items) result (records_in plain.now locators.now) }
+    ensures count { IfOk result (λ v. length v.items ≡ length plain.now) }
+    ensures memory { IsErrOf result OutOfMemory → A.may_refuse }
+{
+    let mut records = Vec::new(alloc);
+    let mut rest = locators;
+    for entry in plain {
+        let count = usize::from(entry.locator_count);
+        let Some((own, others)) = rest.split_at_checked(count) else {
+            return Err(WriteFault::Counts);
+        };
+        records.try_push(entry.record(alloc, own)?)?;
+        rest = others;
+    }
+    if !rest.is_empty() {
+        return Err(WriteFault::Counts);
+    }
+    Ok(records)
 }

@@ -2,11 +2,11 @@
 
 ghost use Rattle.std.specs.Prelude.{◌≡◌, ◌≤◌, IfOk};
 ghost use Rattle.lisp_records.specs.Moment.{max_moment};
-ghost use Rattle.lisp_registration.specs.Room.{in_time, ready};
-ghost use Rattle.lisp_registration.specs.Server.{source_of};
+ghost use Rattle.lisp_registration.specs.Handle.{in_time, ready, source_of};
 
 use crate::address::PlainAddress;
-use crate::handle_fault::HandleFault;
+use crate::fault::HandleFault;
+use crate::items::Says;
 use lisp_records::{Addr, MAX_MOMENT};
 
 /// The most bytes of a message that a Map-Server or a router makes: 16,384 of its records, 32 before them, and 24 behind
@@ -29,7 +29,7 @@ pub(crate) fn ready(buffer: &[u8], now: u64) -> Result<(), HandleFault>
 pub(crate) fn source(from: &PlainAddress, bytes: &[u8], buffer: &[u8]) -> Result<Addr, HandleFault>
     ensures { result ≡ source_of from.now bytes.now buffer.now }
 {
-    let Some(from) = from.addr() else {
+    let Some(from) = from.said() else {
         return Err(HandleFault::Field);
     };
     if bytes.len() > buffer.len() {

@@ -2,18 +2,129 @@
 
 ghost use Rattle.std.specs.Prelude.{◌≡◌};
 ghost use Rattle.lisp_memory.specs.Refusal.{MachineMayRefuse};
-ghost use Rattle.lisp_registration.specs.Router.{TellsSeen, TellsSent, answer_bytes, told_due, told_seen, told_sent};
+ghost use Rattle.lisp_registration.specs.Router.{plain_due, plain_sent, plain_seen, TellsSeen, TellsSent, answer_bytes, told_due, told_seen, told_sent};
 
 use crate::address::PlainAddress;
-use crate::due::PlainDue;
-use crate::handle_fault::HandleFault;
+use crate::fault::HandleFault;
 use crate::room::{ready, source};
-use crate::seen::PlainSeen;
-use crate::sent::PlainSent;
 use crate::writing::put_length;
 use lisp_embedded::{HostedRegister, RouterHandle, send_kept};
 use lisp_etr::{NotifyFault, Seen, SendFault};
 use std::alloc::{Allocator, Global};
+
+/// A Map-Register that a router is due to send, in plain numbers, or none.
+#[repr(C)]
+#[derive(Clone, Copy)]
+pub struct PlainDue {
+    /// The number of the Map-Server, from 0 on.
+    pub server: usize,
+    /// The part of the router's database, from 0 on.
+    pub part: usize,
+    /// 1 where one is due, else 0, and then all is 0.
+    pub is_there: u8,
+}
+
+impl PlainDue {
+    /// What is due, in plain numbers, or nothing.
+    pub(crate) fn of(due: Option<(usize, usize)>) -> PlainDue
+        ensures { result ≡ plain_due due }
+    {
+        match due {
+            Some((server, part)) => PlainDue {
+                server,
+                part,
+                is_there: 1,
+            },
+            None => PlainDue {
+                server: 0,
+                part: 0,
+                is_there: 0,
+            },
+        }
+    }
+}
+
+/// A Map-Register that is to be sent, in plain numbers, but its bytes (RFC 9301 section 5.6).
+#[repr(C)]
+#[derive(Clone, Copy)]
+pub struct PlainSent {
+    /// What has to be saved for the router's pair before it is sent: the end of the block of nonces that it begins; else 0.
+    pub nonce: u64,
+    /// 1 where that has to be saved, 0 where its nonce is of a block that was saved.
+    pub must_save: u8,
+    /// The address of its Map-Server.
+    pub to: PlainAddress,
+    /// How many bytes of the buffer are the Map-Register.
+    pub length: usize,
+}
+
+impl PlainSent {
+    /// A Map-Register in plain numbers, of which so many bytes are in the buffer.
+    pub(crate) fn of<A: Allocator>(register: &HostedRegister<A>, length: usize) -> PlainSent
+        ensures { result ≡ plain_sent register.now length }
+    {
+        let to = PlainAddress::of(register.to);
+        let (nonce, must_save) = match register.save {
+            Some(nonce) => (nonce, 1),
+            None => (0, 0),
+        };
+        PlainSent {
+            nonce,
+            must_save,
+            to,
+            length,
+        }
+    }
+}
+
+/// What a router made of a Map-Notify that it took, in plain numbers (RFC 9301 section 5.7).
+#[repr(C)]
+#[derive(Clone, Copy)]
+pub struct PlainSeen {
+    /// The nonce: of the Map-Register that is acknowledged, or the Map-Server's own one of a notice.
+    pub nonce: u64,
+    /// The number of the Map-Server that it came from.
+    pub server: usize,
+    /// The part of the router's database whose Map-Register is acknowledged; 0 of a notice.
+    pub part: usize,
+    /// 1 where it is an unsolicited Map-Notify (notice), 0 where a Map-Register is acknowledged.
+    pub is_notice: u8,
+    /// How many bytes of the buffer are the answer to a notice; 0 where none is sent.
+    pub reply_length: usize,
+}
+
+impl PlainSeen {
+    /// A Map-Notify that was taken, in plain numbers, with the length of its answer.
+    pub(crate) fn of<A: Allocator>(seen: &Seen<A>, reply_length: usize) -> PlainSeen
+        ensures { result ≡ plain_seen seen.now reply_length }
+    {
+        match seen {
+            Seen::Counted {
+                server,
+                part,
+                nonce,
+            } => PlainSeen {
+                nonce: *nonce,
+                server: *server,
+                part: *part,
+                is_notice: 0,
+                reply_length,
+            },
+            Seen::Notice {
+                server,
+                nonce,
+                records: _,
+                answer: _,
+            } => PlainSeen {
+                nonce: *nonce,
+                server: *server,
+                part: 0,
+                is_notice: 1,
+                reply_length,
+            },
+        }
+    }
+}
 
 /// Tells the first Map-Server, by its number, that is due a Map-Register at a time, in ms, and the first part of the router's
 /// database that is due there; or none (RFC 9301 section 8.2). Takes no memory. 0 is done; `Null` 100 where the handle holds

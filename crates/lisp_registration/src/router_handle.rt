@@ -5,7 +5,7 @@ ghost use Rattle.lisp_memory.specs.Refusal.{MachineMayRefuse};
 ghost use Rattle.lisp_registration.specs.Server.{kept_in};
 ghost use Rattle.lisp_registration.specs.Starting.{ChangesRouter, MayRunOut, StartsNode, TellsRouterPair, text_database, text_pair, text_router};
 
-use crate::handle_fault::HandleFault;
+use crate::fault::HandleFault;
 use crate::pair::{PlainNonce, PlainPair};
 use crate::starting::{settings_of, started_router};
 use lisp_embedded::RouterHandle;

@@ -2,18 +2,67 @@
 
 ghost use Rattle.std.specs.Prelude.{◌≡◌, None};
 ghost use Rattle.lisp_memory.specs.Refusal.{MachineMayRefuse};
-ghost use Rattle.lisp_registration.specs.Server.{RestartsServer, TellsPair, TellsReceived};
+ghost use Rattle.lisp_registration.specs.Server.{plain_received, RestartsServer, TellsPair, TellsReceived, reply_bytes, told_received};
 ghost use Rattle.lisp_registration.specs.Starting.{MayRunOut, ReloadsServer, StartsNode, text_server, text_sites};
 
 use crate::address::PlainAddress;
-use crate::handle_fault::HandleFault;
+use crate::fault::HandleFault;
 use crate::pair::{PlainNonce, PlainPair};
-use crate::received::PlainReceived;
 use crate::room::source;
 use crate::starting::{restart, sites_of, started_server};
-use crate::telling::tell_received;
+use crate::writing::put_length;
 use lisp_embedded::{ServerHandle, pair_needed, receive_kept};
-use std::alloc::Global;
+use lisp_server::{Refused, Took};
+use std::alloc::{Allocator, Global};
+
+/// What a Map-Server made of a datagram that it took, in plain numbers.
+#[repr(C)]
+#[derive(Clone, Copy)]
+pub struct PlainReceived {
+    /// The nonce: of the Map-Register that was accepted, which has to be saved; or of the notice that is done.
+    pub nonce: u64,
+    /// The Site-ID of the router.
+    pub site: u64,
+    /// Its xTR-ID.
+    pub xtr: [u8; 16],
+    /// The Key ID of an accepted Map-Register, else 0.
+    pub key_id: u8,
+    /// 1 where a Map-Register was accepted, 0 where a Map-Notify-Ack ended a notice.
+    pub accepted: u8,
+    /// How many bytes of the buffer are the answer; 0 where none is sent.
+    pub reply_length: usize,
+}
+
+impl PlainReceived {
+    /// A message that was taken, in plain numbers, with the length of its answer.
+    pub(crate) fn of<A: Allocator>(took: &Took<A>, reply_length: usize) -> PlainReceived
+        ensures { result ≡ plain_received took.now reply_length }
+    {
+        match took {
+            Took::Accepted {
+                router,
+                key,
+                nonce,
+                reply: _,
+            } => PlainReceived {
+                nonce: *nonce,
+                site: router.site,
+                xtr: router.xtr,
+                key_id: *key,
+                accepted: 1,
+                reply_length,
+            },
+            Took::NoticeDone { router, nonce } => PlainReceived {
+                nonce: *nonce,
+                site: router.site,
+                xtr: router.xtr,
+                key_id: 0,
+                accepted: 0,
+                reply_length,
+            },
+        }
+    }
+}
 
 /// Starts a Map-Server of the sites of a configuration, TOML in UTF-8; it holds nothing yet. What the handle held before is
 /// gone. 0 is done; else (`NotUtf8` 95, a fault of the configuration 20 to 24, `OutOfMemory` 105) the handle is as it was.
@@ -135,5 +184,39 @@ pub extern "C" fn lisp_registration_server_receive(
             tell_received(&answer, buffer, received)
         }
         None => HandleFault::Null.number(),
+    }
+}
+
+/// Tells what was taken: what there is to save, and its answer in the buffer, or none where the buffer has no room for it; or
+/// the number of the refusal.
+pub(crate) fn tell_received<A: Allocator>(
+    answer: &Result<Took<A>, Refused>,
+    buffer: &mut [u8],
+    received: &mut PlainReceived,
+) -> u16
+    ensures { (result, (buffer.new, received.new))
+        ≡ told_received answer.now buffer.old received.old }
+{
+    match answer {
+        Ok(took) => {
+            let reply = reply_of(took);
+            let reply_length = put_length(reply, buffer);
+            *received = PlainReceived::of(took, reply_length);
+            0
+        }
+        Err(refused) => refused.number(),
+    }
+}
+
+// The answer of a message that was taken; no bytes where none is sent.
+fn reply_of<A: Allocator>(took: &Took<A>) -> &[u8]
+    ensures { result.now ≡ reply_bytes took.now }
+{
+    match took {
+        Took::Accepted {
+            reply: Some(bytes),
+            ..
+        } => bytes.as_slice(),
+        _ => &[],
     }
 }

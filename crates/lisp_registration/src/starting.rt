@@ -7,9 +7,9 @@ ghost use Rattle.lisp_memory.specs.Refusal.{MachineMayRefuse};
 ghost use Rattle.lisp_policy.specs.Configuration.{RouterEntryValue};
 ghost use Rattle.lisp_server.specs.Server.{empty_server};
 ghost use Rattle.lisp_registration.specs.Starting.{Comes, RunsOutReading, text_config, text_router, text_server, text_settings, text_sites};
-ghost use Rattle.lisp_registration.specs.declared.node_fault.NodeFault.TheVariants.{OutOfMemory};
+ghost use Rattle.lisp_registration.specs.declared.fault.NodeFault.TheVariants.{OutOfMemory};
 
-use crate::node_fault::NodeFault;
+use crate::fault::NodeFault;
 use core::mem::replace_with;
 use lisp_embedded::{HostedRouter, HostedServer, start_kept};
 use lisp_etr::EtrConfig;

@@ -5,8 +5,7 @@ use Rattle.lisp_records.specs.declared.address.Addr.{Addr}
 use Rattle.lisp_records.specs.Address.{PrefixValue, covers, prefix_around}
 use Rattle.lisp_records.specs.Record.{MapRecordValue}
 use Rattle.lisp_records.specs.Row.{RowValue, is_alive}
-use Rattle.lisp_policy.proofs.Found.{not_true}
-use Rattle.lisp_policy.specs.Site.{SiteValue}
+use Rattle.lisp_policy.{proofs.Found.not_true, specs.Site.SiteValue}
 use Rattle.lisp_lookup.specs.Covering.{IsBestFor, NoneAnswersFor, alone, may_answer_for}
 use Rattle.lisp_lookup.specs.Hole.{IsAlike, IsEmptyIn, IsHole}
 use Rattle.lisp_lookup.specs.Inside.{AreInside, IsBestOfOwn, is_inside}
@@ -120,8 +119,7 @@ module _ (one other : List RowValue) (now : ℕ) (same : SameLive one other now)
       replies_none : (addr : Addr) (reply : Reply A) → RepliesNone one sites addr starting now reply → RepliesNone other sites addr starting now reply
       replies_none addr (Negative hole) (started, is, ttl) = (started, is_hole sites addr hole.eid is, ttl)
       replies_none addr Silent (starts, none) = (starts, none_for one other now same (alone addr) none)
-      replies_none addr (Records records) never = absurd never
-      replies_none addr (Forward to) never = absurd never
+      replies_none addr _ never = absurd never
 
       pub reply_alike : (asked : PrefixValue) (reply : Reply A) → IsReply one sites asked starting now reply → IsReply other sites asked starting now reply
       reply_alike asked reply (inl is) = inl (replies_for asked reply is)

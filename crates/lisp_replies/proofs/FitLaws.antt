@@ -1,29 +1,34 @@
 -- What one message can carry: records for a narrower prefix where it carries those for a wider one, and one record alone.
-use Rattle.std.proofs.Common.{◌≡◌, ◌⊎◌, inl, inr, ℕ, ◌+◌, ◌<◌, ◌≤◌, Bool, true, false, cond, nat_le, nat_lt, List, [], ◌∷◌, ◌++◌, length, map, if◌then◌else◌, refl, sym, ap, ◌∙◌, subst, true≢false, arith, length-append}
-use Rattle.std.specs.List.{Contains, filter}
+use Rattle.std.proofs.Common.{[], ◌≡◌, ◌⊎◌, inl, inr, ℕ, ◌+◌, ◌<◌, ◌≤◌, Bool, true, false, cond, nat_le, nat_lt, List, ◌∷◌, ◌++◌, length, map, if◌then◌else◌, refl, sym, ap, ◌∙◌, subst, true≢false, arith, length-append, Option, Some, None}
 use Rattle.std.proofs.lemmas.Bool.{and_from, and_parts, cases_lt, le-leb}
 use Rattle.std.proofs.lemmas.Bool.Decides.{Decides-ltb}
 use Rattle.std.proofs.lemmas.List.{length-map}
 use Rattle.std.proofs.lemmas.List.Kept.{AllPairs-filter}
 use Rattle.std.proofs.lemmas.List.Sums.{sum_by-cons}
+use Rattle.std.specs.List.{Contains, filter, All}
+use Rattle.std.specs.Option.{IfSome, is_some, IsSome}
 use Rattle.lisp_records.specs.declared.address.Addr.{Addr}
-use Rattle.lisp_records.specs.declared.address.Addr.TheVariants.{V4, V6}
-use Rattle.lisp_records.specs.Address.{PrefixValue, addr_eq, cleared, covers, octets, prefix_around}
+use Rattle.lisp_records.specs.Address.{PrefixValue, addr_eq, cleared, covers, octets, prefix_around, IsPrefix, IsWhole}
 use Rattle.lisp_records.specs.Parts.{fits_message, size}
 use Rattle.lisp_records.specs.Record.{MapRecordValue}
 use Rattle.lisp_records.specs.Row.{RowValue, is_alive}
 use Rattle.lisp_records.specs.Written.{written, written_address, written_head, written_locators}
-use Rattle.lisp_records.proofs.AddressLemmas.{cleared-wider, length-masked}
+use Rattle.lisp_records.proofs.AddressLemmas.{cleared-wider}
 use Rattle.lisp_records.proofs.Cuts.{fits, fits_is}
-use Rattle.lisp_policy.proofs.Found.{not_true}
+use Rattle.lisp_policy.{proofs.Found.not_true, specs.Site.SiteValue}
 use Rattle.lisp_lookup.specs.Inside.{is_inside, AreInside}
-use Rattle.lisp_lookup.specs.Replies.{record_of, not_local, IsLeastTtl, AreRecords}
+use Rattle.lisp_lookup.specs.Replies.{record_of, not_local, IsLeastTtl, AreRecords, IsNarrowed, RepliesWith}
+use Rattle.lisp_lookup.specs.Covering.{IsBestFor, NoneAnswersFor, alone}
+use Rattle.lisp_lookup.specs.Hole.{IsHoleOf}
 use Rattle.lisp_lookup.proofs.Blocks.{is_addr}
 use Rattle.lisp_lookup.proofs.CachedLaws.{covers_through, its_eid}
 use Rattle.lisp_lookup.proofs.TableLaws.{filtered_holds, filter_holds}
-use Rattle.lisp_replies.specs.Narrowing.{WiderFitsNot}
+use Rattle.lisp_lookup.proofs.BestLaws.{for_length, answers_alike}
+use Rattle.lisp_replies.specs.Narrowing.{WiderFitsNot, AreWidest, FitFor, FitNowhere, NoneFitFor}
 use Rattle.lisp_replies.specs.Walk.{records_of}
-use Rattle.lisp_replies.proofs.SeenLaws.{IsBefore, first_or_later, later, none_held}
+use Rattle.lisp_replies.specs.Reply.{is_held_back}
+use Rattle.lisp_replies.proofs.SeenLaws.{IsBefore, first_or_later, later, least_alone}
+use Rattle.lisp_replies.proofs.OwnHoleLaws.{length-octets}
 
 -- ---- how long a record is
 
@@ -45,12 +50,8 @@ its_length ttl eid h = long (record_of ttl eid h) ∙ (λ i. 12 + length (octets
 long_as : (ttl other : ℕ) (eid : PrefixValue) (h : RowValue) → length (written (record_of ttl eid h)) ≡ length (written (record_of other eid h))
 long_as ttl other eid h = its_length ttl eid h ∙ sym (its_length other eid h)
 
-width_of : (a : Addr) (n : ℕ) → length (octets (cleared a n)) ≡ length (octets a)
-width_of (V4 bytes) n = length-masked bytes n
-width_of (V6 bytes) n = length-masked bytes n
-
 long_around : (ttl other : ℕ) (addr : Addr) (n m : ℕ) (h : RowValue) → length (written (record_of ttl (prefix_around addr n) h)) ≡ length (written (record_of other (prefix_around addr m) h))
-long_around ttl other addr n m h = omega (arith, its_length ttl (prefix_around addr n) h, its_length other (prefix_around addr m) h, width_of addr n, width_of addr m)
+long_around ttl other addr n m h = omega (arith, its_length ttl (prefix_around addr n) h, its_length other (prefix_around addr m) h, length-octets addr n, length-octets addr m)
 
 -- ---- the records of some rows
 
@@ -85,13 +86,6 @@ least_case h hs ttl is (inr more) = (ttl, record { its = is.its; held = later h 
     either : (g : RowValue) → (h ≡ g) ⊎ Contains hs g → ttl ≤ g.mapping.ttl
     either g (inl same) = omega (arith, more, ap (λ (x : RowValue). x.mapping.ttl) same)
     either g (inr there) = is.least g there
-
-least_alone : (h : RowValue) → IsLeastTtl (h ∷ []) h.mapping.ttl
-least_alone h = record { its = h; held = (0, omega arith, refl); is = refl; least = λ g here. either g (first_or_later h [] g here) }
-  where
-    either : (g : RowValue) → (h ≡ g) ⊎ Contains [] g → h.mapping.ttl ≤ g.mapping.ttl
-    either g (inl same) = omega (arith, ap (λ (x : RowValue). x.mapping.ttl) same)
-    either g (inr there) = none_held g there
 
 pub least_of : (h : RowValue) (hs : List RowValue) → (ttl : ℕ) × IsLeastTtl (h ∷ hs) ttl
 least_of h [] = (h.mapping.ttl, least_alone h)
@@ -150,3 +144,88 @@ wider_fits_not rows asked now best narrow wide to_narrow to_wide shorter none re
     let inner_are : AreRecords rows (prefix_around asked.addr narrow) now best (records_of ttl.0 (prefix_around asked.addr narrow) best kept) = record { inside = kept; are = inside_inner asked.addr wide narrow shorter rows now are.inside are.are; ttl = ttl.0; least = ttl.1; is = refl } in
     let fit_too = inner_fits asked.addr wide narrow shorter best are.inside ttl.0 are.ttl (subst (λ (rs : List MapRecordValue). fits_message rs ≡ true) are.is fit) in
     true≢false (sym fit_too ∙ none (records_of ttl.0 (prefix_around asked.addr narrow) best kept) inner_are)))
+
+-- ---- The widest prefix for which records fit a message, found by halving.
+
+-- what is known of a value that was found
+pub of_found : {X : Type 0} (P : X → Type 0) (found : Option X) (x : X) → found ≡ Some x → IfSome found P → P x
+of_found {X = X} P found x is known = subst (λ (o : Option X). IfSome o P) is known
+
+pub none_found : {X : Type 0} (found : Option X) → is_some found ≡ false → found ≡ None
+none_found (Some x) none = absurd (true≢false none)
+none_found None none = refl
+
+module _ (rows : List RowValue) (asked : PrefixValue) (now : ℕ) (best : RowValue) where
+  abbrev around : ℕ → PrefixValue
+  around n = prefix_around asked.addr n
+
+  abbrev NoneFit : ℕ → Type 0
+  NoneFit n = NoneFitFor rows (around n) now best
+
+  narrowed_at : (n : ℕ) → best.mapping.eid.mask_len ≤ n → n ≤ asked.mask_len → IsNarrowed asked best (around n)
+  narrowed_at n from to = record { around = refl; from = from; to = to }
+
+  -- where none fit for a length, none do for a lesser one
+  lesser : (n m : ℕ) → best.mapping.eid.mask_len ≤ n → n < m → m ≤ asked.mask_len → NoneFit m → NoneFit n
+  lesser n m from less to none = wider_fits_not rows asked now best m n (narrowed_at m (omega (arith, from, less)) to) (narrowed_at n from (omega (arith, less, to))) less none
+
+  -- what is known below one length is known below the next
+  pub wider_up : (low middle : ℕ) → best.mapping.eid.mask_len ≤ middle → middle ≤ asked.mask_len → NoneFit middle → (n : ℕ) → best.mapping.eid.mask_len ≤ n → n < middle + 1 → NoneFit n
+  wider_up low middle from_middle to none n from less = either (cases_lt n middle)
+    where
+      either : (n < middle) ⊎ (middle ≤ n) → NoneFit n
+      either (inl under) = lesser n middle from under to none
+      either (inr over) = (let same : middle ≡ n = omega (arith, less, over) in subst NoneFit same none)
+
+  -- where none fit for the prefix that is asked for, none do anywhere
+  pub nowhere_at : NoneFit asked.mask_len → FitNowhere rows asked now best
+  nowhere_at none eid narrowed = subst (λ (e : PrefixValue). NoneFitFor rows e now best) (sym narrowed.around) (either (cases_lt eid.mask_len asked.mask_len))
+    where
+      either : (eid.mask_len < asked.mask_len) ⊎ (asked.mask_len ≤ eid.mask_len) → NoneFit eid.mask_len
+      either (inl under) = lesser eid.mask_len asked.mask_len narrowed.from under (omega arith) none
+      either (inr over) = (let same : asked.mask_len ≡ eid.mask_len = omega (arith, over, narrowed.to) in subst NoneFit same none)
+
+  fit_or_not : (n : ℕ) (records : List MapRecordValue) → NoneFit n → FitFor rows (around n) now best records → ⊥
+  fit_or_not n records none (are, fit) = true≢false (sym fit ∙ none records are)
+
+  -- where they fit for a greater length and none do for the row's own, that is less
+  pub own_is_less : (records : List MapRecordValue) → IsBestFor rows asked now best → NoneFit best.mapping.eid.mask_len → FitFor rows (around asked.mask_len) now best records → best.mapping.eid.mask_len < asked.mask_len
+  own_is_less records is_best none fit = either (cases_lt best.mapping.eid.mask_len asked.mask_len)
+    where
+      either : (best.mapping.eid.mask_len < asked.mask_len) ⊎ (asked.mask_len ≤ best.mapping.eid.mask_len) → best.mapping.eid.mask_len < asked.mask_len
+      either (inl under) = under
+      either (inr over) =
+          let same : best.mapping.eid.mask_len ≡ asked.mask_len = omega (arith, over, for_length best asked now is_best.may) in
+          absurd (fit_or_not asked.mask_len records (subst NoneFit same none) fit)
+
+  -- the length is found
+  pub widest_at : (high : ℕ) (records : List MapRecordValue) → best.mapping.eid.mask_len ≤ high → high ≤ asked.mask_len → FitFor rows (around high) now best records → ((n : ℕ) → best.mapping.eid.mask_len ≤ n → n < high → NoneFit n) → AreWidest rows asked now best records
+  widest_at high records from to fit wider = record {
+    eid = around high;
+    narrowed = narrowed_at high from to;
+    fit = fit;
+    widest = λ other narrowed less. subst (λ (e : PrefixValue). NoneFitFor rows e now best) (sym narrowed.around) (wider other.mask_len narrowed.from less);
+  }
+
+-- ---- What a Map-Server sends, put together.
+
+-- the records for the widest prefix are those of a reply
+pub replies_for : (rows : List RowValue) (sites : List SiteValue) (asked : PrefixValue) (starting : Bool) (now : ℕ) (best : RowValue) (records : List MapRecordValue) → IsBestFor rows asked now best → best.proxy ≡ true → AreWidest rows asked now best records → is_held_back starting sites asked best ≡ false → (r : RepliesWith rows asked now records) × (is_held_back starting sites asked r.best ≡ false)
+replies_for rows sites asked starting now best records is_best proxy known free = (
+  record {
+    best = best;
+    is_best = is_best;
+    proxy = proxy;
+    eid = known.eid;
+    narrowed = known.narrowed;
+    are = known.fit.0;
+    fit = known.fit.1;
+    widest = λ wider more narrowed less are. known.widest wider narrowed less more are;
+  },
+  free,
+)
+
+-- where no row answers for an address there is a hole around it
+pub hole_there : (rows : List RowValue) (sites : List SiteValue) (addr : Addr) (now : ℕ) (found : Option PrefixValue) → All (λ h. IsPrefix h.mapping.eid) rows → IsWhole addr → NoneAnswersFor rows (alone addr) now → IsHoleOf rows sites addr now found → IsSome found
+hole_there rows sites addr now (Some eid) blocks whole none is = refl
+hole_there rows sites addr now None blocks whole none (h, held, may) = absurd (true≢false (sym may ∙ (answers_alike rows blocks addr whole now None).0 none h held))

@@ -1,13 +1,7 @@
 pub mod SeenLaws
-pub mod WalkLaws
 pub mod FitLaws
-pub mod LongestLaws
 pub mod KeptLaws
 pub mod AlikeLaws
-pub mod NarrowingLaws
-pub mod ServerLaws
 pub mod Examples
 pub mod OwnWalkLaws
-pub mod OwnFitLaws
 pub mod OwnHoleLaws
-pub mod OwnKeptLaws

@@ -1,21 +1,26 @@
 -- Walks over a router's database: what is so of the records so far, and of one more.
-use Rattle.std.proofs.Common.{◌≡◌, ◌⊎◌, inl, inr, not, ℕ, ◌+◌, ◌<◌, ◌≤◌, Bool, true, false, List, [], ◌∷◌, ◌++◌, length, map, min, take, slice_index_or, Option, Some, None, refl, sym, ap, ◌∙◌, subst, true≢false, arith, length-append}
-use Rattle.std.specs.List.{Contains, filter}
-use Rattle.std.proofs.lemmas.Bool.{cases_lt, ltb-false}
+use Rattle.std.proofs.Common.{[], ◌≡◌, ◌⊎◌, inl, inr, not, ℕ, ◌+◌, ◌<◌, ◌≤◌, Bool, true, false, List, ◌∷◌, ◌++◌, length, map, min, take, slice_index_or, Option, Some, None, refl, sym, ap, ◌∙◌, subst, true≢false, arith, zero, suc, nat_le, nat_lt}
+use Rattle.std.proofs.lemmas.Bool.{cases_lt, ltb-false, and_from, and_parts, le-leb}
 use Rattle.std.proofs.lemmas.Bool.Decides.{Decides-ltb}
-use Rattle.std.proofs.lemmas.List.{append-nil, map-append, take_more}
+use Rattle.std.proofs.lemmas.List.{append-nil, map-append, take_more, get_or-map, get_or_default, length-map}
 use Rattle.std.proofs.lemmas.List.Elements.{All-contains, All-contains_itself, All-filter, Contains-append_cases, Contains-append_left, Contains-push, Contains-push_cases, filter-append, filter_passes}
 use Rattle.std.proofs.lemmas.List.Sorted.{Contains-permutation, IsPermutation-filter_both}
-use Rattle.std.proofs.lemmas.List.Sums.{sum_by-append}
+use Rattle.std.specs.List.{Contains, filter}
 use Rattle.lisp_records.specs.declared.address.Addr.{Addr}
-use Rattle.lisp_records.specs.declared.locator.Locator.{Locator}
-use Rattle.lisp_records.specs.Address.{PrefixValue, covers}
-use Rattle.lisp_records.specs.Parts.{size}
+use Rattle.lisp_records.specs.Address.{PrefixValue, covers, addr_eq, cleared, holds, max_len}
 use Rattle.lisp_records.specs.Record.{MapRecordValue}
-use Rattle.lisp_records.specs.Written.{written}
 use Rattle.lisp_lookup.specs.Inside.{is_inside}
-use Rattle.lisp_replies.specs.Own.{IsLeastOwnTtl, IsLongestFor, IsLongestForOf, own_inside, own_locator, own_record}
+use Rattle.lisp_lookup.specs.Covering.{alone}
+use Rattle.lisp_lookup.specs.Replies.{IsLongest}
+use Rattle.lisp_lookup.proofs.Blocks.{is_addr}
+use Rattle.lisp_lookup.proofs.CachedLaws.{covers_through, has_wider, nested}
+use Rattle.lisp_replies.specs.Own.{IsLeastOwnTtl, IsLongestFor, IsLongestForOf, own_inside, own_record, IsOwnHole, IsOwnNarrowed, IsOwnReply, OwnRepliesFor, OwnRepliesNone, OwnRepliesWith}
 use Rattle.lisp_replies.specs.OwnSteps.{is_longer}
+use Rattle.lisp_replies.specs.OwnKept.{IsOwnAnswered, IsOwnKept, IsOwnKeptNone, OwnMayBeKept, OwnRepliesMayBeKept}
+use Rattle.lisp_replies.specs.declared.reply.Reply.{Reply}
+use Rattle.lisp_replies.specs.declared.reply.Reply.TheVariants.{Records, Negative}
+use Rattle.lisp_policy.proofs.Found.{not_true}
+use Rattle.lisp_replies.proofs.KeptLaws.{one_longest}
 
 -- ---- what a filter leaves
 
@@ -61,13 +66,6 @@ module _ (ms : List MapRecordValue) (eid : PrefixValue) (i : ℕ) (m : MapRecord
 
 -- ---- the least TTL
 
-pub least_first : (m : MapRecordValue) → IsLeastOwnTtl (m ∷ []) m.ttl
-least_first m = record { its = m; held = (0, omega arith, refl); is = refl; least = λ other at. either other (Contains-push_cases [] m other at) }
-  where
-    either : (other : MapRecordValue) → Contains [] other ⊎ (m ≡ other) → m.ttl ≤ other.ttl
-    either other (inl (k, lt, is)) = absurd (omega (arith, lt))
-    either other (inr same) = subst (λ (x : MapRecordValue). m.ttl ≤ x.ttl) same (omega arith)
-
 pub least_next : (ms : List MapRecordValue) (m : MapRecordValue) (ttl next : ℕ) → IsLeastOwnTtl ms ttl → next ≡ min ttl m.ttl → IsLeastOwnTtl (ms ++ m ∷ []) next
 least_next ms m ttl next is made = either (cases_lt m.ttl ttl)
   where
@@ -89,23 +87,7 @@ records_next probed ttl eid longest m own seen old new before pushed made =
     ∙ ap (λ (x : MapRecordValue). first ∷ (map (λ x. own_record probed ttl x.eid x) seen ++ x ∷ [])) made
     ∙ ap (λ (xs : List MapRecordValue). first ∷ xs) (sym (map-append (λ (x : MapRecordValue). own_record probed ttl x.eid x) seen (m ∷ [])))
 
-pub locators_next : (probed : Option Addr) (ls : List Locator) (i : ℕ) (l own : Locator) (old new : List Locator) → i < length ls → l ≡ slice_index_or ls i l → old ≡ map (own_locator probed) (take i ls) → new ≡ old ++ own ∷ [] → own ≡ own_locator probed l → new ≡ map (own_locator probed) (take (i + 1) ls)
-locators_next probed ls i l own old new lt read before pushed made =
-    pushed ∙ ap (λ (xs : List Locator). xs ++ own ∷ []) before
-    ∙ ap (λ (x : Locator). map (own_locator probed) (take i ls) ++ x ∷ []) made
-    ∙ sym (map-append (own_locator probed) (take i ls) (l ∷ []))
-    ∙ ap (map (own_locator probed)) (sym (one_more ls i l lt read))
-
 -- ---- their count and size
-
-pub count_next : (seen : List MapRecordValue) (m : MapRecordValue) (count : ℕ) → count ≡ 1 + length seen → count + 1 ≡ 1 + length (seen ++ m ∷ [])
-count_next seen m count is = omega (arith, is, length-append seen (m ∷ []))
-
-pub size_next : (longest : MapRecordValue) (seen : List MapRecordValue) (m : MapRecordValue) (sum len : ℕ) → sum ≡ size (longest ∷ seen) → len ≡ length (written m) → sum + len ≡ size (longest ∷ (seen ++ m ∷ []))
-size_next longest seen m sum len is own =
-    let more : size (longest ∷ (seen ++ m ∷ [])) ≡ size (longest ∷ seen) + size (m ∷ []) = sum_by-append (λ (x : MapRecordValue). length (written x)) (longest ∷ seen) (m ∷ []) in
-    let last : size (m ∷ []) ≡ 0 + length (written m) = refl in
-    omega (arith, is, own, more, last)
 
 -- ---- the longest record
 
@@ -144,3 +126,137 @@ module _ (asked : PrefixValue) (seen : List MapRecordValue) (m : MapRecordValue)
   pub longest_next : (old new : Option MapRecordValue) → IsLongestForOf seen asked old → ((covers m.eid asked ≡ true) × (is_longer old m ≡ true) × (new ≡ Some m)) ⊎ (((covers m.eid asked ≡ false) ⊎ (is_longer old m ≡ false)) × (new ≡ old)) → IsLongestForOf (seen ++ m ∷ []) asked new
   longest_next old new is (inl (over, long, made)) = subst (λ (o : Option MapRecordValue). IsLongestForOf (seen ++ m ∷ []) asked o) (sym made) (longest_grows old is over long)
   longest_next old new is (inr (reason, made)) = subst (λ (o : Option MapRecordValue). IsLongestForOf (seen ++ m ∷ []) asked o) (sym made) (longest_stays old is reason)
+
+-- ---- What an ITR that keeps a router's reply says of an address.
+
+-- ---- the records of a reply
+
+module _ (database : List MapRecordValue) (asked : PrefixValue) (probed : Option Addr) (best : MapRecordValue) (eid : PrefixValue) (ttl : ℕ) (is_best : IsLongestFor database asked best) (narrowed : IsOwnNarrowed asked best eid) where
+  abbrev inside : List MapRecordValue
+  inside = own_inside database eid
+
+  abbrev sent : MapRecordValue → MapRecordValue
+  sent m = own_record probed ttl m.eid m
+
+  abbrev first : MapRecordValue
+  first = own_record probed ttl eid best
+
+  abbrev all : List MapRecordValue
+  all = first ∷ map sent inside
+
+  -- the prefix lies around the one asked for
+  around_asked : covers eid asked ≡ true
+  around_asked = and_from (nat_le eid.mask_len asked.mask_len) (addr_eq (cleared asked.addr eid.mask_len) eid.addr) (le-leb eid.mask_len asked.mask_len narrowed.to) (is_addr (cleared asked.addr eid.mask_len) eid.addr (sym (ap (λ (b : PrefixValue). b.addr) narrowed.around)))
+
+  has_asked : holds eid asked.addr ≡ true
+  has_asked = (and_parts (nat_le eid.mask_len asked.mask_len) (holds eid asked.addr) around_asked).1
+
+  best_over : covers best.eid eid ≡ true
+  best_over = nested best.eid eid asked.addr (and_parts (nat_le best.eid.mask_len asked.mask_len) (holds best.eid asked.addr) is_best.over).1 has_asked narrowed.from
+
+  module _ (addr : Addr) (has : holds eid addr ≡ true) where
+    -- a record of a longer prefix that has the address is one of those inside
+    one_inside : (m : MapRecordValue) → Contains database m → holds m.eid addr ≡ true → eid.mask_len < m.eid.mask_len → Contains inside m
+    one_inside m held its long = in_left (λ x. is_inside eid x.eid) database m held (and_from (covers eid m.eid) (nat_lt eid.mask_len m.eid.mask_len) (nested eid m.eid addr has its (omega (arith, long))) ((Decides-ltb eid.mask_len m.eid.mask_len).1 long))
+
+    -- one of no longer prefix is no longer than the best
+    no_longer : (m : MapRecordValue) → Contains database m → holds m.eid addr ≡ true → m.eid.mask_len ≤ eid.mask_len → m.eid.mask_len ≤ best.eid.mask_len
+    no_longer m held its short = is_best.longest m held (covers_through m.eid eid asked (nested m.eid eid addr its has short) around_asked)
+
+    sent_in : (m : MapRecordValue) → Contains inside m → Contains all (sent m)
+    sent_in m (k, lt, at) =
+        let long : length (map sent inside) ≡ length inside = length-map inside sent in
+        (suc k, omega (arith, lt, long), get_or-map sent inside k m (sent m) lt ∙ ap sent at)
+
+    module _ (r : MapRecordValue) (longest : IsLongest all addr r) where
+      inside_shorter : (m : MapRecordValue) → Contains database m → holds m.eid addr ≡ true → eid.mask_len < m.eid.mask_len → m.eid.mask_len ≤ r.eid.mask_len
+      inside_shorter m held its long = longest.longest (sent m) (sent_in m (one_inside m held its long)) its
+
+      of_first : first ≡ r → IsOwnAnswered database probed ttl addr r
+      of_first is = (best, record { kept = is_best.held; has = has_wider best.eid eid addr best_over has; longest = λ m held its. either m held its (cases_lt eid.mask_len m.eid.mask_len) }, sym is ∙ ap (λ (b : PrefixValue). own_record probed ttl b best) (ap (λ (x : MapRecordValue). x.eid) is))
+        where
+          either : (m : MapRecordValue) → Contains database m → holds m.eid addr ≡ true → (eid.mask_len < m.eid.mask_len) ⊎ (m.eid.mask_len ≤ eid.mask_len) → m.eid.mask_len ≤ best.eid.mask_len
+          either m held its (inl long) = absurd (omega (arith, long, inside_shorter m held its long, ap (λ (x : MapRecordValue). x.eid.mask_len) is))
+          either m held its (inr short) = no_longer m held its short
+
+      of_inside : (m : MapRecordValue) → Contains inside m → sent m ≡ r → IsOwnAnswered database probed ttl addr r
+      of_inside m there is = (m, record { kept = own.0; has = ap (λ (x : MapRecordValue). holds x.eid addr) is ∙ longest.has; longest = λ x held its. either x held its (cases_lt eid.mask_len x.eid.mask_len) }, sym is ∙ ap (λ (b : PrefixValue). own_record probed ttl b m) (ap (λ (x : MapRecordValue). x.eid) is))
+        where
+          own : Contains database m × (is_inside eid m.eid ≡ true)
+          own = left_in (λ x. is_inside eid x.eid) database m there
+
+          long : eid.mask_len < m.eid.mask_len
+          long = (Decides-ltb eid.mask_len m.eid.mask_len).0 (and_parts (covers eid m.eid) (nat_lt eid.mask_len m.eid.mask_len) own.1).1
+
+          either : (x : MapRecordValue) → Contains database x → holds x.eid addr ≡ true → (eid.mask_len < x.eid.mask_len) ⊎ (x.eid.mask_len ≤ eid.mask_len) → x.eid.mask_len ≤ m.eid.mask_len
+          either x held its (inl more) = omega (arith, inside_shorter x held its more, ap (λ (y : MapRecordValue). y.eid.mask_len) is)
+          either x held its (inr short) = omega (arith, short, long)
+
+      of_kept : Contains all r → IsOwnAnswered database probed ttl addr r
+      of_kept (zero, lt, at) = of_first at
+      of_kept (suc k, lt, at) =
+          let long : length (map sent inside) ≡ length inside = length-map inside sent in
+          let within : k < length inside = omega (arith, lt, long) in
+          let m = slice_index_or inside k best in
+          of_inside m (k, within, get_or_default inside k m best within) (sym (get_or-map sent inside k best r within) ∙ at)
+
+  -- the prefix has an address for whose prefix it was found
+  pub has_for : (addr : Addr) → holds asked addr ≡ true → holds eid addr ≡ true
+  has_for addr its = has_wider eid asked addr around_asked its
+
+  pub all_kept : (addr : Addr) → holds eid addr ≡ true → IsOwnKept database probed addr all
+  all_kept of has_of = record {
+    first = first;
+    rest = map sent inside;
+    is = refl;
+    has = has_of;
+    one = λ addr has. one_longest first (map sent inside) addr has;
+    answered = λ addr has r longest. of_kept addr has r longest longest.kept;
+  }
+
+module _ (database : List MapRecordValue) (asked : PrefixValue) (probed : Option Addr) (records : List MapRecordValue) (is : OwnRepliesWith database asked probed records) where
+  of_sent : (addr : Addr) → holds is.eid addr ≡ true → IsOwnKept database probed addr records
+  of_sent addr has = subst (λ (rs : List MapRecordValue). IsOwnKept database probed addr rs) (sym is.are.is) (all_kept database asked probed is.longest is.eid is.are.ttl is.is_longest is.narrowed addr has)
+
+  pub with_kept : IsOwnKept database probed asked.addr records
+  with_kept = of_sent asked.addr (has_asked database asked probed is.longest is.eid is.are.ttl is.is_longest is.narrowed)
+
+  -- also of another address that the prefix has which was asked for
+  pub with_kept_of : (addr : Addr) → holds asked addr ≡ true → IsOwnKept database probed addr records
+  with_kept_of addr its = of_sent addr (has_for database asked probed is.longest is.eid is.are.ttl is.is_longest is.narrowed addr its)
+
+-- ---- a negative reply
+
+module _ (database : List MapRecordValue) (asked : Addr) (eid : PrefixValue) (hole : IsOwnHole database asked eid) where
+  none_there : (addr : Addr) → holds eid addr ≡ true → (m : MapRecordValue) → Contains database m → holds m.eid addr ≡ false
+  none_there addr has m held = not_true (holds m.eid addr) (λ its. either its (cases_lt eid.mask_len m.eid.mask_len))
+    where
+      either : holds m.eid addr ≡ true → (eid.mask_len < m.eid.mask_len) ⊎ (m.eid.mask_len ≤ eid.mask_len) → ⊥
+      either its (inl long) = true≢false (sym (nested eid m.eid addr has its (omega (arith, long))) ∙ (hole.free m held).0)
+      either its (inr short) = true≢false (sym (nested m.eid eid addr its has short) ∙ (hole.free m held).1)
+
+  pub hole_kept : IsOwnKeptNone database asked eid
+  hole_kept = record {
+    has = is_addr (cleared asked eid.mask_len) eid.addr (sym (ap (λ (b : PrefixValue). b.addr) hole.around.1));
+    none = none_there;
+  }
+
+-- ---- any reply
+
+module _ {A : Type 0} (database : List MapRecordValue) (probed : Option Addr) where
+  for_kept : (asked : PrefixValue) (addr : Addr) → ((records : List MapRecordValue) → OwnRepliesWith database asked probed records → IsOwnKept database probed addr records) → (reply : Reply A) → OwnRepliesFor database asked probed reply → OwnMayBeKept database probed addr reply
+  for_kept asked addr its (Records records) is = its records is
+  for_kept asked addr its _ is = absurd is
+
+  none_kept : (addr : Addr) (reply : Reply A) → OwnRepliesNone database addr reply → OwnMayBeKept database probed addr reply
+  none_kept addr (Records records) is = absurd is
+  none_kept addr (Negative hole) is = hole_kept database addr hole.eid is.0
+  none_kept addr _ is = absurd is
+
+  reply_kept : (asked : PrefixValue) (reply : Reply A) → IsOwnReply database asked probed reply → OwnMayBeKept database probed asked.addr reply
+  reply_kept asked reply (inl is) = for_kept asked asked.addr (λ records. with_kept database asked probed records) reply is
+  reply_kept asked reply (inr (unanswered, inl is)) = for_kept (alone asked.addr) asked.addr (λ records of. with_kept_of database (alone asked.addr) probed records of asked.addr (is_addr (cleared asked.addr (max_len asked.addr)) (cleared asked.addr (max_len asked.addr)) refl)) reply is
+  reply_kept asked reply (inr (unanswered, inr is)) = none_kept asked.addr reply is
+
+pub own_replies_may_be_kept : (A : Type 0) (database : List MapRecordValue) → OwnRepliesMayBeKept A database
+own_replies_may_be_kept A database asked probed reply is = reply_kept database probed asked reply is

@@ -14,8 +14,6 @@ mod message_type;
 mod reply;
 mod reply_parts;
 mod request;
-#[cfg(test)]
-mod samples;
 
 pub use encapsulated::{EncapsulatedRequest, message_place, read_encapsulated, write_encapsulated};
 pub use fault::RequestFault;

@@ -1,6 +1,5 @@
 mod Faults
 mod Plain
-mod Filled
 mod Verbs
 mod Records
 mod Spaced

@@ -11,7 +11,7 @@ use Rattle.lisp_script.specs.declared.fault.ScriptFault.{ScriptFault}
 use Rattle.lisp_script.specs.declared.fault.ScriptWhat.{ScriptWhat}
 use Rattle.lisp_script.specs.Spelling.{and_more, at_line, command_of, in_line, in_lines, in_words, is_comment}
 use Rattle.lisp_script.specs.CommandLines.{numbered, numbers_from}
-use Rattle.lisp_script.proofs.Lines.{IsNext, texts}
+use Rattle.lisp_lemmas.proofs.NumberedLines.{IsNext, texts}
 
 -- ---- one line after the other
 

@@ -10,7 +10,7 @@ use Rattle.lisp_model.specs.declared.line.Line.{Line}
 use Rattle.lisp_model.specs.declared.line.Line.TheVariants as lines
 use Rattle.lisp_mapping.specs.declared.outcome.Outcome.{Outcome}
 use Rattle.lisp_mapping.specs.declared.outcome.Outcome.TheVariants as outcomes
-use Rattle.lisp_resolve.specs.Unasked.{unasked_number}
+use Rattle.lisp_mapping.specs.Unasked.{unasked_number}
 use Rattle.lisp_turns.specs.Outside.{call_number}
 use Rattle.lisp_turns.specs.declared.outside.Printed.{Printed}
 use Rattle.lisp_turns.specs.declared.outside.Printed.TheVariants as printed

@@ -26,7 +26,7 @@ pub enum Format {
 }
 
 /// How a tally is told.
-#[derive(Clone, Copy, Debug, PartialEq, Eq)]
+#[derive(Clone, Copy)]
 enum Shape {
     /// In a line.
     Line,

@@ -41,7 +41,7 @@ pub struct RouterList<A: Allocator = Global> {
 }
 
 /// A part of the lines.
-#[derive(Debug, Drop)]
+#[derive(Drop)]
 pub struct RoutersPart<A: Allocator = Global> {
     /// The lines.
     pub text: String<A>,

@@ -14,7 +14,7 @@ use lisp_sites::{Config, RouterEntry};
 use std::alloc::{AllocError, Allocator};
 
 /// A metric of a router.
-#[derive(Clone, Copy, Debug, PartialEq, Eq)]
+#[derive(Clone, Copy)]
 enum RouterMetric {
     /// How long ago its last accepted Map-Register came.
     Age,

@@ -18,7 +18,7 @@ use std::collections::BTreeMap;
 use std::ops::Bound;
 
 /// What is held of a site.
-#[derive(Clone, Copy, Debug, PartialEq, Eq)]
+#[derive(Clone, Copy)]
 struct Held {
     /// How many live rows.
     rows: u64,
@@ -27,7 +27,7 @@ struct Held {
 }
 
 /// How it is printed.
-#[derive(Clone, Copy, Debug, PartialEq, Eq)]
+#[derive(Clone, Copy)]
 enum SiteShape {
     /// In a line for the rows, and one for the routers.
     Lines,

@@ -1,6 +1,7 @@
 //! What a client is told of a network of one Map-Server and one router, after a registration and its reply.
 
 use crate::playing::SCHEDULE;
+use crate::support::assert_at;
 use lisp_client::{Answers, Question, ask};
 use lisp_nonces::Fate;
 use lisp_sites::Config;
@@ -28,11 +29,17 @@ const EVENTS: [Event; 3] = [
 #[test]
 fn a_client_is_told_the_row_that_was_sent_and_what_was_counted(rt: HostRuntime) {
     let told = told(rt.alloc()).expect(&rt, "what is told");
-    let nonce = told.rows.first().map(|row| row.nonce);
-    assert!(rt; told.rows.len() == 1);
-    assert!(rt; told.other_rows.len() == 1);
-    assert!(rt; nonce == Some(1));
-    assert!(rt; told.counted == Some((1, 1)));
+    assert_at(&rt, 0, is_row_of(&told, 1));
+    assert_at(&rt, 1, told.other_rows.len() == 1);
+    assert_at(&rt, 2, told.counted == Some((1, 1)));
+}
+
+/// Whether one row is told, with this nonce.
+fn is_row_of(told: &Answers, nonce: u64) -> bool {
+    match told.rows.as_slice() {
+        [row] => row.nonce == nonce,
+        _ => false,
+    }
 }
 
 /// What the Map-Server and the router tell after the events.

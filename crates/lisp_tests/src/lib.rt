@@ -1,7 +1,6 @@
 //! Tests of what neither a clause nor a stored run of `tests` shows: the vectors of HMAC (`hmac`), what worked bytes say
-//! (`records`, `messages`), a table of hundreds of rows (`rows`), readers and writers that fail (`playing`),
-//! stores that fail (`stores`), a store in files (`files`), what a client is told (`client`), and a Map-Server that takes turns
-//! (`turns`). This crate has no function of its own.
+//! (`records`, `messages`, `requests`), readers and writers that fail (`playing`), stores that fail (`stores`), what a client is
+//! told (`client`), and a Map-Server that takes turns (`turns`). This crate has no function of its own.
 //!
 //! # Decisions
 //!
@@ -12,8 +11,6 @@
 #[cfg(test)]
 mod client;
 #[cfg(test)]
-mod files;
-#[cfg(test)]
 mod hmac;
 #[cfg(test)]
 mod messages;
@@ -22,7 +19,7 @@ mod playing;
 #[cfg(test)]
 mod records;
 #[cfg(test)]
-mod rows;
+mod requests;
 #[cfg(test)]
 mod stores;
 #[cfg(test)]

@@ -3,11 +3,10 @@
 
 use crate::playing::SCHEDULE;
 use crate::support::assert_at;
-use lisp_nonces::{NonceStore, Pair, PairKind, WorldStore};
+use lisp_nonces::WorldStore;
 use lisp_player::{Command, PlayFault, parse_script, play_on};
-use lisp_records::RouterId;
 use lisp_sites::Config;
-use lisp_store::{Failing, Liar};
+use lisp_store::Failing;
 use lisp_world::{World, WorldFault};
 use std::alloc::{AllocError, Global};
 use std::io::Write;
@@ -72,16 +71,6 @@ const REFUSED: [&str; 7] = [
     "refused s1 68 store 30\n",
 ];
 
-/// What a nonce is kept for.
-const PAIR: Pair = Pair {
-    kind: PairKind::Sent,
-    router: RouterId {
-        site: 1,
-        xtr: [0; 16],
-    },
-    key: 1,
-};
-
 /// How often the Map-Server loads or saves here, and the router: at its start or a change of its key, for a Map-Register or
 /// a notice, unless the nonce before is known. A nonce that is loaded for a message that is refused stays unknown.
 const CALLS: [u64; 2] = [13, 7];
@@ -101,16 +90,6 @@ fn a_command_whose_load_or_save_fails_says_so_and_prints_its_line_when_given_aga
             let is_so = refused == Some(usize::from(turn <= *calls));
             assert_at(&rt, node, is_so);
         }
-    }
-}
-
-#[test]
-fn a_liar_loads_its_nonces_in_turn_and_then_nothing(rt: HostRuntime) {
-    let nonces = Vec::from_slice(rt.alloc(), &[7, 5]).expect(&rt, "the nonces");
-    let mut liar = Liar::new(nonces);
-    assert!(&rt; liar.save(&PAIR, 9).is_ok());
-    for (place, nonce) in [Some(7), Some(5), None].iter().enumerate() {
-        assert_at(&rt, place, liar.load(&PAIR) == Ok(*nonce));
     }
 }
 

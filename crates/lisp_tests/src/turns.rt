@@ -9,11 +9,11 @@ use crate::messages::MAP_REGISTER;
 use crate::playing::SCHEDULE;
 use crate::support::assert_at;
 use lisp_budget::Budget;
+use lisp_mapping::Datagram;
 use lisp_model::{Line, WorldFault};
 use lisp_nodes::ServerNode;
 use lisp_nonces::MemoryStore;
 use lisp_records::{Addr, Bytes, RouterId};
-use lisp_resolve::Datagram;
 use lisp_sites::Config;
 use lisp_turns::{
     Clock, Commit, Control, Endpoint, Lines, NodeCore, Order, Outside, Place, Printed, Received,
@@ -179,8 +179,15 @@ const GROUP: [Deed; 5] = [
     Deed::Refuses(50),
 ];
 
-/// How many places a turn has, and how much of that is done then.
-const PLACES: [(usize, usize); 5] = [(0, 3), (1, 3), (2, 4), (3, 5), (64, 5)];
+/// How many places a turn has, whether its commit is done, and how much of that is done then.
+const GROUPS: [(usize, bool, usize); 6] = [
+    (0, true, 3),
+    (1, true, 3),
+    (2, true, 4),
+    (3, true, 5),
+    (64, true, 5),
+    (2, false, 1),
+];
 
 /// What a Map-Server has outside here: its moment, what waits and how many of it were taken, whether a user tells it to send the router a
 /// notice, whether its commits are done, and what it did.
@@ -305,26 +312,12 @@ fn a_notice_is_sent_again_until_it_is_acknowledged(rt: HostRuntime) {
 }
 
 #[test]
-fn a_group_is_told_behind_its_commit(rt: HostRuntime) {
+fn a_group_is_told_behind_its_commit_and_not_without_one(rt: HostRuntime) {
     let config = config(rt.alloc()).expect(&rt, "the configuration");
-    for (places, done) in PLACES {
-        let mut server = server(rt.alloc(), &config).expect(&rt, "the memory");
-        let mut bench = Bench::new(rt.alloc(), 0, THREE);
-        let taken = turns(rt.alloc(), &config, &mut server, places, 1, &mut bench);
-        assert_at(&rt, places, taken == Some(Ok(())));
-        assert_at(&rt, places, did(bench.did.as_slice(), &GROUP[..done]));
+    for (place, group) in GROUPS.iter().enumerate() {
+        let told = tells(rt.alloc(), &config, group);
+        assert_at(&rt, place, told == Some(true));
     }
-}
-
-#[test]
-fn a_group_that_is_not_committed_is_not_told(rt: HostRuntime) {
-    let config = config(rt.alloc()).expect(&rt, "the configuration");
-    let mut server = server(rt.alloc(), &config).expect(&rt, "the memory");
-    let mut bench = Bench::new(rt.alloc(), 0, THREE);
-    bench.commits = false;
-    let taken = turns(rt.alloc(), &config, &mut server, 2, 3, &mut bench);
-    assert_at(&rt, 2, taken == Some(Err(Uncommitted { turns_left: 2 })));
-    assert_at(&rt, 1, did(bench.did.as_slice(), &GROUP[..1]));
 }
 
 /// The configuration of one Map-Server and one router.
@@ -350,6 +343,25 @@ fn takes(
     bench.is_told = turn.is_told;
     let taken = turns(alloc, config, server, 1, 1, &mut bench);
     taken == Some(Ok(())) && did(bench.did.as_slice(), &turn.does)
+}
+
+/// Whether a Map-Server that holds nothing takes three datagrams so: in one turn, or, where that isn't committed, in the first of three.
+fn tells(
+    alloc: Global,
+    config: &Config,
+    (places, commits, done): &(usize, bool, usize),
+) -> Option<bool> {
+    let mut server = server(alloc, config)?;
+    let mut bench = Bench::new(alloc, 0, THREE);
+    bench.commits = *commits;
+    let (count, ended) = if *commits {
+        (1, Ok(()))
+    } else {
+        (3, Err(Uncommitted { turns_left: 2 }))
+    };
+    let taken = turns(alloc, config, &mut server, *places, count, &mut bench)?;
+    let wanted = GROUP.get(..*done)?;
+    Some(taken == ended && did(bench.did.as_slice(), wanted))
 }
 
 /// What comes of so many turns, each of so many places; `None` where no Map-Server is configured, or for want of memory.

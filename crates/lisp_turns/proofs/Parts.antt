@@ -10,8 +10,8 @@ use Rattle.lisp_records.specs.Address.{PrefixValue}
 use Rattle.lisp_mapping.specs.Handling.{HandledValue}
 use Rattle.lisp_mapping.specs.declared.outcome.Outcome.{Outcome}
 use Rattle.lisp_policy.specs.Configuration.{ConfigValue}
-use Rattle.lisp_resolve.specs.Sends.{DatagramValue}
-use Rattle.lisp_resolve.specs.declared.unasked.Unasked.{Unasked}
+use Rattle.lisp_mapping.specs.Sends.{DatagramValue}
+use Rattle.lisp_mapping.specs.declared.unasked.Unasked.{Unasked}
 use Rattle.lisp_model.specs.declared.line.Line.{Line}
 use Rattle.lisp_model.specs.declared.event.Event.TheVariants as events
 use Rattle.lisp_model.specs.Trace.{EventValue, Step, Opening}

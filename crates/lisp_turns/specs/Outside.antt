@@ -7,7 +7,7 @@ use Rattle.lisp_records.specs.Moment.{max_moment}
 use Rattle.lisp_model.specs.declared.line.Line.{Line}
 use Rattle.lisp_model.specs.declared.world_fault.WorldFault.{WorldFault}
 use Rattle.lisp_requests.specs.MessageType.{is_request}
-use Rattle.lisp_resolve.specs.Sends.{DatagramValue}
+use Rattle.lisp_mapping.specs.Sends.{DatagramValue}
 use Rattle.lisp_turns.specs.Node.{CoreState}
 use Rattle.lisp_turns.specs.declared.order.Order.{Order}
 use Rattle.lisp_turns.specs.declared.outside.Printed.{Printed}

@@ -14,10 +14,10 @@ use Rattle.lisp_refinement.specs.Nodes.{up_in}
 use Rattle.lisp_refinement.specs.World.{ServerNodeState}
 use Rattle.lisp_replies.specs.Own.{IsOwnReply}
 use Rattle.lisp_replies.specs.Reply.{IsReply, is_starting}
-use Rattle.lisp_resolve.specs.Asked.{encapsulated_asked, router_asked}
-use Rattle.lisp_resolve.specs.Sends.{DatagramValue}
-use Rattle.lisp_resolve.specs.declared.replier.Replier.TheVariants.{MapServer}
-use Rattle.lisp_resolve.specs.declared.unasked.Unasked.{Unasked}
+use Rattle.lisp_mapping.specs.Asked.{encapsulated_asked, router_asked}
+use Rattle.lisp_mapping.specs.Sends.{DatagramValue}
+use Rattle.lisp_mapping.specs.declared.replier.Replier.TheVariants.{MapServer}
+use Rattle.lisp_mapping.specs.declared.unasked.Unasked.{Unasked}
 use Rattle.lisp_sites.specs.Numbers.{NodeValue, node_at}
 use Rattle.lisp_sites.specs.Numbers as nodes
 use Rattle.lisp_turns.specs.Node.{NodeState, Server, Router}

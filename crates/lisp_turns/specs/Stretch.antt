@@ -7,8 +7,8 @@ use Rattle.lisp_records.specs.Address.{PrefixValue}
 use Rattle.lisp_budget.specs.Budget.{BudgetState, takes, after_take}
 use Rattle.lisp_mapping.specs.Handling.{HandledValue}
 use Rattle.lisp_policy.specs.Configuration.{ConfigValue}
-use Rattle.lisp_resolve.specs.Sends.{DatagramValue}
-use Rattle.lisp_resolve.specs.declared.unasked.Unasked.{Unasked}
+use Rattle.lisp_mapping.specs.Sends.{DatagramValue}
+use Rattle.lisp_mapping.specs.declared.unasked.Unasked.{Unasked}
 use Rattle.lisp_model.specs.Trace.{EventValue}
 use Rattle.lisp_turns.specs.Acts.{TurnAct, DoesAll, acts_calls, send_calls}
 use Rattle.lisp_turns.specs.Due.{IsDuty, IsSend, IsResend, SendsDue, ResendsDue}

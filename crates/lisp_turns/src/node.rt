@@ -12,18 +12,17 @@ ghost use Rattle.lisp_turns.specs.Order.{event_of, order_fault};
 ghost use Rattle.lisp_turns.specs.Outside.{came_in};
 ghost use Rattle.lisp_turns.specs.Requests.{Makes};
 ghost use Rattle.lisp_requests.specs.declared.fault.RequestFault.TheVariants.{OutOfMemory};
-ghost use Rattle.lisp_resolve.specs.declared.unasked.Unasked.TheVariants as unasked;
+ghost use Rattle.lisp_mapping.specs.declared.unasked.Unasked.TheVariants as unasked;
 
 use crate::act::Act;
 use crate::node_core::NodeCore;
 use crate::order::Order;
 use crate::outside::Request;
 use crate::place::Place;
-use lisp_mapping::Handled;
+use lisp_mapping::{Handled, Unasked};
 use lisp_memory::Memory;
 use lisp_model::WorldFault;
 use lisp_records::{Addr, Prefix, RouterId};
-use lisp_resolve::Unasked;
 use std::alloc::Global;
 
 /// A Map-Server or a router that runs at a place of a configuration. Moments are in ms.

@@ -7,10 +7,9 @@ ghost use Rattle.lisp_turns.specs.Outside.{call_number, OutsideState, Logs, Logs
 
 use crate::node_core::NodeCore;
 use crate::order::Order;
-use lisp_mapping::Outcome;
+use lisp_mapping::{Datagram, Outcome, Unasked};
 use lisp_model::{Line, WorldFault};
 use lisp_records::{Addr, Prefix, RouterId};
-use lisp_resolve::{Datagram, Unasked};
 
 /// What came of waiting for a datagram.
 #[derive(Clone, Copy, Debug, PartialEq, Eq)]

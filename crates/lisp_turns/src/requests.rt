@@ -9,9 +9,8 @@ use crate::node::Node;
 use crate::outside::{Lines, Printed, Requests, SocketCall};
 use crate::place::Place;
 use lisp_budget::Budget;
-use lisp_mapping::{Handled, Outcome};
+use lisp_mapping::{Datagram, Handled, Outcome, Unasked};
 use lisp_records::{Addr, Prefix};
-use lisp_resolve::{Datagram, Unasked};
 use std::alloc::Global;
 use std::marker::Model;
 

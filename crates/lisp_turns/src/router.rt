@@ -21,13 +21,12 @@ use crate::outside::Request;
 use crate::place::Place;
 use lisp_admission::key_at;
 use lisp_etr::SendFault;
-use lisp_mapping::{Handled, router_handles};
+use lisp_mapping::{Handled, Unasked, router_handles};
 use lisp_memory::Memory;
 use lisp_model::WorldFault;
 use lisp_nodes::{Arrival, RouterNode, changed, rotated, router_hears, sent};
 use lisp_nonces::{Fate, WorldStore};
 use lisp_records::{Addr, Bytes, Database, Prefix, RouterId};
-use lisp_resolve::Unasked;
 use lisp_sites::ConfigNode;
 use std::alloc::Global;
 

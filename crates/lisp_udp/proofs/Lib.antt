@@ -1,10 +1,8 @@
 pub mod Growing
 pub mod LifeBegins
 pub mod LivesInOrder
-pub mod Written
 pub mod Places
 pub mod Sending
 pub mod Taken
 pub mod Bound
-pub mod GatheredSites
 pub mod ObjectLines

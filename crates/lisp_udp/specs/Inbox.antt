@@ -10,6 +10,7 @@ use Rattle.lisp_queue.specs.declared.kind.Kind.{Kind}
 use Rattle.lisp_queue.specs.declared.kind.Kind.TheVariants as kinds
 use Rattle.lisp_sites.specs.Numbers.{NodeValue, node_at}
 use Rattle.lisp_sites.specs.Numbers as nodes
+use Rattle.lisp_turns.specs.Outside.{FitsBuffer, IsApart, reception}
 use Rattle.lisp_turns.specs.declared.outside.Received.{Received}
 use Rattle.lisp_turns.specs.declared.outside.Received.TheVariants as received
 use Rattle.lisp_turns.specs.declared.outside.Request.{Request}
@@ -78,6 +79,13 @@ leaves_requests _ = false
 abbrev pub keeps_apart : Option Inbox → Bool
 keeps_apart (Some inbox) = leaves_requests inbox.heard.kind
 keeps_apart None = false
+
+-- what it takes and of which kind stays; nothing is taken but into the buffer, and where Map-Requests wait apart none is
+abbrev pub KeepsRest : QueueState → QueueState → Type 0
+KeepsRest old new = (new.places ≡ old.places) × (new.kind ≡ old.kind)
+
+abbrev pub IsInto : Bool → List ℕ → List ℕ → Received → Type 0
+IsInto apart was buffer received = IsApart apart (reception received buffer) × FitsBuffer received buffer × (length buffer ≡ length was)
 
 -- a node answers Map-Requests where its entry in the configuration lists prefixes of ITR-RLOCs
 abbrev pub resolve_of : NodeValue → List PrefixValue

@@ -1,5 +1,5 @@
 -- What a node that runs prints.
-use Rattle.std.specs.Prelude.{◌≡◌, ◌⊎◌, ℕ, List, [], ◌∷◌, ◌++◌, take, codes, Option, Result, OnErr}
+use Rattle.std.specs.Prelude.{◌≡◌, ◌⊎◌, ℕ, List, [], ◌∷◌, ◌++◌, codes, Option}
 use Rattle.std.specs.Fmt.{decimal}
 use Rattle.std.specs.Io.KnownBytes.{Appends}
 use Rattle.lisp_policy.specs.Configuration.{ConfigValue}
@@ -11,6 +11,7 @@ use Rattle.lisp_turns.specs.declared.outside.Printed.{Printed}
 use Rattle.lisp_turns.specs.declared.outside.Printed.TheVariants as printed
 use Rattle.lisp_turns.specs.declared.outside.SocketCall.{SocketCall}
 use Rattle.lisp_turns.specs.Outside.{call_number}
+use Rattle.lisp_upkeep.specs.Printing.{WroteSome}
 
 -- its line, by the node's name
 abbrev pub failed_text : List ℕ → SocketCall → List ℕ
@@ -33,16 +34,6 @@ lost_text datagram = codes "lost " ++ decimal datagram ++ 10 ∷ []
 -- a line can't be written, or there is no memory for it
 abbrev pub IsPrintingFault : RunFault → Type 0
 IsPrintingFault fault = (fault ≡ numbered 88) ⊎ (fault ≡ numbered 97)
-
--- a writer has what it had before, and a front of the bytes: none or all of them perhaps
-abbrev pub WroteSome : Option (List ℕ) → Option (List ℕ) → List ℕ → Type 0
-WroteSome before after bytes = (n : ℕ) × Appends before after (take n bytes)
-
--- In what follows `contents` tells what a writer has.
-module _ {X E W : Type 0} where
-  -- at Err a front of the bytes went out, none or all of them perhaps
-  abbrev pub WritesSome : Result X E → (W → Option (List ℕ)) → W → W → List ℕ → Type 0
-  WritesSome result contents before after bytes = OnErr result (WroteSome (contents before) (contents after) bytes)
 
 -- a text of which something holds went out; or a front of such a text
 abbrev pub WritesTold : {W : Type 0} → (W → Option (List ℕ)) → W → W → (List ℕ → Type 0) → Type 0

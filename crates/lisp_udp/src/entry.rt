@@ -12,17 +12,17 @@ use lisp_sites::Config;
 
 /// A node: its name, which its folder has too, its address, and whom it answers.
 #[derive(Clone, Copy)]
-pub(crate) struct NodeEntry<'a> {
+pub struct NodeEntry<'a> {
     /// Its name.
-    pub(crate) name: &'a str,
+    pub name: &'a str,
     /// Its address.
-    pub(crate) address: &'a Addr,
+    pub address: &'a Addr,
     /// The prefixes of the ITR-RLOCs that its Map-Replies go to; none where it answers no Map-Requests.
-    pub(crate) resolve: &'a [Prefix],
+    pub resolve: &'a [Prefix],
 }
 
 /// The node with a number: Map-Servers first, then routers.
-pub(crate) fn entry_at(config: &Config, number: usize) -> NodeEntry<'_>
+pub fn entry_at(config: &Config, number: usize) -> NodeEntry<'_>
     requires { IsNode config.now number }
     ensures name { name_at config.now number ≡ Some result.name.now }
     ensures address { address_at config.now number ≡ Some result.address.now }
@@ -47,7 +47,7 @@ pub(crate) fn entry_at(config: &Config, number: usize) -> NodeEntry<'_>
 
 /// A kind of node.
 #[derive(Clone, Copy)]
-pub(crate) enum NodeKind {
+pub enum NodeKind {
     /// A Map-Server.
     Server,
     /// A site router.
@@ -55,7 +55,7 @@ pub(crate) enum NodeKind {
 }
 
 /// The number of the node of a kind with a name. Faults: 71 where a node of the other kind has the name, 70 where none has it.
-pub(crate) fn number_named(config: &Config, kind: NodeKind, name: &str) -> Result<usize, RunFault>
+pub fn number_named(config: &Config, kind: NodeKind, name: &str) -> Result<usize, RunFault>
     ensures named { IfOk result (λ number. IsNamed config.now kind name.now number) }
     ensures fault { IfErr result (λ fault. IsNameFault config.now kind name.now fault) }
 {

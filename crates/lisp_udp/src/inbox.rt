@@ -2,8 +2,7 @@
 
 ghost use Rattle.std.specs.Prelude.{◌≡◌, ◌≤◌, [], length, IfOk, IfSome, OnErr};
 ghost use Rattle.lisp_sites.specs.Numbers.{IsNode};
-ghost use Rattle.lisp_turns.specs.Outside.{FitsBuffer, IsApart, reception};
-ghost use Rattle.lisp_udp.specs.Inbox.{answers_requests, first_sources, Grows, HearsFirst, HearsGrown, SharesAsked, heard_kind, keeps_apart, leaves_requests, sources_after, TakesAsked, TakesHeard};
+ghost use Rattle.lisp_udp.specs.Inbox.{answers_requests, first_sources, Grows, HearsFirst, HearsGrown, IsInto, KeepsRest, SharesAsked, heard_kind, keeps_apart, leaves_requests, sources_after, TakesAsked, TakesHeard};
 
 use crate::entry::entry_at;
 use crate::socket::NodeSocket;
@@ -18,7 +17,7 @@ const MOST_AT_FIRST: usize = 2_048;
 
 /// The datagrams of a node that wait, in the order in which its turns take them.
 #[derive(Drop)]
-pub(crate) struct Inbox {
+pub struct Inbox {
     // Those that its core hears.
     heard: Queue,
     // Map-Requests; None where the node answers none, so that its core hears them as any datagram.
@@ -27,7 +26,7 @@ pub(crate) struct Inbox {
 
 /// What waits for the node with a number, whose turns hear so many datagrams at most. `None` where it takes each from the socket
 /// as it comes: one a turn, and none apart.
-pub(crate) fn inbox_at(
+pub fn inbox_at(
     alloc: Global,
     config: &Config,
     number: usize,
@@ -66,20 +65,16 @@ impl Inbox {
 
     /// A turn begins: the first datagram that its core hears, taken into `buffer`. Where nothing waits, the socket waits for a datagram.
     /// What waits in the socket by then waits here.
-    pub(crate) fn receive(&mut self, socket: &mut NodeSocket, buffer: &mut [u8]) -> Received
+    pub fn receive(&mut self, socket: &mut NodeSocket, buffer: &mut [u8]) -> Received
         ensures takes { HearsFirst self.old.heard self.new.heard buffer.new result }
         ensures shares { self.new.heard.taken ≡ first_sources self.old.heard result }
-        ensures places { self.new.heard.places ≡ self.old.heard.places }
-        ensures kind { self.new.heard.kind ≡ self.old.heard.kind }
-        ensures apart { IsApart (leaves_requests self.old.heard.kind)
-            (reception result buffer.new) }
-        ensures within { FitsBuffer result buffer.new }
-        ensures room { length buffer.new ≡ length buffer.old }
+        ensures rest { KeepsRest self.old.heard self.new.heard }
+        ensures into { IsInto (leaves_requests self.old.heard.kind) buffer.old buffer.new result }
     {
         self.begin();
         let is_failed = self.fill(socket, buffer);
         let is_asked = self.is_asked();
-        match self.next(buffer) {
+        match self.poll(buffer) {
             Received::Nothing if is_failed => Received::Failed,
             Received::Nothing if !is_asked => self.wait(socket, buffer),
             received => received,
@@ -87,22 +82,21 @@ impl Inbox {
     }
 
     /// The next datagram of the turn, taken into `buffer`; `Nothing` where none waits here.
-    pub(crate) fn poll(&mut self, buffer: &mut [u8]) -> Received
+    pub fn poll(&mut self, buffer: &mut [u8]) -> Received
         ensures takes { TakesHeard self.old.heard self.new.heard buffer.new result }
         ensures shares { self.new.heard.taken ≡ sources_after self.old.heard result }
-        ensures places { self.new.heard.places ≡ self.old.heard.places }
-        ensures kind { self.new.heard.kind ≡ self.old.heard.kind }
-        ensures apart { IsApart (leaves_requests self.old.heard.kind)
-            (reception result buffer.new) }
-        ensures within { FitsBuffer result buffer.new }
-        ensures room { length buffer.new ≡ length buffer.old }
+        ensures rest { KeepsRest self.old.heard self.new.heard }
+        ensures into { IsInto (leaves_requests self.old.heard.kind) buffer.old buffer.new result }
     {
         // Nothing more is taken from the socket: the turn read its clock since `receive`, and what it hears was sent before.
-        self.next(buffer)
+        match self.heard.next_into(buffer) {
+            Some(Incoming { from, count, .. }) => Received::Datagram { from, count },
+            None => Received::Nothing,
+        }
     }
 
     /// The next Map-Request of the turn, taken into `buffer`, if one waits.
-    pub(crate) fn next_request(&mut self, buffer: &mut [u8]) -> Option<Request>
+    pub fn next_request(&mut self, buffer: &mut [u8]) -> Option<Request>
         ensures takes { TakesAsked self.old.asked self.new.asked buffer.new result }
         ensures shares { SharesAsked self.old.asked self.new.asked result }
         ensures heard { self.new.heard ≡ self.old.heard }
@@ -114,7 +108,7 @@ impl Inbox {
     }
 
     /// Whether a Map-Request waits.
-    pub(crate) fn is_asked(&self) -> bool {
+    pub fn is_asked(&self) -> bool {
         match &self.asked {
             Some(asked) => !asked.is_empty(),
             None => false,
@@ -135,8 +129,7 @@ impl Inbox {
     fn fill(&mut self, socket: &mut NodeSocket, buffer: &mut [u8]) -> bool
         ensures grows { Grows self.old.heard self.new.heard }
         ensures shares { self.new.heard.taken ≡ self.old.heard.taken }
-        ensures places { self.new.heard.places ≡ self.old.heard.places }
-        ensures kind { self.new.heard.kind ≡ self.old.heard.kind }
+        ensures rest { KeepsRest self.old.heard self.new.heard }
         ensures room { length buffer.new ≡ length buffer.old }
     {
         for _ in 0..MOST_AT_FIRST {
@@ -154,8 +147,7 @@ impl Inbox {
         requires { incoming.now.count ≤ length buffer.now }
         ensures grows { Grows self.old.heard self.new.heard }
         ensures shares { self.new.heard.taken ≡ self.old.heard.taken }
-        ensures places { self.new.heard.places ≡ self.old.heard.places }
-        ensures kind { self.new.heard.kind ≡ self.old.heard.kind }
+        ensures rest { KeepsRest self.old.heard self.new.heard }
     {
         let bytes = &buffer[..incoming.count];
         self.heard.offer(incoming.from, incoming.port, bytes);
@@ -164,40 +156,19 @@ impl Inbox {
         }
     }
 
-    // The next datagram that the core hears.
-    fn next(&mut self, buffer: &mut [u8]) -> Received
-        ensures takes { TakesHeard self.old.heard self.new.heard buffer.new result }
-        ensures shares { self.new.heard.taken ≡ sources_after self.old.heard result }
-        ensures places { self.new.heard.places ≡ self.old.heard.places }
-        ensures kind { self.new.heard.kind ≡ self.old.heard.kind }
-        ensures apart { IsApart (leaves_requests self.old.heard.kind)
-            (reception result buffer.new) }
-        ensures within { FitsBuffer result buffer.new }
-        ensures room { length buffer.new ≡ length buffer.old }
-    {
-        match self.heard.next_into(buffer) {
-            Some(Incoming { from, count, .. }) => Received::Datagram { from, count },
-            None => Received::Nothing,
-        }
-    }
-
     // Where nothing waits, the next datagram that comes to the socket, in its time limit; what waits there by then waits here.
     fn wait(&mut self, socket: &mut NodeSocket, buffer: &mut [u8]) -> Received
         requires { self.old.heard.waiting ≡ [] }
         ensures takes { HearsGrown self.old.heard self.new.heard buffer.new result }
         ensures shares { self.new.heard.taken ≡ sources_after self.old.heard result }
-        ensures places { self.new.heard.places ≡ self.old.heard.places }
-        ensures kind { self.new.heard.kind ≡ self.old.heard.kind }
-        ensures apart { IsApart (leaves_requests self.old.heard.kind)
-            (reception result buffer.new) }
-        ensures within { FitsBuffer result buffer.new }
-        ensures room { length buffer.new ≡ length buffer.old }
+        ensures rest { KeepsRest self.old.heard self.new.heard }
+        ensures into { IsInto (leaves_requests self.old.heard.kind) buffer.old buffer.new result }
     {
         match socket.take_in_time(buffer) {
             Ok(Some(incoming)) => {
                 self.offer(&incoming, buffer);
                 self.fill(socket, buffer);
-                self.next(buffer)
+                self.poll(buffer)
             }
             Ok(None) => Received::Nothing,
             Err(_) => Received::Failed,

@@ -6,8 +6,7 @@ ghost use Rattle.lisp_log.specs.Text.{device_of};
 ghost use Rattle.lisp_records.specs.Moment.{max_moment};
 ghost use Rattle.lisp_udp.specs.Journal.{PassesAndPours, TellsAndPours};
 
-use crate::line_form::LineForm;
-use crate::line_output::LineOutput;
+use crate::line_output::{LineForm, LineOutput};
 use crate::printer::Printer;
 use lisp_log::{Device, Log, Replay, device_of};
 use lisp_memory::{FallibleString, Memory};
@@ -22,7 +21,7 @@ use std::time::Clock;
 
 /// The log of a node, written to standard output. Lines that can't be written wait, or are dropped, so that none cuts it.
 #[derive(Drop)]
-pub(crate) struct Journal<'a, R> {
+pub struct Journal<'a, R> {
     alloc: Global,
     log: Log<'a>,
     output: LineOutput<'a, R>,
@@ -33,7 +32,7 @@ pub(crate) struct Journal<'a, R> {
 impl<'a, R: Files<File = File> + Clock + AllocGlobal> Journal<'a, R> {
     /// That of the node with a name, which registers with the Map-Servers of these numbers, and whose store keeps so many pairs. It
     /// begins at a moment, in ms, and writes nothing yet. Fault: 97.
-    pub(crate) fn open(
+    pub fn open(
         rt: &'a R,
         config: &'a Config,
         name: &'a str,

@@ -8,8 +8,7 @@ ghost use Rattle.lisp_sites.specs.Numbers.{IsMapServer, node_count};
 ghost use Rattle.lisp_udp.specs.Running.{BeginsOver, ReadsFirst, RunsFrom, RunsOver, TakesItsTurns, TakesTurnsFrom};
 
 use crate::resolving::{Answering, resolving};
-use crate::router::start_router;
-use crate::server::start_server;
+use crate::starting::{start_router, start_server};
 use lisp_memory::Memory;
 use lisp_nodes::{RouterNode, ServerNode};
 use lisp_nonces::WorldStore;
@@ -23,18 +22,18 @@ use std::alloc::Global;
 
 /// A node whose turns ended, and what is outside it.
 #[derive(Drop)]
-pub(crate) struct Life<N, O> {
+pub struct Life<N, O> {
     /// The node.
-    pub(crate) node: N,
+    pub node: N,
     /// What is outside.
-    pub(crate) outside: O,
+    pub outside: O,
     /// Whether its turns ended in one that was lost.
-    pub(crate) ended: Result<(), Uncommitted>,
+    pub ended: Result<(), Uncommitted>,
 }
 
 /// Runs the Map-Server with a number, which holds nothing, under these sites over its store, in so many turns of so many datagrams. Its
 /// life begins at the moment that its clock tells then. Faults: that of what is outside, then 97.
-pub(crate) fn serve_over<
+pub fn serve_over<
     S: WorldStore + Drop,
     O: Endpoint + Requests + Clock + Commit + Lines + Control + Drop,
 >(
@@ -64,7 +63,7 @@ pub(crate) fn serve_over<
 
 /// Runs the router with a number over its store, which starts, in so many turns of so many datagrams. Its life begins at the moment that
 /// its clock tells then. Faults: those of the start, then that of what is outside, then 97.
-pub(crate) fn route_over<
+pub fn route_over<
     S: WorldStore + Drop,
     O: Endpoint + Requests + Clock + Commit + Lines + Control + Drop,
 >(

@@ -2,13 +2,21 @@
 
 ghost use Rattle.std.specs.Prelude.{None};
 
-use crate::line_form::LineForm;
 use crate::object_output::ObjectOutput;
 use crate::standard_output::StandardOutput;
 use lisp_log::Sink;
 use std::alloc::Global;
 use std::fs::{File, Files};
 use std::time::Clock;
+
+/// In which form a node that runs without an end prints its lines.
+#[derive(Clone, Copy, Debug, PartialEq, Eq)]
+pub enum LineForm {
+    /// Words, as in a schedule.
+    Words,
+    /// Each a JSON object, with the time at which it is written and a severity.
+    Objects,
+}
 
 /// Standard output, which takes lines in one of their forms.
 #[derive(Drop)]

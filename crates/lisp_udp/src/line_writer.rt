@@ -15,7 +15,7 @@ use std::io::{ErrorKind, Write};
 /// A writer of the lines of the node with a name, each at once, so that a pipe sees it. Behind a line that couldn't be written
 /// there is no other.
 #[derive(Drop)]
-pub(crate) struct LineWriter<'a, W> {
+pub struct LineWriter<'a, W> {
     alloc: Global,
     config: &'a Config,
     name: &'a str,
@@ -25,7 +25,7 @@ pub(crate) struct LineWriter<'a, W> {
 }
 
 impl<'a, W: Write> LineWriter<'a, W> {
-    pub(crate) fn new(
+    pub fn new(
         alloc: Global,
         config: &'a Config,
         name: &'a str,
@@ -41,7 +41,7 @@ impl<'a, W: Write> LineWriter<'a, W> {
     }
 
     /// Why a line couldn't be written, where one couldn't. Faults: 88, 97.
-    pub(crate) fn end(self) -> Result<(), RunFault>
+    pub fn end(self) -> Result<(), RunFault>
         ensures { MatchOption self.entry.fault (result ≡ Ok tt) (λ fault. result ≡ Err fault) }
     {
         match self.fault {

@@ -22,10 +22,7 @@ const REST_MS: u64 = 1_000;
 /// crash would have it. Each life begins at the moment that the clock tells then: the first one under the sites of the configuration, each
 /// other one under those that the Map-Server had last. What is outside is given back. Faults: that of what is outside, or 97; at a
 /// later start 97.
-pub(crate) fn live<
-    T: SystemTable,
-    O: Endpoint + Requests + Clock + Commit + Lines + Control + Drop,
->(
+pub fn live<T: SystemTable, O: Endpoint + Requests + Clock + Commit + Lines + Control + Drop>(
     alloc: Global,
     config: &Config,
     number: usize,

@@ -1,17 +1,17 @@
-//! What is printed: each line at once, so that a pipe sees it.
+//! What nodes print: each line at once, so that a pipe sees it.
 
-ghost use Rattle.std.specs.Prelude.{◌≡◌, OnOk, OnErr, IfErr};
-ghost use Rattle.std.specs.Io.KnownBytes.{Keeps};
+ghost use Rattle.std.specs.Prelude.{IfErr};
 ghost use Rattle.lisp_lines.specs.Front.{GivesText};
 ghost use Rattle.lisp_lines.specs.Output.{Writes};
-ghost use Rattle.lisp_script.specs.RunFault.{numbered};
-ghost use Rattle.lisp_udp.specs.Printing.{printed_text, failed_text, lost_text, WritesSome, IsPrintingFault};
+ghost use Rattle.lisp_udp.specs.Printing.{printed_text, failed_text, lost_text, IsPrintingFault};
+ghost use Rattle.lisp_upkeep.specs.Printing.{WritesSome};
 
-use lisp_lines::{Wording, line_text, write_text};
+use lisp_lines::{Wording, line_text};
 use lisp_memory::FallibleString;
 use lisp_script::RunFault;
 use lisp_sites::Config;
 use lisp_turns::{Printed, SocketCall};
+use lisp_upkeep::print;
 use std::alloc::{AllocError, Global};
 use std::io::Write;
 
@@ -93,26 +93,4 @@ fn lost_text(alloc: Global, datagram: usize) -> Result<String, AllocError>
     ensures { GivesText result (lost_text datagram) }
 {
     String::try_format(alloc, format_args!("lost {datagram}\n"))
-}
-
-// Writes a text, which goes out at once. Fault: 88.
-#[tactic(auto, using(crate::proofs::Written::flushed, crate::proofs::Written::flushed_some, crate::proofs::Written::front_of_it))]
-fn print<W: Write>(text: &str, writer: &mut W) -> Result<(), RunFault>
-    ensures text { Writes result W.contents writer.old writer.new text.now }
-    ensures some { WritesSome result W.contents writer.old writer.new text.now }
-    ensures fault { IfErr result (λ fault. fault ≡ numbered 88) }
-{
-    write_text(text, writer)?;
-    flush(writer)
-}
-
-/// What was printed goes out. Fault: 88.
-pub(crate) fn flush<W: Write>(writer: &mut W) -> Result<(), RunFault>
-    ensures same { Keeps (W.contents writer.old) (W.contents writer.new) }
-    ensures fault { IfErr result (λ fault. fault ≡ numbered 88) }
-{
-    match writer.flush() {
-        Ok(()) => Ok(()),
-        Err(_) => Err(RunFault::WRITE),
-    }
 }

@@ -13,7 +13,7 @@ const MOST_BETWEEN_US: u64 = 1_000;
 /// as long. So a user who asks in a loop takes at most half of the time that datagrams leave; where they leave none, an eighth of their
 /// time.
 #[derive(Clone, Copy, Debug, PartialEq, Eq)]
-pub(crate) struct Pace {
+pub struct Pace {
     // For so many us it is to rest yet,
     rest_left: u64,
     // or to take datagrams.
@@ -26,7 +26,7 @@ pub(crate) struct Pace {
 
 impl Pace {
     /// Of a node that nobody asked lately.
-    pub(crate) fn start() -> Pace
+    pub fn start() -> Pace
         ensures { result ≡ cleared }
     {
         Pace {
@@ -38,7 +38,7 @@ impl Pace {
     }
 
     /// It rested for so many us.
-    pub(crate) fn rest(&mut self, us: u64)
+    pub fn rest(&mut self, us: u64)
         ensures { self.new ≡ rested_for self.old us }
     {
         self.rest_left = self.rest_left.saturating_sub(us);
@@ -46,14 +46,14 @@ impl Pace {
     }
 
     /// It took datagrams for so many us.
-    pub(crate) fn work(&mut self, us: u64)
+    pub fn work(&mut self, us: u64)
         ensures { self.new ≡ worked_for self.old us }
     {
         self.work_left = self.work_left.saturating_sub(us);
     }
 
     /// A datagram came.
-    pub(crate) fn hear(&mut self)
+    pub fn hear(&mut self)
         ensures { self.new ≡ heard self.old }
     {
         self.is_close = self.rested <= MOST_BETWEEN_US;
@@ -61,7 +61,7 @@ impl Pace {
     }
 
     /// It answered for so many us.
-    pub(crate) fn answer(&mut self, us: u64)
+    pub fn answer(&mut self, us: u64)
         ensures { self.new ≡ answered_for self.old us }
     {
         self.rest_left = us;
@@ -69,14 +69,14 @@ impl Pace {
     }
 
     /// Whether the node answers in this turn.
-    pub(crate) fn may_answer(&self) -> bool
+    pub fn may_answer(&self) -> bool
         ensures { result ≡ answers self.now }
     {
         self.rest_left == 0 || self.work_left == 0
     }
 
     /// Whether the node waits for the next datagram, where none waits: it follows soon, as the last one did.
-    pub(crate) fn awaits_next(&self) -> bool
+    pub fn awaits_next(&self) -> bool
         ensures { result ≡ awaits_next self.now }
     {
         self.is_close && self.rested == 0

@@ -8,7 +8,7 @@ use lisp_turns::Printed;
 use std::io::ErrorKind;
 
 /// Where a node's lines go. Moments are those of its clock, in ms.
-pub(crate) trait Printer {
+pub trait Printer {
     /// Whether a line couldn't be printed.
     ghost cut: { Self → Bool };
 

@@ -5,7 +5,6 @@ ghost use Rattle.lisp_udp.specs.Running.{at_first};
 
 use lisp_budget::Budget;
 use lisp_memory::Memory;
-use lisp_replies::QUIET;
 use lisp_turns::Resolving;
 use std::alloc::{AllocError, Global};
 
@@ -19,14 +18,6 @@ pub struct Answering {
     pub quiet: u64,
     /// How many bytes a second go out to each destination, at most.
     pub each: u32,
-}
-
-impl Answering {
-    /// Where its user says nothing: a minute, and 4,096 bytes.
-    pub const USUAL: Answering = Answering {
-        quiet: QUIET,
-        each: 4_096,
-    };
 }
 
 /// How a node answers Map-Requests in a life that begins: of its budget nothing is used.

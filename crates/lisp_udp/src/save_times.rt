@@ -8,13 +8,13 @@ use std::time::{Clock, Instant};
 
 /// How long the longest save took since the start, in ms; 0 before the first. Where the clock can't be read, a save isn't counted.
 #[derive(Drop)]
-pub(crate) struct SaveTimes<'a, R> {
+pub struct SaveTimes<'a, R> {
     rt: &'a R,
     longest: Cell<u64>,
 }
 
 impl<'a, R: Clock> SaveTimes<'a, R> {
-    pub(crate) fn new(rt: &'a R) -> SaveTimes<'a, R> {
+    pub fn new(rt: &'a R) -> SaveTimes<'a, R> {
         SaveTimes {
             rt,
             longest: Cell::new(0),
@@ -22,12 +22,12 @@ impl<'a, R: Clock> SaveTimes<'a, R> {
     }
 
     /// A save begins now.
-    pub(crate) fn begin(&self) -> Option<Instant> {
+    pub fn begin(&self) -> Option<Instant> {
         Instant::now(self.rt).ok()
     }
 
     /// The save that began then ends.
-    pub(crate) fn end(&self, begun: Option<Instant>) {
+    pub fn end(&self, begun: Option<Instant>) {
         let Some(begun) = begun else {
             return;
         };
@@ -38,21 +38,21 @@ impl<'a, R: Clock> SaveTimes<'a, R> {
     }
 
     /// How long the longest took, in ms.
-    pub(crate) fn longest(&self) -> u64 {
+    pub fn longest(&self) -> u64 {
         self.longest.get()
     }
 }
 
 /// A store whose saves are timed. It is the store in it: each call is handed on.
 #[derive(Drop)]
-pub(crate) struct TimedStore<'a, R, S> {
+pub struct TimedStore<'a, R, S> {
     store: S,
     times: &'a SaveTimes<'a, R>,
 }
 
 impl<'a, R: Clock, S: NonceStore> TimedStore<'a, R, S> {
     /// A store whose saves are timed from now on.
-    pub(crate) fn over(store: S, times: &'a SaveTimes<'a, R>) -> TimedStore<'a, R, S>
+    pub fn over(store: S, times: &'a SaveTimes<'a, R>) -> TimedStore<'a, R, S>
         ensures { (⟦<Self as NonceStore>⟧.seen result) ≡ S.seen store }
     {
         TimedStore { store, times }

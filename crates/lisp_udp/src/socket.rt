@@ -16,7 +16,7 @@ const PORT: u16 = 4342;
 
 /// A socket at a node's address. Of what the system makes of its calls nothing is known.
 #[derive(Drop)]
-pub(crate) struct NodeSocket {
+pub struct NodeSocket {
     socket: UdpSocket,
     // Whether its calls wait, a receive for so many ms.
     waits: bool,
@@ -29,11 +29,7 @@ pub(crate) struct NodeSocket {
 
 impl NodeSocket {
     /// A socket at the address, UDP port 4342, which waits so many ms for a datagram. Fault: 92.
-    pub(crate) fn bind<R: Net>(
-        rt: &R,
-        address: &Addr,
-        timeout_ms: u64,
-    ) -> Result<NodeSocket, RunFault> {
+    pub fn bind<R: Net>(rt: &R, address: &Addr, timeout_ms: u64) -> Result<NodeSocket, RunFault> {
         let Ok(socket) = UdpSocket::bind(rt, at(address, PORT)) else {
             return Err(RunFault::BIND);
         };
@@ -50,17 +46,17 @@ impl NodeSocket {
     }
 
     /// For how many ms a receive waits from now on; with `None` it takes only what waits already.
-    pub(crate) fn set_receive_ms(&mut self, receive_ms: Option<u64>) {
+    pub fn set_receive_ms(&mut self, receive_ms: Option<u64>) {
         self.receive_ms = receive_ms;
     }
 
     /// The kind of the last error of a call that failed.
-    pub(crate) fn failure(&self) -> Option<ErrorKind> {
+    pub fn failure(&self) -> Option<ErrorKind> {
         self.failure
     }
 
     /// Sends a message to a UDP port of an address; whether the system took it.
-    pub(crate) fn send_to(&mut self, to: &Addr, port: u16, message: &[u8]) -> bool {
+    pub fn send_to(&mut self, to: &Addr, port: u16, message: &[u8]) -> bool {
         match self.try_send(to, port, message) {
             Ok(_) => true,
             Err(error) => {
@@ -72,7 +68,7 @@ impl NodeSocket {
 
     /// The next datagram that comes in the time of a receive, taken into `buffer`, if one does. Where the socket fails, the kind of
     /// the error.
-    pub(crate) fn take_in_time(&mut self, buffer: &mut [u8]) -> Result<Option<Incoming>, ErrorKind>
+    pub fn take_in_time(&mut self, buffer: &mut [u8]) -> Result<Option<Incoming>, ErrorKind>
         ensures within { IfOk result (λ next.
             IfSome next (λ incoming. incoming.count ≤ length buffer.new)) }
         ensures room { length buffer.new ≡ length buffer.old }
@@ -82,7 +78,7 @@ impl NodeSocket {
 
     /// The next datagram that comes in so many ms, taken into `buffer`, if one does; with `None`, that waits already. Where the socket
     /// fails, the kind of the error.
-    pub(crate) fn take(
+    pub fn take(
         &mut self,
         buffer: &mut [u8],
         ms: Option<u64>,

@@ -1,16 +1,6 @@
-pub mod Loops
-pub mod Arrivals
-pub mod Calm
 pub mod Taking
 pub mod Keys
-pub mod Running
-pub mod MakingChecks
-pub mod MakingNodes
-pub mod FirstKeys
 pub mod Making
-pub mod Unmade
 pub mod Telling
 pub mod Noticing
 pub mod Sending
-pub mod Refusing
-pub mod Requesting

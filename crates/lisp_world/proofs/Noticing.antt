@@ -1,17 +1,16 @@
 -- A Map-Server's notice, made or made again, and what the network says of it.
-use Rattle.std.proofs.Common.{◌≡◌, ℕ, ◌+◌, ◌<◌, List, get_or, [], ◌∷◌, ◌++◌, Option, Result, Ok, Err, refl, ap, ◌∙◌, subst, length}
-use Rattle.std.specs.Prelude.{IfOk, IsSome, slice_set}
+use Rattle.std.proofs.Common.{[], ◌≡◌, ℕ, ◌+◌, ◌<◌, List, get_or, ◌∷◌, ◌++◌, Option, Result, Ok, Err, refl, ap, ◌∙◌, subst, length}
 use Rattle.std.proofs.lemmas.Option.{slice_get_read}
-use Rattle.lisp_records.specs.declared.address.Addr.{Addr}
-use Rattle.lisp_records.specs.declared.router.RouterId.{RouterId}
+use Rattle.std.specs.Prelude.{IfOk, IsSome, slice_set}
+use Rattle.lisp_records.specs.declared.{address.Addr.Addr, router.RouterId.RouterId}
 use Rattle.lisp_nonces.specs.declared.fate.Fate.{Fate}
 use Rattle.lisp_admission.specs.declared.notice_fault.NoticeFault.{NoticeFault}
 use Rattle.lisp_model.specs.declared.line.Line.{Line}
 use Rattle.lisp_model.specs.declared.line.Line.TheVariants as lines
 use Rattle.lisp_nodes.specs.Asked.{SaysNotice, said_resent, datagram_of}
+use Rattle.lisp_nodes.proofs.ServerCalls.{server_acted, notice_head}
 use Rattle.lisp_world.specs.Asked.{BagGrowsByNotice, BagGrowsByResend}
 use Rattle.lisp_messages.specs.Head.{head_at}
-use Rattle.lisp_nodes.proofs.ServerCalls.{server_acted, notice_head}
 use Rattle.lisp_refinement.specs.Calls.{NodeNotifies}
 use Rattle.lisp_refinement.specs.World.{DatagramValue, ServerNodeState, RouterNodeState, WorldState}
 use Rattle.lisp_refinement.specs.Events.{NetworkNotifies, NetworkResends, NodeResends, SaysNoticeAnswer, SaysResendAnswer}

@@ -1,5 +1,5 @@
 -- A router that was asked for a Map-Register, and what the network says of it.
-use Rattle.std.proofs.Common.{◌≡◌, ℕ, ◌+◌, ◌<◌, List, get_or, [], ◌∷◌, ◌++◌, Option, Some, None, Result, Ok, Err, false, refl, sym, ap, ◌∙◌, subst, length}
+use Rattle.std.proofs.Common.{[], ◌≡◌, ℕ, ◌+◌, ◌<◌, List, get_or, ◌∷◌, ◌++◌, Option, Some, None, Result, Ok, Err, false, refl, sym, ap, ◌∙◌, subst, length}
 use Rattle.std.specs.Prelude.{IfOk, IfSome, IsSome, slice_set}
 use Rattle.lisp_messages.specs.Head.{head_at}
 use Rattle.lisp_records.specs.declared.address.Addr.{Addr}

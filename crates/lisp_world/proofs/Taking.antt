@@ -1,20 +1,13 @@
--- An event that was taken: a trace goes on by its turn, which keeps calm stores calm.
-use Rattle.std.proofs.Common.{◌≡◌, ℕ, ◌+◌, ◌<◌, ◌++◌, length, get_or, take, drop, Bool, true, false, List, Option, Some, None, Result, Ok, refl, sym, ap, subst, ◌∙◌, arith}
-use Rattle.std.specs.Prelude.{IfOk, slice_get}
-use Rattle.lisp_records.specs.declared.address.Addr.{Addr}
-use Rattle.lisp_records.specs.Record.{MapRecordValue}
-use Rattle.lisp_policy.specs.Extends.{extends}
-use Rattle.lisp_policy.specs.Site.{SiteValue}
-use Rattle.lisp_nonces.specs.declared.fate.Fate.{Fate}
-use Rattle.lisp_nonces.specs.declared.fate.Fate.TheVariants.{Done}
-use Rattle.lisp_model.specs.Restarting.{Fits}
-use Rattle.lisp_model.specs.Memory.{MayTell}
-use Rattle.lisp_model.specs.declared.event.Event.TheVariants as events
-use Rattle.lisp_model.specs.declared.line.Line.{Line}
-use Rattle.lisp_model.specs.declared.line.Line.TheVariants as lines
-use Rattle.lisp_model.specs.declared.world_fault.WorldFault.{WorldFault}
-use Rattle.lisp_refinement.specs.World.{DatagramValue, RouterCoreState, Up, Down, ServerNodeState, RouterNodeState, WorldState}
-use Rattle.lisp_refinement.specs.Events.{address_of, change_line, reload_line, node_with, datagram_to, Arrives, NetworkChanges, NetworkDelivers, NetworkNotifies, NetworkLoses, NetworkReloads, NetworkResends, NetworkRestarts, NetworkRotates, NetworkSends, NetworkTicks}
+-- Loops that take each element of a list once.
+use Rattle.std.proofs.Common.{[], ◌≡◌, ℕ, zero, suc, ◌+◌, ◌<◌, ◌≤◌, List, ◌∷◌, ◌++◌, length, take, drop, set, get_or, Option, Some, refl, sym, ap, subst, ◌∙◌, inl, inr, arith, Bor, Bool, true, false, None, Result, Ok, map}
+use Rattle.std.proofs.lemmas.Option.{slice_get-get_or, slice_get_past, slice_get_read, slice_get_within, slice_get-map, get_or_from_slice_get}
+use Rattle.std.proofs.lemmas.Bool.{leb-false, ltb-false, ltb-true}
+use Rattle.std.proofs.lemmas.List.{get_or_read, length-map, map-set, set-append_left}
+use Rattle.std.proofs.lemmas.List.Quantifiers.{position-Some}
+use Rattle.std.proofs.Math.Seq.{take-append_seam, map-set_same}
+use Rattle.std.specs.Prelude.{◌⊎◌, ◌≢◌, slice_get, IfSome, is_some, nat_le, nat_lt, position, if◌then◌else◌, slice_set, IsTrue, IfOk}
+use Rattle.std.specs.Option.{option_map}
+use Rattle.lisp_refinement.proofs.Gets.{same_some, get_set, AtSet, get_before}
 use Rattle.lisp_refinement.proofs.Changing.{change_stands}
 use Rattle.lisp_refinement.proofs.Losing.{lose_stands}
 use Rattle.lisp_refinement.proofs.Noticing.{notice_stands}
@@ -24,10 +17,362 @@ use Rattle.lisp_refinement.proofs.Rotating.{rotate_stands}
 use Rattle.lisp_refinement.proofs.Sending.{send_stands}
 use Rattle.lisp_refinement.proofs.Passing.{tick_stands}
 use Rattle.lisp_refinement.proofs.Taking.{delivers_stand, junk_stands, restarts_stand}
-use Rattle.lisp_world.specs.Faults.{datagram_fault, node_fault, pair_fault, refusal_of, restart_fault, router_fault, router_key_fault, server_fault, tick_fault, used_before_loss, used_ever}
+use Rattle.lisp_refinement.specs.World.{DatagramValue, ServerNodeState, RouterNodeState, WorldState, RouterCoreState, Up, Down}
+use Rattle.lisp_refinement.specs.Events.{address_of, node_with, datagram_to, Arrives, ArrivesWhere, NetworkDelivers, ServerActs, RouterActs, ExpiresEach, NetworkTicks, NetworkChanges, RouterSends, NetworkSends, RouterHears, NetworkRestarts, NetworkNotifies, NetworkReloads, NetworkResends, NetworkRotates, NetworkLoses, RouterRotates, change_line, reload_line}
+use Rattle.lisp_refinement.specs.Calls.{UsesStore}
+use Rattle.lisp_records.specs.{Address.addr_eq, declared.address.Addr.Addr, Record.MapRecordValue}
+use Rattle.lisp_nonces.specs.declared.fate.Fate.{Fate}
+use Rattle.lisp_nonces.specs.declared.fate.Fate.TheVariants.{Done}
+use Rattle.lisp_nonces.specs.Store.{StoreState, Proceeds}
+use Rattle.lisp_model.specs.declared.line.Line.{Line}
+use Rattle.lisp_model.specs.declared.world_fault.WorldFault.{WorldFault}
+use Rattle.lisp_model.specs.declared.world_fault.WorldFault.TheVariants.{NoDatagram}
+use Rattle.lisp_model.specs.Restarting.{Fits}
+use Rattle.lisp_model.specs.Memory.{MayTell}
+use Rattle.lisp_world.specs.Faults.{datagram_fault, node_fault, refusal_of, pair_fault, restart_fault, router_fault, router_key_fault, server_fault, tick_fault, used_before_loss, used_ever}
+use Rattle.lisp_world.specs.Quiet.{stores_of, IsCalm, AllCalm, failures, KeepsCalm}
 use Rattle.lisp_world.specs.Taking.{TookEvent}
-use Rattle.lisp_world.proofs.Arrivals.{arrived, datagram_there, delivered, read_again, read_still, same_world}
-use Rattle.lisp_world.proofs.Calm.{ticks_calm, changes_calm, sends_calm, delivers_calm, arrives_calm, restarts_calm, rotates_calm, loses_calm, notices_calm, reloads_calm, resends_calm}
+use Rattle.lisp_policy.specs.{Site.SiteValue, Extends.extends}
+use Rattle.lisp_model.specs.declared.event.Event.TheVariants as events
+use Rattle.lisp_model.specs.declared.line.Line.TheVariants as lines
+
+-- a loop that takes each element of a list once
+module _ {X : Type 0} where
+  -- the elements below a place have become what they should
+  abbrev pub DoneBelow : (X → X → Type 0) → List X → List X → ℕ → Type 0
+  DoneBelow Becomes old now i = (k : ℕ) (x y : X) → k < i → slice_get old k ≡ Some x → slice_get now k ≡ Some y → Becomes x y
+
+  -- those from a place on are as they were
+  abbrev pub SameFrom : List X → List X → ℕ → Type 0
+  SameFrom old now i = (k : ℕ) → i ≤ k → slice_get now k ≡ slice_get old k
+
+  -- an element that isn't at the place that was set
+  get_other : (xs : List X) (i k : ℕ) (y : X) → k ≢ i → slice_get (set xs i y) k ≡ slice_get xs k
+  get_other [] i k y other = refl
+  get_other (a ∷ xs) zero zero y other = absurd (other refl)
+  get_other (a ∷ xs) zero (suc k) y other = refl
+  get_other (a ∷ xs) (suc i) zero y other = refl
+  get_other (a ∷ xs) (suc i) (suc k) y other = get_other xs i k y (λ same. other (omega (arith, same)))
+
+  module _ (old now : List X) (i : ℕ) (past next : X) where
+    -- the place that a turn of the loop sets has what should become of the element there, and those below it had
+    pub done_more : (Becomes : X → X → Type 0) → i < length now → Becomes (get_or now i past) next → SameFrom old now i → DoneBelow Becomes old now i
+        → DoneBelow Becomes old (set now i next) (i + 1)
+    done_more Becomes within becomes same done k x y below was is = by_place (get_set now i k next y is)
+      where
+        by_place : ((k ≡ i) × (next ≡ y)) ⊎ ((k ≢ i) × (slice_get now k ≡ Some y)) → Becomes x y
+        by_place (inl (here, new)) =
+            let stood : ◌≡◌ {A = Option X} (Some (get_or now i past)) (Some x) =
+            sym (slice_get-get_or now i past within) ∙ same i (omega arith) ∙ ap (slice_get old) (sym here) ∙ was in
+            subst (λ (p : X × X). Becomes p.0 p.1) (λ i. (same_some _ x stood i, new i)) becomes
+        by_place (inr (other, there)) = done k x y (omega (arith, below, other)) was there
+
+    -- those behind it are as they were
+    pub same_more : SameFrom old now i → SameFrom old (set now i next) (i + 1)
+    same_more same k above = get_other now i k next (λ here. absurd (omega (arith, above, here))) ∙ same k (omega (arith, above))
+
+-- what a loop over a list leaves, as long as it was
+pub rewritten : {X : Type 0} (n : ℕ) (old now : List X) → n ≡ length now → take n (now ++ drop (length now) old) ≡ now
+rewritten n old now whole = ap (λ (k : ℕ). take k (now ++ drop (length now) old)) whole ∙ take-append_seam now (drop (length now) old)
+
+-- ---- What arrives at a network: the node and the datagram that are meant are there, and the nodes that it leaves are written over
+-- those that were there.
+
+-- a test that a check lets through fails
+passed : (fault : WorldFault) (b : Bool) → None ≡ (if b then Some fault else None) → b ≡ false
+passed fault true clash = absurd cc
+passed fault false passes = refl
+
+-- a node that the check of its number lets through is there; of a datagram, the check found no fault; with the network as the
+-- call has it, and as it is seen
+module _ (seen w : WorldState) (same : seen ≡ w) where
+  pub node_there : (node : ℕ) → None ≡ node_fault w node → node < length seen.addresses
+  node_there node passes =
+      leb-false (length seen.addresses) node (passed _ _ (passes ∙ ap (λ (v : WorldState). node_fault v node) (sym same)))
+
+  pub no_datagram_fault : (k : ℕ) (checked : Result (Unit {0}) WorldFault) (x : Unit {0}) → checked ≡ Ok x → refusal_of checked ≡ datagram_fault w k → None ≡ datagram_fault seen k
+  no_datagram_fault k checked x found is = sym (ap refusal_of found) ∙ is ∙ ap (λ (v : WorldState). datagram_fault v k) (sym same)
+
+-- so a datagram is there, and so is a node that has an address
+pub datagram_there : (bag : List DatagramValue) (k : ℕ) → None ≡ (if nat_le (length bag) k then Some NoDatagram else None) → k < length bag
+datagram_there bag k passes = leb-false (length bag) k (passed _ _ passes)
+
+pub addressed_there : (addresses : List Addr) (address : Addr) (node : ℕ) → Some node ≡ position (λ a. addr_eq a address) addresses → node < length addresses
+addressed_there addresses address node found = (position-Some (λ a. addr_eq a address) addresses node address (sym found)).0
+
+-- it is the same where there is room for more datagrams alone
+pub same_world : (w : WorldState) (bag : List DatagramValue) → bag ≡ w.bag → record w { bag = bag } ≡ w
+same_world w bag same = ap (λ (b : List DatagramValue). record w { bag = b }) same
+
+-- bytes arrived at a node: so they do in the network where its nodes are written over the old ones, and the answer went to
+-- the end of the bag
+module _ (A : Type 0) (w : WorldState) (node : ℕ) (fate : Fate) (from : Addr) (bytes : List ℕ) (line : Line) (reply : Option (List ℕ))
+    (servers : List ServerNodeState) (routers : List RouterNodeState) where
+  pub arrived : (servers_long routers_long : ℕ) (bag : List DatagramValue) → servers_long ≡ length servers → routers_long ≡ length routers
+      → bag ≡ w.bag ++ datagram_to (address_of w node) from reply
+      → Arrives A w (record w { bag = w.bag ++ datagram_to (address_of w node) from reply; servers = servers; routers = routers }) node fate from bytes line
+      → Arrives A w (record w {
+        bag = bag;
+        servers = take servers_long (servers ++ drop (length servers) w.servers);
+        routers = take routers_long (routers ++ drop (length routers) w.routers);
+      }) node fate from bytes line
+  arrived servers_long routers_long bag all_servers all_routers same =
+      subst (λ (new : WorldState). Arrives A w new node fate from bytes line)
+      (λ i. record w {
+        bag = sym same i;
+        servers = sym (rewritten servers_long w.servers servers all_servers) i;
+        routers = sym (rewritten routers_long w.routers routers all_routers) i;
+      })
+
+-- a datagram that was sent, and what becomes of it at the node that has its address, or at none
+pub delivered : {A : Type 0} {old new : WorldState} {k : ℕ} {fate : Fate} {line : Line} (d : DatagramValue) (to : Option ℕ)
+    → slice_get old.bag k ≡ Some d → to ≡ node_with old d.to → ArrivesWhere A old new k fate d to line → NetworkDelivers A old new k fate line
+delivered {A = A} {old = old} {new = new} {k = k} {fate = fate} {line = line} d to sent found arrives =
+    record { datagram = d; sent = sent; arrives = subst (λ (at : Option ℕ). ArrivesWhere A old new k fate d at line) found arrives }
+
+-- an element that is read once there is room for more is the one that was there
+pub read_still : {X : Type 0} (xs ys : List X) (k : ℕ) (x : X) → k < length xs → ys ≡ xs → x ≡ get_or ys k x → slice_get xs k ≡ Some x
+read_still {X = X} xs ys k x within same read =
+    slice_get-get_or xs k x within ∙ ap (λ (y : X). Some y) (sym (read ∙ ap (λ (zs : List X). get_or zs k x) same))
+
+-- an element that is read twice is the same
+pub read_again : {X : Type 0} (xs : List X) (k : ℕ) (x y : X) → k < length xs → x ≡ get_or xs k x → y ≡ get_or xs k y → y ≡ x
+read_again xs k x y within first second = get_or_read xs k y within second x ∙ sym first
+
+-- what a list lends at a place is what stands there, if anything does
+pub element_read : {X : Type 0} (xs : List X) (k : ℕ) (r : Option (Bor X)) → is_some r ≡ nat_lt k (length xs) → IfSome r (λ x. x.now ≡ get_or xs k x.now) → option_map (λ x. x.now) r ≡ slice_get xs k
+element_read xs k (Some x) there read = sym (slice_get_read xs (length xs) k x.now refl (ltb-true k (length xs) (sym there)) read)
+element_read xs k None past read = sym (slice_get_past xs k (ltb-false k (length xs) (sym past)))
+
+-- ---- Stores that don't fail unasked: in each turn calm stores stay calm, and none fails where the event's fate is `Done`.
+
+-- what a call makes of one calm store
+record KeepsStore (old new : StoreState) (fate : Fate) : Type 0 where
+  pub calm : IsCalm old → IsCalm new
+  pub unfailing : IsCalm old → fate ≡ Done → new.faults ≡ old.faults
+
+-- a store that is as it was is as calm
+same_store : (old new : StoreState) (fate : Fate) → new ≡ old → KeepsStore old new fate
+same_store old new fate same = record {
+  calm = λ calm. subst (λ (s : StoreState). IsCalm s) (sym same) calm;
+  unfailing = λ calm done. ap (λ (s : StoreState). s.faults) same;
+}
+
+-- a store that obeys as another does obeys if that one does
+obeys : (old new : StoreState) → new.is_obedient ≡ old.is_obedient → IsTrue old.is_obedient → IsTrue new.is_obedient
+obeys old new same = subst (λ (b : Bool). IsTrue b) (sym same)
+
+-- a call for which the store was armed, with `Done` in the end
+uses_keeps : (old armed called new : StoreState) (fate : Fate) → UsesStore old fate armed called new → KeepsStore old new fate
+uses_keeps old armed called new fate uses = record {
+  calm = λ calm. record { obedient = obeys called new uses.disarms.obedient (called_obeys calm); quiet = uses.disarms.quiet (called_obeys calm) refl };
+  unfailing = λ calm done. uses.disarms.count ∙ (uses.proceeds.quiet (uses.arms.quiet calm.obedient done)).1 ∙ uses.arms.count;
+}
+  where
+    called_obeys : IsCalm old → IsTrue called.is_obedient
+    called_obeys calm = obeys armed called uses.proceeds.obedient (obeys old armed uses.arms.obedient calm.obedient)
+
+-- calls for which it wasn't armed: a quiet store stays quiet and doesn't fail
+proceeds_keeps : (old new : StoreState) (fate : Fate) → Proceeds old new → KeepsStore old new fate
+proceeds_keeps old new fate proceeds = record {
+  calm = λ calm. record { obedient = obeys old new proceeds.obedient calm.obedient; quiet = (proceeds.quiet calm.quiet).0 };
+  unfailing = λ calm done. (proceeds.quiet calm.quiet).1;
+}
+
+-- two calls, one after the other
+both_keep : (old between new : StoreState) (fate : Fate) → KeepsStore old between fate → KeepsStore between new fate → KeepsStore old new fate
+both_keep old between new fate first second = record {
+  calm = λ calm. second.calm (first.calm calm);
+  unfailing = λ calm done. second.unfailing (first.calm calm) done ∙ first.unfailing calm done;
+}
+
+-- in a list of stores one was replaced by what a call made of it
+record Replaces (old new : List StoreState) (fate : Fate) : Type 0 where
+  pub place : ℕ
+  pub before : StoreState
+  pub after : StoreState
+  pub was : slice_get old place ≡ Some before
+  pub left : new ≡ slice_set old place after
+  pub keeps : KeepsStore before after fate
+
+module _ (old new : WorldState) (fate : Fate) where
+  -- stores that are as they were are as calm
+  same_stores : stores_of new ≡ stores_of old → KeepsCalm old new fate
+  same_stores same = record {
+    calm = λ calm. subst (λ (all : List StoreState). AllCalm all) (sym same) calm;
+    unfailing = λ calm done. ap (λ (all : List StoreState). failures all) same;
+  }
+
+  module _ (replaces : Replaces (stores_of old) (stores_of new) fate) where
+    -- a store that stands at a place afterwards is the one that a call made, or stood there before
+    calm_at : AllCalm (stores_of old) → (k : ℕ) (s : StoreState) → AtSet (stores_of old) replaces.place k replaces.after s → IsCalm s
+    calm_at calm k s (inl (here, is)) = subst (λ (t : StoreState). IsCalm t) is (replaces.keeps.calm (calm replaces.place replaces.before replaces.was))
+    calm_at calm k s (inr (other, there)) = calm k s there
+
+    -- so all stores stay calm where one was replaced, and if that one didn't fail, none did
+    one_replaced : KeepsCalm old new fate
+    one_replaced = record {
+      calm = λ calm k s there. calm_at calm k s
+          (get_set (stores_of old) replaces.place k replaces.after s (ap (λ (all : List StoreState). slice_get all k) (sym replaces.left) ∙ there));
+      unfailing = λ calm done. ap (λ (all : List StoreState). failures all) replaces.left
+          ∙ map-set_same (λ (s : StoreState). s.faults) (stores_of old) replaces.place replaces.after replaces.before
+          (replaces.keeps.unfailing (calm replaces.place replaces.before replaces.was) done
+          ∙ ap (λ (s : StoreState). s.faults) (sym (get_or_from_slice_get (stores_of old) replaces.place replaces.before replaces.before replaces.was)));
+    }
+
+module _ {X : Type 0} where
+  -- what stands behind a list
+  get_behind : (xs ys : List X) (i k : ℕ) → i ≡ length xs + k → slice_get (xs ++ ys) i ≡ slice_get ys k
+  get_behind [] ys i k behind = ap (λ j. slice_get ys j) (omega (arith, behind))
+  get_behind (a ∷ xs) ys zero k behind = absurd (omega (arith, behind))
+  get_behind (a ∷ xs) ys (suc i) k behind = get_behind xs ys i k (omega (arith, behind))
+
+  -- and is set there
+  set_behind : (xs ys : List X) (i k : ℕ) (y : X) → i ≡ length xs + k → slice_set (xs ++ ys) i y ≡ xs ++ slice_set ys k y
+  set_behind [] ys i k y behind = ap (λ j. slice_set ys j y) (omega (arith, behind))
+  set_behind (a ∷ xs) ys zero k y behind = absurd (omega (arith, behind))
+  set_behind (a ∷ xs) ys (suc i) k y behind = ap (λ (all : List X). a ∷ all) (set_behind xs ys i k y (omega (arith, behind)))
+
+-- the stores of the Map-Servers, and of the routers
+abbrev server_stores : WorldState → List StoreState
+server_stores w = map (λ n. n.store) w.servers
+
+abbrev router_stores : WorldState → List StoreState
+router_stores w = map (λ n. n.store) w.routers
+
+-- a Map-Server acted, and its store was replaced
+server_keeps : (old new : WorldState) (node : ℕ) (more : List DatagramValue) (fate : Fate) (acts : ServerActs old new node more)
+    → KeepsStore acts.before.store acts.after.store fate → KeepsCalm old new fate
+server_keeps old new node more fate acts keeps = one_replaced old new fate (record {
+  place = node;
+  before = acts.before.store;
+  after = acts.after.store;
+  was = get_before (server_stores old) (router_stores old) node acts.before.store
+      (slice_get-map (λ (n : ServerNodeState). n.store) old.servers node ∙ ap (λ (found : Option ServerNodeState). option_map (λ n. n.store) found) acts.was);
+  left = ap (λ (w : WorldState). stores_of w) acts.left
+      ∙ ap (λ (all : List StoreState). all ++ router_stores old) (map-set (λ (n : ServerNodeState). n.store) old.servers node acts.after)
+      ∙ sym (set-append_left (server_stores old) (router_stores old) node acts.after.store
+      (omega (arith, slice_get_within old.servers node acts.before acts.was, length-map old.servers (λ (n : ServerNodeState). n.store))));
+  keeps = keeps;
+})
+
+-- a router acted, and its store was replaced: it stands behind those of the Map-Servers
+router_keeps : (old new : WorldState) (node : ℕ) (more : List DatagramValue) (fate : Fate) (acts : RouterActs old new node more)
+    → KeepsStore acts.before.store acts.after.store fate → KeepsCalm old new fate
+router_keeps old new node more fate acts keeps = one_replaced old new fate (record {
+  place = length (server_stores old) + acts.place;
+  before = acts.before.store;
+  after = acts.after.store;
+  was = get_behind (server_stores old) (router_stores old) (length (server_stores old) + acts.place) acts.place refl
+      ∙ slice_get-map (λ (n : RouterNodeState). n.store) old.routers acts.place ∙ ap (λ (found : Option RouterNodeState). option_map (λ n. n.store) found) acts.was;
+  left = ap (λ (w : WorldState). stores_of w) acts.left
+      ∙ ap (λ (all : List StoreState). server_stores old ++ all) (map-set (λ (n : RouterNodeState). n.store) old.routers acts.place acts.after)
+      ∙ sym (set_behind (server_stores old) (router_stores old) (length (server_stores old) + acts.place) acts.place acts.after.store refl);
+  keeps = keeps;
+})
+
+-- Map-Servers that drop their dead rows have the stores that they had
+expired_stores : (old new : List ServerNodeState) (now : ℕ) → length new ≡ length old → ExpiresEach old new now
+    → map (λ (n : ServerNodeState). n.store) new ≡ map (λ (n : ServerNodeState). n.store) old
+expired_stores [] [] now count each = refl
+expired_stores [] (m ∷ new) now count each = absurd (omega (arith, count))
+expired_stores (n ∷ old) [] now count each = absurd (omega (arith, count))
+expired_stores (n ∷ old) (m ∷ new) now count each =
+    let same : m.store ≡ n.store = ap (λ (x : ServerNodeState). x.store) (each zero n m refl refl).rest in
+    let rest = expired_stores old new now (omega (arith, count)) (λ k. each (suc k)) in
+    λ i. same i ∷ rest i
+
+-- time passes
+pub ticks_calm : (old new : WorldState) (ms : ℕ) (line : Line) → NetworkTicks old new ms line → KeepsCalm old new Done
+ticks_calm old new ms line ticks = same_stores old new Done
+    (ap (λ (w : WorldState). stores_of w) ticks.left
+    ∙ ap (λ (all : List StoreState). all ++ router_stores old) (expired_stores old.servers new.servers (old.clock + ms) ticks.count ticks.each))
+
+-- a router is given another database
+pub changes_calm : (old new : WorldState) (router : ℕ) (db : List MapRecordValue) (line : Line) → NetworkChanges old new router db line → KeepsCalm old new Done
+changes_calm old new router db line changes = router_keeps old new router [] Done changes.acts
+    (same_store changes.acts.before.store changes.acts.after.store Done (ap (λ (n : RouterNodeState). n.store) changes.changes))
+
+-- a router that sends uses its store if it is up
+send_keeps : (old : WorldState) (router server part : ℕ) (fate : Fate) (before after : RouterNodeState) (core : RouterCoreState) (line : Line) (more : List DatagramValue)
+    → RouterSends old router server part fate before after core line more → KeepsStore before.store after.store fate
+send_keeps old router server part fate before after (Up e) line more up = uses_keeps before.store up.sends.call.armed up.sends.call.called after.store fate up.sends.call.uses
+send_keeps old router server part fate before after (Down config database) line more sends =
+    same_store before.store after.store fate (ap (λ (n : RouterNodeState). n.store) sends.0)
+
+-- a router sends
+pub sends_calm : (old new : WorldState) (router server part : ℕ) (fate : Fate) (line : Line) → NetworkSends old new router server part fate line → KeepsCalm old new fate
+sends_calm old new router server part fate line sends = router_keeps old new router sends.more fate sends.acts
+    (send_keeps old router server part fate sends.acts.before sends.acts.after sends.acts.before.core line sends.more sends.sends)
+
+-- a router that is given bytes uses its store if it is up
+hear_keeps : (A : Type 0) (old : WorldState) (node : ℕ) (before after : RouterNodeState) (fate : Fate) (from : Addr) (bytes : List ℕ) (core : RouterCoreState)
+    (line : Line) (more : List DatagramValue) → RouterHears A old node before after fate from bytes core line more → KeepsStore before.store after.store fate
+hear_keeps A old node before after fate from bytes (Up e) line more up = uses_keeps before.store up.hears.armed up.hears.armed after.store fate up.hears.uses
+hear_keeps A old node before after fate from bytes (Down config database) line more hears =
+    same_store before.store after.store fate (ap (λ (n : RouterNodeState). n.store) hears.0)
+
+-- bytes arrive at a node
+pub arrives_calm : (A : Type 0) (old new : WorldState) (node : ℕ) (fate : Fate) (from : Addr) (bytes : List ℕ) (line : Line)
+    → Arrives A old new node fate from bytes line → KeepsCalm old new fate
+arrives_calm A old new node fate from bytes line (inl server) = server_keeps old new node _ fate server.acts
+    (uses_keeps server.acts.before.store server.receives.armed server.receives.called server.acts.after.store fate server.receives.uses)
+arrives_calm A old new node fate from bytes line (inr router) = router_keeps old new node router.more fate router.acts
+    (hear_keeps A old node router.acts.before router.acts.after fate from bytes router.acts.before.core line router.more router.hears)
+
+-- a datagram arrives where it was sent to, or nowhere
+arrival_calm : (A : Type 0) (old new : WorldState) (k : ℕ) (fate : Fate) (d : DatagramValue) (target : Option ℕ) (line : Line)
+    → ArrivesWhere A old new k fate d target line → KeepsCalm old new fate
+arrival_calm A old new k fate d (Some node) line arrives = arrives_calm A old new node fate d.from d.bytes line arrives
+arrival_calm A old new k fate d None line nowhere = same_stores old new fate (ap (λ (w : WorldState). stores_of w) nowhere.0)
+
+-- a datagram that was sent is delivered
+pub delivers_calm : (A : Type 0) (old new : WorldState) (k : ℕ) (fate : Fate) (line : Line) → NetworkDelivers A old new k fate line → KeepsCalm old new fate
+delivers_calm A old new k fate line delivers = arrival_calm A old new k fate delivers.datagram (node_with old delivers.datagram.to) line delivers.arrives
+
+-- a node stops, its store crashes, and it starts again
+pub restarts_calm : (old new : WorldState) (node pick : ℕ) (db : Option (List MapRecordValue)) (line : Line) → NetworkRestarts old new node pick db line → KeepsCalm old new Done
+restarts_calm old new node pick db line (inl (none, server)) = server_keeps old new node [] Done server.acts
+    (proceeds_keeps server.acts.before.store server.acts.after.store Done server.crashes.proceeds)
+restarts_calm old new node pick db line (inr router) = router_keeps old new node [] Done router.acts
+    (both_keep router.acts.before.store router.restarts.crashed router.acts.after.store Done
+    (proceeds_keeps router.acts.before.store router.restarts.crashed Done router.restarts.crashes.proceeds)
+    (proceeds_keeps router.restarts.crashed router.acts.after.store Done router.restarts.starts.proceeds))
+
+-- a router that is asked to go over to a key uses its store if it is up
+rotate_keeps : (router key : ℕ) (secret : List ℕ) (fate : Fate) (now : ℕ) (before after : RouterNodeState) (core : RouterCoreState) (line : Line)
+    → RouterRotates router key secret fate now before after core line → KeepsStore before.store after.store fate
+rotate_keeps router key secret fate now before after (Up e) line up = uses_keeps before.store up.rotates.call.armed up.rotates.call.called after.store fate up.rotates.call.uses
+rotate_keeps router key secret fate now before after (Down config database) line rotates =
+    same_store before.store after.store fate (ap (λ (n : RouterNodeState). n.store) rotates.0)
+
+pub rotates_calm : (old new : WorldState) (router key : ℕ) (fate : Fate) (line : Line) → NetworkRotates old new router key fate line → KeepsCalm old new fate
+rotates_calm old new router key fate line rotates = router_keeps old new router [] fate rotates.acts
+    (rotate_keeps router key rotates.of.secret fate old.clock rotates.acts.before rotates.acts.after rotates.acts.before.core line rotates.rotates)
+
+-- a router's store is lost, and it starts again
+pub loses_calm : (old new : WorldState) (router key : ℕ) (db : Option (List MapRecordValue)) (line : Line) → NetworkLoses old new router key db line → KeepsCalm old new Done
+loses_calm old new router key db line loses = router_keeps old new router [] Done loses.acts
+    (both_keep loses.acts.before.store loses.loses.lost loses.acts.after.store Done
+    (proceeds_keeps loses.acts.before.store loses.loses.lost Done loses.loses.loses.proceeds)
+    (proceeds_keeps loses.loses.lost loses.acts.after.store Done loses.loses.starts.proceeds))
+
+-- a Map-Server sends a notice
+pub notices_calm : (old new : WorldState) (server router : ℕ) (fate : Fate) (line : Line) → NetworkNotifies old new server router fate line → KeepsCalm old new fate
+notices_calm old new server router fate line notices = server_keeps old new server notices.more fate notices.acts
+    (uses_keeps notices.acts.before.store notices.notifies.armed notices.notifies.called notices.acts.after.store fate notices.notifies.uses)
+
+-- a Map-Server sends a notice again, without its store
+pub resends_calm : (old new : WorldState) (server router : ℕ) (line : Line) → NetworkResends old new server router line → KeepsCalm old new Done
+resends_calm old new server router line resends = server_keeps old new server resends.more Done resends.acts
+    (same_store resends.acts.before.store resends.acts.after.store Done (ap (λ (n : ServerNodeState). n.store) resends.rest))
+
+-- a Map-Server takes other sites, without its store
+pub reloads_calm : (old new : WorldState) (server : ℕ) (given : List SiteValue) (line : Line) → NetworkReloads old new server given line → KeepsCalm old new Done
+reloads_calm old new server given line reloads = server_keeps old new server [] Done reloads.acts
+    (same_store reloads.acts.before.store reloads.acts.after.store Done reloads.reloads.store)
+
+-- ---- An event that was taken: a trace goes on by its turn, which keeps calm stores calm.
 
 -- a check of a router's number and a Map-Server's passed: what is known of them, with the network as the call has it, and as it
 -- is seen

@@ -1,8 +1,7 @@
 //! The functions of the program `lispd`, whose `main` is a crate of its own: one Map-Register, given as a line of hexadecimal
 //! digits, is answered as a fresh Map-Server would answer it (`answer`); a schedule is played over a network
 //! (`lisp_player::play`); nodes run on sockets (`run_server`, `run_router`), and so does a whole network (`run_loop`), over any kind
-//! of database, as SQLite's (`Sqlite`, `run_task`); what a Map-Server keeps of routers is listed, and forgotten where they are gone
-//! (`Forgetting`); a configuration is checked (`check_config`), and a number explained (`explain`).
+//! of database, as SQLite's (`Sqlite`, `run_task`); a configuration is checked (`check_config`), and a number explained (`explain`).
 //! `run_subcommand` runs what the words of the command line name (`command`), and `report` prints why it ended.
 //!
 //! # Decisions
@@ -20,11 +19,10 @@ pub use lisp_database_store::SystemTable;
 pub use lisp_files::Ending;
 pub use lisp_refusals::{ExplainFault, explain, explain_all};
 pub use lisp_script::{InputFault, PlayFault, RunFault};
+pub use lisp_service::{run_loop, run_router, run_server};
 pub use lisp_sqlite::{Sqlite, Task, run_task};
-pub use lisp_udp::{
-    Answering, FolderUse, Forgetting, LineForm, Storage, Stretch, Subject, keep_router_running,
-    keep_server_running, run_loop, run_router, run_server, run_subject, use_folders,
-};
+pub use lisp_udp::Answering;
+pub use lisp_upkeep::Storage;
 pub use lispd_cli::{
     AnswerOption, Failure, ProgramFault, SetupFault, check_config, command, report, setup,
     tells_words,

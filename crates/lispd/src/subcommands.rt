@@ -6,10 +6,10 @@ use lisp_files::{Ending, Problem, STANDARD_INPUT, WatchedReader, WatchedWriter};
 use lisp_picture::{Form, draw};
 use lisp_player::{Untaken, play_noting};
 use lisp_script::PlayFault;
+use lisp_service::{FolderUse, NodeStart, Stretch, Subject, use_folders};
 use lisp_sqlite::{Task, run_task};
-use lisp_udp::{
-    Answering, FolderUse, Forgetting, LineForm, Storage, Stretch, Subject, use_folders,
-};
+use lisp_udp::{Answering, LineForm, NodeKind};
+use lisp_upkeep::{Forgetting, Storage};
 use lispd_cli::{
     CONFIG, DATABASE, Errand, FILE, Failure, ForgetWords, NAME, NodeWords, ProgramFault,
     RaiseWords, STORE, TEXT, ask_node, forget_words, is_given, look_up, node_words, raise_words,
@@ -93,13 +93,6 @@ fn named_run<'a>(named: Option<(&str, &ArgMatches<'a>)>) -> Result<Option<Run<'a
     }
 }
 
-/// A kind of node.
-#[derive(Clone, Copy)]
-enum NodeKind {
-    Server,
-    Router,
-}
-
 fn node_run<'a>(kind: NodeKind, words: &ArgMatches<'a>) -> Result<Run<'a>, ProgramFault> {
     let NodeWords {
         config,
@@ -114,10 +107,6 @@ fn node_run<'a>(kind: NodeKind, words: &ArgMatches<'a>) -> Result<Run<'a>, Progr
         budget,
         control,
     } = node_words(words)?;
-    let answering = Answering {
-        quiet,
-        each: budget,
-    };
     let stretch = match turns {
         Some(turns) => Stretch::Turns(turns),
         None => Stretch::Endless {
@@ -125,11 +114,23 @@ fn node_run<'a>(kind: NodeKind, words: &ArgMatches<'a>) -> Result<Run<'a>, Progr
             form: line_form(is_json),
         },
     };
-    let subject = node(kind, name, stretch, control, answering);
+    let node = NodeStart {
+        kind,
+        name,
+        stretch,
+        control,
+        answering: Answering {
+            quiet,
+            each: budget,
+        },
+    };
     Ok(Run {
         dir,
         storage: storage(has_database, group),
-        wanted: FolderUse::Run { config, subject },
+        wanted: FolderUse::Run {
+            config,
+            subject: Subject::Node(node),
+        },
     })
 }
 
@@ -138,29 +139,6 @@ fn line_form(is_json: bool) -> LineForm {
         LineForm::Objects
     } else {
         LineForm::Words
-    }
-}
-
-fn node<'a>(
-    kind: NodeKind,
-    name: &'a str,
-    stretch: Stretch,
-    control: Option<&'a str>,
-    answering: Answering,
-) -> Subject<'a> {
-    match kind {
-        NodeKind::Server => Subject::Server {
-            name,
-            stretch,
-            control,
-            answering,
-        },
-        NodeKind::Router => Subject::Router {
-            name,
-            stretch,
-            control,
-            answering,
-        },
     }
 }
 

@@ -1,6 +1,5 @@
 mod Orders
 mod Said
 mod Warned
-mod Filled
 mod Numbers
 mod Taken

@@ -5,7 +5,8 @@ use Rattle.std.specs.Str.{bytes_eq}
 use Rattle.std.proofs.lemmas.List.{append-nil, drop_all, flat_map_more, map_push, take_more}
 use Rattle.std.proofs.lemmas.Slice.Eq.{bytes_eq-Decides}
 use Rattle.lisp_refusals.specs.Table.{Explains}
-use Rattle.lispd_cli.specs.PrintedLine.{texts, given, both, carried_by, is_among, is_kind, name_of, verbs, from_verb, told_by, of_verb, read_as, ExplainsEach}
+use Rattle.lisp_script.specs.Words.{texts}
+use Rattle.lispd_cli.specs.PrintedLine.{given, both, carried_by, is_among, is_kind, name_of, verbs, from_verb, told_by, of_verb, read_as, ExplainsEach}
 
 -- one more word
 pub one_more_word : (words : List (Bor (List ℕ))) (i : ℕ) (d : Bor (List ℕ)) (before after : List ℕ) → i < length words → before ≡ given (texts (take i words)) → after ≡ before ++ 32 ∷ (get_or words i d).now

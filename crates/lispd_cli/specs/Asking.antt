@@ -1,5 +1,5 @@
 -- Whether a node is asked a question, or told it; whether it answers that this is neither, or that it doesn't do it; what is printed of that.
-use Rattle.std.specs.Prelude.{◌≡◌, ◌⊎◌, ℕ, ◌==◌, nat_lt, Bool, false, List, [], ◌∷◌, ◌++◌, codes, Option, Some, None, Result, Err, IsOk, if◌then◌else◌}
+use Rattle.std.specs.Prelude.{◌≡◌, ◌⊎◌, ℕ, ◌==◌, nat_lt, Bool, false, List, [], ◌∷◌, ◌++◌, codes, Option, Some, None, Result, Ok, Err, IsOk, if◌then◌else◌}
 use Rattle.std.specs.Int.{is_in_range}
 use Rattle.std.specs.Io.KnownBytes.{Appends}
 use Rattle.std.specs.List.{after_first, before_first, list_any}
@@ -8,13 +8,15 @@ use Rattle.lisp_files.specs.Closing.{whole}
 use Rattle.lisp_script.specs.Words.{is_word}
 use Rattle.lisp_texts.specs.Number.{number_of}
 use Rattle.lisp_answer.specs.declared.fault.AnswerFault.TheVariants.{Write}
+use Rattle.lisp_json.specs.Object.{AreObjectsOf}
 use Rattle.lispd_cli.specs.PrintedLine.{fault_of}
-use Rattle.lispd_cli.specs.declared.advice.Advice.{Advice}
-use Rattle.lispd_cli.specs.declared.advice.Advice.TheVariants.{Questions, Orders, Address, Records}
+use Rattle.lispd_cli.specs.declared.asking.Advice.{Advice}
+use Rattle.lispd_cli.specs.declared.asking.Advice.TheVariants.{Questions, Orders, Address, Records}
 use Rattle.lispd_cli.specs.declared.asking.Errand.{Errand}
 use Rattle.lispd_cli.specs.declared.asking.Errand.TheVariants.{Ask, Tell}
 use Rattle.lispd_cli.specs.declared.fault.ProgramFault.{ProgramFault}
-use Rattle.lispd_cli.specs.declared.fault.ProgramFault.TheVariants.{Answer, Refused, Run, Unanswered}
+use Rattle.lispd_cli.specs.declared.fault.ProgramFault.TheVariants.{Answer, Refused, Run, Setup, Unanswered}
+use Rattle.lispd_cli.specs.declared.fault.SetupFault.TheVariants as setups
 
 -- the first word ends at a space (32)
 abbrev pub first_word : List ℕ → List ℕ
@@ -108,3 +110,18 @@ first_line answer = before_first (λ b. b == 10) answer
 
 abbrev pub disallows : List ℕ → Bool
 disallows answer = disallows_in (first_line answer)
+
+-- as JSON, an object a line: the objects of these lines are written; or can't be; or memory is refused before any is
+abbrev pub WritesObjects : {X : Type 0} → Type 0 → List ℕ → Option (List ℕ) → Option (List ℕ) → Result X ProgramFault → Type 0
+WritesObjects may_refuse lines old new (Ok _) = (objects : List ℕ) × AreObjectsOf lines objects × Appends old new objects
+WritesObjects may_refuse lines old new (Err (Answer Write)) = Unit {0}
+WritesObjects may_refuse lines old new (Err (Setup setups.OutOfMemory)) = (new ≡ old) × may_refuse
+WritesObjects may_refuse lines old new (Err _) = ⊥
+
+-- where the lines are the fault of the line that was asked, it is the program's
+abbrev pub PrintsObjectsOf : {X : Type 0} → Type 0 → List ℕ → Option (List ℕ) → Option (List ℕ) → Result X ProgramFault → Type 0
+PrintsObjectsOf may_refuse lines old new result = MatchOption (fault_in lines) (WritesObjects may_refuse lines old new result) (λ number. EndsAt (bad_line number) old new result)
+
+-- an answer; one that is cut off is none
+abbrev pub PrintsObjects : {X : Type 0} → Type 0 → List ℕ → Option (List ℕ) → Option (List ℕ) → Result X ProgramFault → Type 0
+PrintsObjects may_refuse answer old new result = MatchOption (whole answer) (EndsAt Unanswered old new result) (λ lines. PrintsObjectsOf may_refuse lines old new result)

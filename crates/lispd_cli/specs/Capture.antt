@@ -12,10 +12,10 @@ use Rattle.lisp_transcript.specs.Schedule.{ScheduleValue, entries_of, schedule_o
 use Rattle.lisp_transcript.specs.Writing.{title}
 use Rattle.lisp_transcript.specs.declared.writing.WriteFault.TheVariants as write_faults
 use Rattle.lispd_cli.specs.Words.{word_in, is_given_in, option_in}
-use Rattle.lispd_cli.specs.declared.capture_fault.ReadingFault.{ReadingFault}
-use Rattle.lispd_cli.specs.declared.capture_fault.ReadingFault.TheVariants.{NoConfig, InputTwice, Capture, Output}
-use Rattle.lispd_cli.specs.declared.capture_words.Wanted.{Wanted}
-use Rattle.lispd_cli.specs.declared.capture_words.Wanted.TheVariants.{Lines, Schedule}
+use Rattle.lispd_cli.specs.declared.fault.ReadingFault.{ReadingFault}
+use Rattle.lispd_cli.specs.declared.fault.ReadingFault.TheVariants.{NoConfig, InputTwice, Capture, Output}
+use Rattle.lispd_cli.specs.declared.capture.Wanted.{Wanted}
+use Rattle.lispd_cli.specs.declared.capture.Wanted.TheVariants.{Lines, Schedule}
 
 -- a path is that of standard input
 abbrev pub is_input : List ℕ → Bool

@@ -1,12 +1,8 @@
 pub mod Fault
 pub mod Options
 pub mod Words
-pub mod Question
 pub mod Capture
-pub mod CaptureFault
 pub mod Asking
-pub mod Objects
 pub mod Check
 pub mod PrintedLine
 pub mod Reloading
-pub mod Parts

@@ -10,8 +10,8 @@ use Rattle.lisp_records.specs.Result.{◌>>=◌}
 use Rattle.lisp_texts.specs.Number.{number_of}
 use Rattle.lisp_texts.specs.Form.{site_id_of, secret_text_of}
 use Rattle.lisp_texts.specs.Reading.{prefix_of}
-use Rattle.lispd_cli.specs.declared.option.AnswerOption.{AnswerOption}
-use Rattle.lispd_cli.specs.declared.option.AnswerOption.TheVariants.{Site, Key, Secret, Prefix}
+use Rattle.lispd_cli.specs.declared.options.AnswerOption.{AnswerOption}
+use Rattle.lispd_cli.specs.declared.options.AnswerOption.TheVariants.{Site, Key, Secret, Prefix}
 use Rattle.lispd_cli.specs.declared.fault.SetupFault.{SetupFault}
 use Rattle.lispd_cli.specs.declared.fault.SetupFault.TheVariants.{BadOption, OutOfMemory}
 use Rattle.lisp_answer.specs.Setup.{AnswerSetupValue, default_setup}

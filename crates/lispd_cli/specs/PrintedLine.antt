@@ -1,29 +1,21 @@
 -- What is explained: a line that a node prints, whole, with what a log puts in front of it, or from its number on.
-use Rattle.std.specs.Prelude.{◌≡◌, ℕ, ◌==◌, nat_lt, Bool, true, false, List, [], ◌∷◌, ◌++◌, drop, length, codes, map, Option, Some, None, if◌then◌else◌}
-use Rattle.std.specs.List.{filter, flat_map, list_all, list_any, slice_split}
+use Rattle.std.specs.Prelude.{◌≡◌, ℕ, nat_lt, Bool, true, false, List, [], ◌∷◌, ◌++◌, drop, codes, Option, Some, None, if◌then◌else◌}
+use Rattle.std.specs.List.{flat_map, list_all, list_any}
 use Rattle.std.specs.Option.{is_some, option_and_then, option_map}
 use Rattle.std.specs.Str.{bytes_eq}
 use Rattle.lisp_texts.specs.Number.{number_of}
 use Rattle.lisp_texts.specs.Reading.{address_of}
+use Rattle.lisp_script.specs.Words.{words_of}
 use Rattle.lisp_refusals.specs.Numbers.{is_known}
 use Rattle.lisp_refusals.specs.Table.{Explains}
 use Rattle.lisp_refusals.specs.declared.fault.ExplainFault.TheVariants as explains
 use Rattle.lispd_cli.specs.declared.fault.SetupFault.TheVariants.{OutOfMemory}
 use Rattle.lispd_cli.specs.declared.fault.ProgramFault.{ProgramFault}
 use Rattle.lispd_cli.specs.declared.fault.ProgramFault.TheVariants.{Explain, Setup}
-use denote.Ref.{Bor}
-
--- the texts of words
-abbrev pub texts : List (Bor (List ℕ)) → List (List ℕ)
-texts words = map (λ w. w.now) words
 
 -- words that are given, as one line: a space (32) before each
 abbrev pub given : List (List ℕ) → List ℕ
 given words = flat_map (λ word. 32 ∷ word) words
-
--- the words of a line, between spaces
-abbrev pub words_of : List ℕ → List (List ℕ)
-words_of line = filter (λ w. nat_lt 0 (length w)) (slice_split (λ b. b == 32) line)
 
 -- a word is one of these
 abbrev pub is_among : List (List ℕ) → List ℕ → Bool

@@ -1,26 +1,19 @@
 //! What a node that runs is asked, and told to do.
 
-ghost use Rattle.std.specs.Prelude.{◌≡◌, ◌∷◌, [], ◌++◌, IfErr, OnOk};
-ghost use Rattle.std.specs.Io.KnownBytes.{Appends};
-ghost use Rattle.lispd_cli.specs.Asking.{PrintsAnswer, PrintsLines, bad_line, behind_word, disallows, errand_of, fault_in, first_line, first_word, refusal_of, refused_in, third_word};
-ghost use Rattle.lispd_cli.specs.declared.fault.ProgramFault.TheVariants.{Answer};
-ghost use Rattle.lisp_answer.specs.declared.fault.AnswerFault.TheVariants as answers;
+ghost use Rattle.std.specs.Prelude.{◌≡◌};
+ghost use Rattle.lispd_cli.specs.Asking.{advice_of, errand_of};
 
-use crate::advice::advice_of;
-use crate::command_line::{FOLDER, FORCE, JSON, PROMETHEUS, QUESTION, RELOAD};
+use crate::answers::{bad_line, behind_word, disallows, first_word, print_answer, print_objects};
+use crate::command_line::{FOLDER, JSON, PROMETHEUS, QUESTION, RELOAD};
 use crate::failure::Failure;
-use crate::fault::ProgramFault;
-use crate::objects::print_objects;
-use crate::printed_line::fault_of;
+use crate::fault::{Misuse, ProgramFault};
 use crate::reloading::reload_sites;
 use crate::words::{is_given, word};
 use clap::ArgMatches;
-use lisp_answer::AnswerFault;
 use lisp_files::whole;
 use lisp_memory::FallibleString;
 use lisp_refusals::{meaning, remedy};
-use lisp_script::{RunFault, ScriptWhat};
-use lisp_texts::number_from_text;
+use lisp_script::ScriptWhat;
 use std::alloc::{AllocError, Global};
 use std::io::{self, Write};
 use std::net::Net;
@@ -29,13 +22,10 @@ use std::rt::Files;
 use std::time::Duration;
 
 /// How long the next part of an answer may take, in seconds.
-pub(crate) const PATIENCE: u64 = 10;
+const PATIENCE: u64 = 10;
 
 /// The number of a record that its site doesn't allow.
 const NOT_ALLOWED: u16 = 55;
-
-/// The number of a router that didn't start.
-const NOT_STARTED: u16 = 76;
 
 /// Whether a node is asked, or told what to do.
 #[derive(Clone, Copy, Debug, PartialEq, Eq)]
@@ -82,13 +72,13 @@ fn ask<R: Eprint + Files + Net + AllocGlobal, W: Write>(
     writer: &mut W,
 ) -> Result<(), ProgramFault> {
     if is_given(words, JSON) && is_given(words, PROMETHEUS) {
-        return Err(ProgramFault::TwoForms);
+        return Err(ProgramFault::Misused(Misuse::TwoForms));
     }
     if errand_of(question) != errand {
         return Err(bad_line(ScriptWhat::Word.number()));
     }
     let path = control_path(rt.alloc(), word(words, FOLDER))?;
-    if errand == Errand::Tell && !is_given(words, FORCE) {
+    if errand == Errand::Tell && !is_given(words, "force") {
         check_change(rt, path.as_str(), question)?;
     }
     let answer = answer(rt, path.as_str(), question)?;
@@ -161,29 +151,6 @@ sends it all the same"
     }
 }
 
-// Whether an answer says that some records aren't allowed.
-fn disallows(answer: &str) -> bool
-    ensures { result ≡ disallows answer.now }
-{
-    let head = first_line(answer);
-    if first_word(head) != "disallowed" {
-        return false;
-    }
-    match number_from_text(third_word(head)) {
-        Some(number) => number > 0,
-        None => false,
-    }
-}
-
-pub(crate) fn first_line(answer: &str) -> &str
-    ensures { result.now ≡ first_line answer.now }
-{
-    match answer.split_once('\n') {
-        Some((line, _)) => line,
-        None => answer,
-    }
-}
-
 // The words of the question, with a space between them.
 fn question(alloc: Global, words: &ArgMatches<'_>) -> Result<String, AllocError> {
     let mut question = String::new(alloc);
@@ -211,30 +178,6 @@ fn errand_of(question: &str) -> Errand
     }
 }
 
-pub(crate) fn first_word(question: &str) -> &str
-    ensures { result.now ≡ first_word question.now }
-{
-    match question.split_once(' ') {
-        Some((first, _)) => first,
-        None => question,
-    }
-}
-
-pub(crate) fn behind_word(line: &str) -> &str
-    ensures { result.now ≡ behind_word line.now }
-{
-    match line.split_once(' ') {
-        Some((_, behind)) => behind,
-        None => "",
-    }
-}
-
-pub(crate) fn third_word(line: &str) -> &str
-    ensures { result.now ≡ third_word line.now }
-{
-    first_word(behind_word(behind_word(line)))
-}
-
 /// What the node answers to a question at its socket, until it closes that.
 pub(crate) fn answer<R: Files + Net + AllocGlobal>(
     rt: &R,
@@ -252,92 +195,66 @@ fn read_answer<R: Files + Net + AllocGlobal>(
     path: &str,
     question: &str,
 ) -> io::Result<String> {
-    let mut stream = UnixStream::connect(rt, path)?;
-    stream.set_read_timeout(Some(Duration::from_secs(PATIENCE)))?;
-    stream.write_all(question.as_bytes())?;
-    stream.write_all(b"\n")?;
+    let mut stream = connect(rt, path)?;
+    writeln!(stream, "{question}")?;
     io::read_to_string(rt.alloc(), stream)
 }
 
-/// Prints an answer without the line that closes it. One that is cut off is none.
-pub(crate) fn print_answer<W: Write>(
-    errand: Errand,
-    answer: &str,
-    writer: &mut W,
-) -> Result<(), ProgramFault>
-    ensures { PrintsAnswer errand answer.now (W.contents writer.old)
-        (W.contents writer.new) result }
-{
-    match whole(answer) {
-        Some(lines) => print_lines(errand, lines, writer),
-        None => Err(ProgramFault::Unanswered),
+/// A node's socket, at which nothing takes for ever.
+pub(crate) fn connect<R: Files + Net>(rt: &R, path: &str) -> io::Result<UnixStream> {
+    let stream = UnixStream::connect(rt, path)?;
+    let patience = Some(Duration::from_secs(PATIENCE));
+    stream.set_read_timeout(patience)?;
+    stream.set_write_timeout(patience)?;
+    Ok(stream)
+}
+
+/// What an operator is advised of.
+#[derive(Clone, Copy)]
+enum Advice {
+    /// Which questions there are.
+    Questions,
+    /// Which orders there are.
+    Orders,
+    /// How an address is written.
+    Address,
+    /// How records are written.
+    Records,
+}
+
+impl Advice {
+    // It, in words.
+    const fn words(self) -> &'static str {
+        match self {
+            Advice::Questions => {
+                "a Map-Server is asked hold, ask ADDRESS, routers, due or counts, and a router records, acks, due, counts or \
+                 disallowed RECORD ..; an order is for `lispd tell`"
+            }
+            Advice::Orders => {
+                "a Map-Server is told notice ROUTER, a router of its configuration, or reload CONFIG, and a router change RECORD .. or \
+                 rotate KEY; each with --database backup FILE; a question is for `lispd ask`"
+            }
+            Advice::Address => {
+                "an address is four numbers with dots, as 10.1.2.3, or all eight groups with colons, as \
+                 2001:db8:1:0:0:0:0:5; `::` isn't read here"
+            }
+            Advice::Records => {
+                "write records as 10.1.0.0/16=1440+192.0.2.1 or 2001:db8:1:0:0:0:0:0/48=1440+192.0.2.1, of different prefixes, \
+                 or empty; all eight groups are written, since `::` isn't read here"
+            }
+        }
     }
 }
 
-// Prints the lines of an answer, unless they are the fault of the line that was asked. Those that say that the node doesn't do what it
-// is told end the program.
-fn print_lines<W: Write>(errand: Errand, lines: &str, writer: &mut W) -> Result<(), ProgramFault>
-    ensures { PrintsLines errand lines.now (W.contents writer.old)
-        (W.contents writer.new) result }
+// What a fault's number asks for that ended a question, or an order; `None` where the number's own remedy says it.
+const fn advice_of(errand: Errand, number: u16) -> Option<Advice>
+    ensures { result ≡ advice_of errand number }
 {
-    if let Some(number) = fault_in(lines) {
-        return Err(bad_line(number));
-    }
-    write_lines(lines, writer)?;
-    match refusal_of(errand, lines) {
-        Some(number) => Err(ProgramFault::Refused(number)),
-        None => Ok(()),
-    }
-}
-
-fn write_lines<W: Write>(lines: &str, writer: &mut W) -> Result<(), ProgramFault>
-    ensures ok { OnOk result (Appends (W.contents writer.old) (W.contents writer.new)
-        (lines.now ++ 10 ∷ [])) }
-    ensures fault { IfErr result (λ fault. fault ≡ Answer answers.Write) }
-{
-    match writeln!(writer, "{lines}") {
-        Ok(()) => Ok(()),
-        Err(_) => Err(ProgramFault::Answer(AnswerFault::Write)),
-    }
-}
-
-// The number of the refusal or the fault that keeps a node from doing what it is told.
-fn refusal_of(errand: Errand, lines: &str) -> Option<u16>
-    ensures { result ≡ refusal_of errand lines.now }
-{
-    match errand {
-        Errand::Ask => None,
-        Errand::Tell => refused_in(lines),
-    }
-}
-
-fn refused_in(lines: &str) -> Option<u16>
-    ensures { result ≡ refused_in lines.now }
-{
-    match first_word(lines) {
-        "fault" => fault_of(first_word(behind_word(lines))),
-        "refused" => fault_of(third_word(lines)),
-        "down" => Some(NOT_STARTED),
+    match (errand, number) {
+        (Errand::Ask, 80..=82) => Some(Advice::Questions),
+        (Errand::Tell, 80..=82) => Some(Advice::Orders),
+        (Errand::Ask, 84) => Some(Advice::Address),
+        (Errand::Tell, 84) => Some(Advice::Records),
         _ => None,
     }
-}
-
-/// The fault of a line that is no question and no order, where an answer says so.
-pub(crate) fn fault_in(lines: &str) -> Option<u16>
-    ensures { result ≡ fault_in lines.now }
-{
-    let (word, number) = lines.split_once(' ')?;
-    if word != "fault" {
-        return None;
-    }
-    match number_from_text(number) {
-        Some(number @ 80..=86) => Some(number as u16),
-        _ => None,
-    }
-}
-
-pub(crate) fn bad_line(number: u16) -> ProgramFault
-    ensures { result ≡ bad_line number }
-{
-    ProgramFault::Run(RunFault { number, line: 0 })
 }

@@ -1,23 +1,25 @@
 //! A capture is read, and told.
 
-ghost use Rattle.std.specs.Prelude.{◌≡◌, ◌≤◌, IfOk, vec_len};
+ghost use Rattle.std.specs.Prelude.{◌≡◌, ◌≤◌, ◌++◌, false, codes, vec_len, IfOk, IfErr, OnOk};
+ghost use Rattle.std.specs.Io.KnownBytes.{Appends};
 ghost use Rattle.std.specs.Option.{IfSome};
-ghost use Rattle.lispd_cli.specs.Capture.{most_bytes};
+ghost use Rattle.lisp_transcript.specs.declared.writing.WriteFault.TheVariants.{Write};
+ghost use Rattle.lispd_cli.specs.Capture.{most_bytes, front_text, takes_input_twice, IsMisused, IsUntold, IsWanted, PrintsLines, PrintsSchedule};
 
-use crate::capture_fault::ReadingFault;
-use crate::capture_text::{print_lines, print_schedule};
-use crate::capture_words::{Wanted, wanted_by};
-use crate::check::read_checked;
-use crate::command_line::FILE;
+use crate::check::{Checked, read_checked};
+use crate::command_line::{CONFIG, FILE};
 use crate::failure::Failure;
-use crate::fault::ProgramFault;
+use crate::fault::{ProgramFault, ReadingFault};
 use crate::source::PATH_OF_INPUT;
-use crate::words::word;
+use crate::words::{is_given, word};
 use clap::ArgMatches;
 use lisp_files::{Problem, STANDARD_INPUT};
+use lisp_memory::Memory;
 use lisp_policy::Sites;
 use lisp_script::PlayFault;
-use std::alloc::Global;
+use lisp_sites::Config;
+use lisp_transcript::{Schedule, Transcript, WriteFault, write_lines, write_schedule};
+use std::alloc::{Allocator, Global};
 use std::fs::{self, Files};
 use std::io::{self, ErrorKind, Read, Write};
 
@@ -33,25 +35,51 @@ pub(crate) fn read_capture<R: Input + Files + AllocGlobal, W: Write>(
     words: &ArgMatches<'_>,
     writer: &mut W,
 ) -> Result<(), Failure> {
-    let alloc = rt.alloc();
     let path = word(words, FILE);
-    match wanted_by(words)? {
-        Wanted::Lines(None) => {
-            let bytes = read_file(rt, path)?;
-            print_lines(alloc, &Sites::new(alloc), &bytes, writer)?;
-        }
-        Wanted::Lines(Some(config)) => {
-            let checked = read_checked(rt, config)?;
-            let bytes = read_file(rt, path)?;
-            print_lines(alloc, checked.config().sites(), &bytes, writer)?;
-        }
-        Wanted::Schedule(config) => {
-            let checked = read_checked(rt, config)?;
-            let bytes = read_file(rt, path)?;
-            print_schedule(alloc, checked.text(), checked.config(), &bytes, writer)?;
-        }
+    match wanted_by(words) {
+        Ok(Wanted::Lines(None)) => read_bare(rt, path, writer),
+        Ok(Wanted::Lines(Some(config))) => read_with(rt, path, config, false, writer),
+        Ok(Wanted::Schedule(config)) => read_with(rt, path, config, true, writer),
+        Err(fault) => Err(Failure::from(fault)),
     }
-    Ok(())
+}
+
+// Prints a line for each message, by no secrets.
+fn read_bare<R: Input + Files + AllocGlobal, W: Write>(
+    rt: &R,
+    path: &str,
+    writer: &mut W,
+) -> Result<(), Failure> {
+    let bytes = read_file(rt, path)?;
+    Ok(print_lines(rt.alloc(), &Sites::new(rt.alloc()), &bytes, writer)?)
+}
+
+// Prints a line for each message, or a schedule, by a configuration.
+fn read_with<R: Input + Files + AllocGlobal, W: Write>(
+    rt: &R,
+    path: &str,
+    config: &str,
+    as_schedule: bool,
+    writer: &mut W,
+) -> Result<(), Failure> {
+    let checked = read_checked(rt, config)?;
+    let bytes = read_file(rt, path)?;
+    Ok(print_by(rt.alloc(), &checked, &bytes, as_schedule, writer)?)
+}
+
+fn print_by<W: Write>(
+    alloc: Global,
+    checked: &Checked,
+    bytes: &[u8],
+    as_schedule: bool,
+    writer: &mut W,
+) -> Result<(), ReadingFault> {
+    let config = checked.config();
+    if as_schedule {
+        print_schedule(alloc, checked.text(), config, bytes, writer)
+    } else {
+        print_lines(alloc, config.sites(), bytes, writer)
+    }
 }
 
 // The bytes of a file, or of standard input.
@@ -89,4 +117,89 @@ fn unread(alloc: Global, path: &str, error: io::Error) -> Failure {
     }
     let fault = ProgramFault::Play(PlayFault::Read);
     Failure::of_file(alloc, fault, path, Problem::Read(error))
+}
+
+/// What is wanted of a capture.
+#[derive(Clone, Copy)]
+enum Wanted<'a> {
+    /// A line for each of its messages, by the secrets of a configuration, where one is named.
+    Lines(Option<&'a str>),
+    /// A schedule for a configuration.
+    Schedule(&'a str),
+}
+
+// What the words of `read` want. Faults: `NoConfig` where a schedule is wanted without a configuration, `InputTwice` where standard input
+// is to be both files.
+fn wanted_by<'a>(words: &ArgMatches<'a>) -> Result<Wanted<'a>, ReadingFault>
+    ensures wanted { IfOk result (IsWanted words.now) }
+    ensures once { OnOk result (takes_input_twice words.now ≡ false) }
+    ensures fault { IfErr result (IsMisused words.now) }
+{
+    if takes_input_twice(words) {
+        return Err(ReadingFault::InputTwice);
+    }
+    let config = words.get_str(CONFIG);
+    if !is_given(words, "schedule") {
+        return Ok(Wanted::Lines(config));
+    }
+    match config {
+        Some(config) => Ok(Wanted::Schedule(config)),
+        None => Err(ReadingFault::NoConfig),
+    }
+}
+
+// Whether both files are to be standard input.
+fn takes_input_twice(words: &ArgMatches<'_>) -> bool
+    ensures { result ≡ takes_input_twice words.now }
+{
+    word(words, FILE) == PATH_OF_INPUT && word(words, CONFIG) == PATH_OF_INPUT
+}
+
+// Prints a line for each message of the capture that a file's bytes are, by the secrets of sites. Faults: `Capture`, at which nothing is
+// printed, and `Output`.
+fn print_lines<A: Memory + Copy, B: Allocator, W: Write>(
+    alloc: A,
+    sites: &Sites<B>,
+    bytes: &[u8],
+    writer: &mut W,
+) -> Result<(), ReadingFault>
+    ensures lines { OnOk result
+        (PrintsLines W.contents writer.old writer.new sites.now bytes.now) }
+    ensures fault { IfErr result (IsUntold A.may_refuse bytes.now writer.old writer.new) }
+{
+    let mut transcript = Transcript::open(alloc, bytes)?;
+    write_lines(alloc, sites, &mut transcript, writer)?;
+    Ok(())
+}
+
+// Prints the capture that a file's bytes are as a schedule for a configuration: its text, a line `---`, and the script. Faults as those of
+// `print_lines`.
+#[tactic(auto, using(crate::proofs::Warned::appends_both))]
+fn print_schedule<A: Memory + Copy, B: Allocator, W: Write>(
+    alloc: A,
+    text: &str,
+    config: &Config<B>,
+    bytes: &[u8],
+    writer: &mut W,
+) -> Result<(), ReadingFault>
+    ensures schedule { OnOk result
+        (PrintsSchedule W.contents writer.old writer.new text.now config.now bytes.now) }
+    ensures fault { IfErr result (IsUntold A.may_refuse bytes.now writer.old writer.new) }
+{
+    let mut schedule = Schedule::open(alloc, bytes)?;
+    print_front(text, writer)?;
+    write_schedule(alloc, config, &mut schedule, writer)?;
+    Ok(())
+}
+
+// Prints what stands before the script of a schedule: a configuration, and a line `---`.
+fn print_front<W: Write>(text: &str, writer: &mut W) -> Result<(), WriteFault>
+    ensures front { OnOk result
+        (Appends (W.contents writer.old) (W.contents writer.new) (front_text text.now)) }
+    ensures fault { IfErr result (λ fault. fault ≡ Write) }
+{
+    match write!(writer, "{text}\n---\n") {
+        Ok(()) => Ok(()),
+        Err(_) => Err(WriteFault::Write),
+    }
 }

@@ -1,15 +1,15 @@
 //! What `explain` is asked for: the numbers of a line that a node printed.
 
-ghost use Rattle.std.specs.Prelude.{◌≡◌, ◌≢◌, IfErr, IfOk, IsErrOf, None, OnErr, OnOk};
+ghost use Rattle.std.specs.Prelude.{◌≡◌, ◌≢◌, ◌∷◌, ◌++◌, string_bytes, IfErr, IfOk, IsErrOf, None, OnErr, OnOk};
 ghost use Rattle.std.specs.List.{list_all};
 ghost use Rattle.std.specs.Option.{option_map, IsSome};
 ghost use Rattle.lisp_refusals.specs.Numbers.{is_known};
-ghost use Rattle.lispd_cli.specs.PrintedLine.{texts, explained_of, ExplainsEach, ExplainsLine, out_of_memory, unknown, unwritten};
+ghost use Rattle.lisp_script.specs.Words.{texts, words_of};
+ghost use Rattle.lispd_cli.specs.PrintedLine.{given, explained_of, ExplainsEach, ExplainsLine, out_of_memory, unknown, unwritten};
 
 use crate::fault::ProgramFault;
-use crate::line_words::{line_of, words_of};
 use crate::printed_line::numbers_of;
-use lisp_memory::Memory;
+use lisp_memory::{FallibleString, FallibleVec, Memory};
 use lisp_refusals::{ExplainFault, explain, is_known};
 use std::alloc::{AllocError, Global};
 use std::io::Write;
@@ -72,4 +72,38 @@ fn explain_each<W: Write>(numbers: &[u16], writer: &mut W) -> Result<(), Program
         }
     }
     Ok(())
+}
+
+// Words that are given, as one line.
+fn line_of<A: Memory>(alloc: A, words: &[&str]) -> Result<String<A>, AllocError>
+    ensures line { IfOk result (λ line. string_bytes line ≡ given (texts words.now)) }
+    ensures memory { OnErr result A.may_refuse }
+{
+    let mut line = String::new(alloc);
+    for word in words {
+        put_word(&mut line, word)?;
+    }
+    Ok(line)
+}
+
+// Appends a space and a word. Out of memory, it may leave a part of it.
+fn put_word<A: Memory>(line: &mut String<A>, word: &str) -> Result<(), AllocError>
+    ensures line { OnOk result (string_bytes line.new ≡ string_bytes line.old ++ 32 ∷ word.now) }
+    ensures memory { OnErr result A.may_refuse }
+{
+    line.try_write(format_args!(" {word}"))
+}
+
+// The words of a line, which spaces separate.
+fn words_of<A: Memory>(alloc: A, line: &str) -> Result<Vec<&str, A>, AllocError>
+    ensures words { IfOk result (λ words. texts words.items ≡ words_of line.now) }
+    ensures memory { OnErr result A.may_refuse }
+{
+    let mut words = Vec::new(alloc);
+    for word in line.split(' ') {
+        if !word.is_empty() {
+            words.try_push(word)?;
+        }
+    }
+    Ok(words)
 }

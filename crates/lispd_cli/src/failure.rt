@@ -2,8 +2,7 @@
 
 ghost use Rattle.std.specs.Prelude.{◌≡◌, None};
 
-use crate::capture_fault::ReadingFault;
-use crate::fault::ProgramFault;
+use crate::fault::{ProgramFault, ReadingFault};
 use lisp_files::{Ending, FileTrouble, Problem, STANDARD_OUTPUT};
 use lisp_memory::Memory;
 use lisp_script::{InputFault, PlayFault};
@@ -108,7 +107,7 @@ impl From<ReadingFault> for Failure {
     ghost from_gives = { λ why failure. failure.fault ≡ Reading why };
 
     fn from(why: ReadingFault) -> Failure {
-        Failure::from(ProgramFault::from(why))
+        Failure::from(ProgramFault::Reading(why))
     }
 }
 

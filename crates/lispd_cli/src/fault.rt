@@ -1,17 +1,17 @@
-//! What keeps `setup` from giving a setup, and what ends the program: each with its number and its exit
-//! status, 1 where files, streams or memory fail, 2 for the words of the command line, 3 where a node refuses and 4 for a negative
-//! Map-Reply.
+//! What keeps `setup` from giving a setup, what is wrong with the words of the command line, what keeps a capture from being told, and what
+//! ends the program: each with its number and its exit status, 1 where files, streams or memory fail, 2 for the words of the command line,
+//! 3 where a node refuses and 4 for a negative Map-Reply.
 
 ghost use Rattle.std.specs.Prelude.{◌≡◌};
-ghost use Rattle.lispd_cli.specs.Fault.{setup_fault_number, setup_fault_status, program_fault_number, program_fault_status, program_fault_line};
+ghost use Rattle.lispd_cli.specs.Fault.{setup_fault_number, setup_fault_status, reading_fault_number, reading_fault_status, program_fault_number, program_fault_status, program_fault_line};
 
-use crate::capture_fault::ReadingFault;
-use crate::option::AnswerOption;
-use crate::question::QuestionFault;
+use crate::options::AnswerOption;
 use lisp_answer::AnswerFault;
+use lisp_captures::CaptureFault;
 use lisp_look::LookFault;
 use lisp_refusals::ExplainFault;
 use lisp_script::{InputFault, PlayFault, RunFault};
+use lisp_transcript::WriteFault;
 use std::alloc::AllocError;
 use thiserror::Error;
 
@@ -58,12 +58,118 @@ impl From<AllocError> for SetupFault {
     }
 }
 
+/// What is wrong with the words of a subcommand, as its error says: 98, with the exit status 2.
+#[derive(Clone, Copy, Debug, Error)]
+pub enum Misuse {
+    #[error("--turns takes a whole number from 0 to 4294967295")]
+    Turns,
+    #[error("--known isn't taken with --turns")]
+    Known,
+    #[error("--json isn't taken with --turns")]
+    Json,
+    #[error("--group takes a whole number from 1 to 64")]
+    Group,
+    #[error("--group is taken only with --database")]
+    GroupOfFiles,
+    #[error("--quiet takes a whole number from 0 to 3600, in seconds")]
+    Quiet,
+    #[error("--budget takes a whole number from 1024 to 262144, in bytes")]
+    Budget,
+    #[error("--remove is taken only with LIST")]
+    NoList,
+    #[error("N takes a whole number from 1 to 4294967295")]
+    By,
+    #[error("--json isn't taken with --prometheus")]
+    TwoForms,
+    #[error("EID takes an address or an EID-Prefix: four numbers with dots, such as 10.1.2.3 or 10.1.0.0/16, or eight groups with \
+colons and no `::`, such as 2001:db8:1:0:0:0:0:5")]
+    Eid,
+    #[error("--server takes an address: four numbers with dots, such as 192.0.2.1, or eight groups with colons and no `::`")]
+    Server,
+    #[error("--from takes an address: four numbers with dots, such as 192.0.2.9, or eight groups with colons and no `::`")]
+    From,
+    #[error("--from takes an address of the family of that of --server, since a Map-Reply comes over it")]
+    Family,
+    #[error("--tries takes a whole number from 1 to 100")]
+    Tries,
+}
+
+/// What keeps the capture that `read` is given from being told.
+#[derive(Clone, Copy, Debug, Error)]
+pub enum ReadingFault {
+    /// `--schedule` comes without a configuration.
+    #[error("--schedule is taken only with CONFIG")]
+    NoConfig,
+    /// Standard input is to be both the capture and the configuration.
+    #[error("`-` is taken as FILE or as CONFIG, not as both")]
+    InputTwice,
+    /// The capture has more than 1,073,741,824 bytes.
+    #[error("the capture has more than 1,073,741,824 bytes: give it in parts")]
+    TooLong,
+    /// The file is no capture.
+    #[error(transparent)]
+    Capture(CaptureFault),
+    /// A line can't be written, or memory ran out for it.
+    #[error(transparent)]
+    Output(WriteFault),
+}
+
+impl ReadingFault {
+    /// The number that operators see: `NoConfig` and `InputTwice` 98, `TooLong` 89, of `Capture` `Unknown` 143 and `Short` 144, of
+    /// `Output` `Write` 88 and `OutOfMemory` 97.
+    pub const fn number(&self) -> u16
+        ensures { result ≡ reading_fault_number self.now }
+    {
+        match self {
+            ReadingFault::NoConfig | ReadingFault::InputTwice => 98,
+            ReadingFault::TooLong => 89,
+            ReadingFault::Capture(CaptureFault::Unknown) => 143,
+            ReadingFault::Capture(CaptureFault::Short) => 144,
+            ReadingFault::Output(WriteFault::Write) => 88,
+            ReadingFault::Output(WriteFault::OutOfMemory) => 97,
+        }
+    }
+
+    /// The exit status: `TooLong` and `Output` 1, the others 2.
+    pub const fn status(&self) -> u8
+        ensures { result ≡ reading_fault_status self.now }
+    {
+        match self {
+            ReadingFault::NoConfig | ReadingFault::InputTwice | ReadingFault::Capture(_) => 2,
+            ReadingFault::TooLong | ReadingFault::Output(_) => 1,
+        }
+    }
+}
+
+impl From<CaptureFault> for ReadingFault {
+    ghost use Rattle.lispd_cli.specs.declared.fault.ReadingFault.TheVariants.{Capture};
+
+    ghost from_gives = { λ why fault. fault ≡ Capture why };
+
+    fn from(why: CaptureFault) -> ReadingFault {
+        ReadingFault::Capture(why)
+    }
+}
+
+impl From<WriteFault> for ReadingFault {
+    ghost use Rattle.lispd_cli.specs.declared.fault.ReadingFault.TheVariants.{Output};
+
+    ghost from_gives = { λ why fault. fault ≡ Output why };
+
+    fn from(why: WriteFault) -> ReadingFault {
+        ReadingFault::Output(why)
+    }
+}
+
 /// What ends the program.
-#[derive(Clone, Copy, Debug, PartialEq, Eq, Error)]
+#[derive(Clone, Copy, Debug, Error)]
 pub enum ProgramFault {
     /// A word of the command line is not UTF-8.
     #[error("a word of the command line is not UTF-8")]
     Words,
+    /// The words of a subcommand are wrong.
+    #[error(transparent)]
+    Misused(Misuse),
     /// The options give no setup.
     #[error(transparent)]
     Setup(SetupFault),
@@ -76,36 +182,6 @@ pub enum ProgramFault {
     /// The schedule was not played to its end, or the configuration is faulty.
     #[error(transparent)]
     Play(PlayFault),
-    /// `--turns` has another form than it takes.
-    #[error("--turns takes a whole number from 0 to 4294967295")]
-    Turns,
-    /// `--known` comes with `--turns`.
-    #[error("--known isn't taken with --turns")]
-    Known,
-    /// `--json` comes with `--turns`.
-    #[error("--json isn't taken with --turns")]
-    Json,
-    /// `--group` has another form than it takes.
-    #[error("--group takes a whole number from 1 to 64")]
-    Group,
-    /// `--group` comes without `--database`.
-    #[error("--group is taken only with --database")]
-    GroupOfFiles,
-    /// `--quiet` has another form than it takes.
-    #[error("--quiet takes a whole number from 0 to 3600, in seconds")]
-    Quiet,
-    /// `--budget` has another form than it takes.
-    #[error("--budget takes a whole number from 1024 to 262144, in bytes")]
-    Budget,
-    /// `--remove` comes without a list.
-    #[error("--remove is taken only with LIST")]
-    NoList,
-    /// By how much `raise` is to raise has another form than it takes.
-    #[error("N takes a whole number from 1 to 4294967295")]
-    By,
-    /// `--json` comes with `--prometheus`.
-    #[error("--json isn't taken with --prometheus")]
-    TwoForms,
     /// A node or network on sockets and files ended before its end.
     #[error("the program stopped")]
     Run(RunFault),
@@ -118,9 +194,6 @@ pub enum ProgramFault {
     /// The node doesn't do what it was told, for a refusal or a fault with this number; nothing was sent, or its answer was printed.
     #[error("the node doesn't do it")]
     Refused(u16),
-    /// A word of `look` has another form than it takes.
-    #[error(transparent)]
-    Question(QuestionFault),
     /// No positive Map-Reply came.
     #[error(transparent)]
     Look(LookFault),
@@ -133,24 +206,13 @@ pub enum ProgramFault {
 }
 
 impl ProgramFault {
-    /// The number that operators see: `Words`, `Turns`, `Known`, `Json`, `Group`, `GroupOfFiles`, `Quiet`, `Budget`, `NoList`, `By`,
-    /// `TwoForms` and `Question` 98, `File` 93, `Unanswered` 99, `Warnings` 25, or that of the fault or the refusal inside.
+    /// The number that operators see: `Words` and `Misused` 98, `File` 93, `Unanswered` 99, `Warnings` 25, or that of the fault or the
+    /// refusal inside.
     pub const fn number(&self) -> u16
         ensures { result ≡ program_fault_number self.now }
     {
         match self {
-            ProgramFault::Words
-            | ProgramFault::Turns
-            | ProgramFault::Known
-            | ProgramFault::Json
-            | ProgramFault::Group
-            | ProgramFault::GroupOfFiles
-            | ProgramFault::Quiet
-            | ProgramFault::Budget
-            | ProgramFault::NoList
-            | ProgramFault::TwoForms
-            | ProgramFault::By
-            | ProgramFault::Question(_) => 98,
+            ProgramFault::Words | ProgramFault::Misused(_) => 98,
             ProgramFault::Setup(fault) => fault.number(),
             ProgramFault::Answer(fault) => fault.number(),
             ProgramFault::File => 93,
@@ -165,25 +227,12 @@ impl ProgramFault {
         }
     }
 
-    /// The exit status: `Words`, `Turns`, `Known`, `Json`, `Group`, `GroupOfFiles`, `Quiet`, `Budget`, `NoList`, `By`, `TwoForms`,
-    /// `Question` and `Warnings` 2, `Refused` 3, `File` and `Unanswered` 1, or that of the fault inside.
+    /// The exit status: `Words`, `Misused` and `Warnings` 2, `Refused` 3, `File` and `Unanswered` 1, or that of the fault inside.
     pub fn status(&self) -> u8
         ensures { result ≡ program_fault_status self.now }
     {
         match self {
-            ProgramFault::Words
-            | ProgramFault::Turns
-            | ProgramFault::Known
-            | ProgramFault::Json
-            | ProgramFault::Group
-            | ProgramFault::GroupOfFiles
-            | ProgramFault::Quiet
-            | ProgramFault::Budget
-            | ProgramFault::NoList
-            | ProgramFault::TwoForms
-            | ProgramFault::By
-            | ProgramFault::Question(_)
-            | ProgramFault::Warnings => 2,
+            ProgramFault::Words | ProgramFault::Misused(_) | ProgramFault::Warnings => 2,
             ProgramFault::Setup(fault) => fault.status(),
             ProgramFault::Answer(fault) => fault.status(),
             ProgramFault::File | ProgramFault::Unanswered => 1,
@@ -208,13 +257,13 @@ impl ProgramFault {
     }
 }
 
-impl From<SetupFault> for ProgramFault {
-    ghost use Rattle.lispd_cli.specs.declared.fault.ProgramFault.TheVariants.{Setup};
+impl From<Misuse> for ProgramFault {
+    ghost use Rattle.lispd_cli.specs.declared.fault.ProgramFault.TheVariants.{Misused};
 
-    ghost from_gives = { λ why fault. fault ≡ Setup why };
+    ghost from_gives = { λ why fault. fault ≡ Misused why };
 
-    fn from(why: SetupFault) -> ProgramFault {
-        ProgramFault::Setup(why)
+    fn from(why: Misuse) -> ProgramFault {
+        ProgramFault::Misused(why)
     }
 }
 
@@ -246,26 +295,6 @@ impl From<PlayFault> for ProgramFault {
 
     fn from(why: PlayFault) -> ProgramFault {
         ProgramFault::Play(why)
-    }
-}
-
-impl From<ReadingFault> for ProgramFault {
-    ghost use Rattle.lispd_cli.specs.declared.fault.ProgramFault.TheVariants.{Reading};
-
-    ghost from_gives = { λ why fault. fault ≡ Reading why };
-
-    fn from(why: ReadingFault) -> ProgramFault {
-        ProgramFault::Reading(why)
-    }
-}
-
-impl From<RunFault> for ProgramFault {
-    ghost use Rattle.lispd_cli.specs.declared.fault.ProgramFault.TheVariants.{Run};
-
-    ghost from_gives = { λ why fault. fault ≡ Run why };
-
-    fn from(why: RunFault) -> ProgramFault {
-        ProgramFault::Run(why)
     }
 }
 

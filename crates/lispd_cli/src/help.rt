@@ -1,27 +1,35 @@
-//! The texts of the program's help.
+//! What the program takes, and its help.
 
-/// What the program does, for its help.
+/// What the program does.
 pub(crate) const ABOUT: &str =
     "Map-Server and site router (ETR) of LISP (RFC 9301); with no words, `answer`";
 
-/// What `answer` does, for its help.
-pub(crate) const ANSWER_ABOUT: &str =
-    "Answer one Map-Register, given as a line of hexadecimal digits on \
-standard input, as a fresh Map-Server with one site would: the Map-Notify in digits, `accepted` \
-where none is wanted, or `refused` with a number";
+/// The last argument of the program and of each subcommand, as a line of the table.
+pub(crate) const IN_WORDS: &str =
+    "[--words]  Tell a fault in words too where standard error is no terminal";
 
-/// An example of `answer`, for its help.
-pub(crate) const ANSWER_EXAMPLE: &str = "Example:
-  lispd answer --key 2 --secret 6e6577 --prefix 10.1.0.0/16 --more-specifics < map-register.hex";
+/// The subcommands, in the order of the help, with two empty lines between them: the name, two spaces and what it does; a line for each
+/// argument; an empty line, and what stands below its help. A line of an argument is how a usage has it, two spaces, and what its help
+/// says, which is left out where the table says it before: `NAME` is a word, `[NAME]` one that may be left out, `[NAME]..` any number of
+/// words, `--name LETTERS` an option with a value, `[--name LETTERS]` one that may be left out, and `[--name]` a switch.
+pub(crate) const TABLE: &str =
+    "answer  Answer one Map-Register, given as a line of hexadecimal digits on standard input, as a fresh Map-Server with one site would: \
+the Map-Notify in digits, `accepted` where none is wanted, or `refused` with a number
+[--site H]  Site-ID: 16 hexadecimal digits, such as 0000000000000001 (the default)
+[--key N]  Key ID: a decimal number from 0 to 255, such as 1 (the default)
+[--secret H]  Secret of that key: 1 to 256 bytes in hexadecimal digits, such as 736563726574 (the default)
+[--prefix P]  EID-Prefix that routers may register: four numbers with dots, such as 10.1.0.0/16 (the default), or eight groups with \
+colons and no `::`, such as 2001:db8:0:0:0:0:0:0/32
+[--more-specifics]  Allow EID-Prefixes inside that prefix too (more-specifics)
 
-/// What `play` does, for its help.
-pub(crate) const PLAY_ABOUT: &str =
-    "Play a schedule over a network of Map-Servers and routers in memory, and print what each event \
-comes to, a line for each";
+Example:
+  lispd answer --key 2 --secret 6e6577 --prefix 10.1.0.0/16 --more-specifics < map-register.hex
 
-/// The form of its file, for its help.
-pub(crate) const PLAY_FORM: &str =
-    "The file is a configuration in TOML, a line `---`, and a script with a command on each line:
+
+play  Play a schedule over a network of Map-Servers and routers in memory, and print what each event comes to, a line for each
+FILE  The schedule; `-` for standard input
+
+The file is a configuration in TOML, a line `---`, and a script with a command on each line:
   change ROUTER RECORD ..        the router's database is these records, or `empty`
   send ROUTER SERVER [part PART] the router sends a Map-Register of that part of its database, of part 0 where none is named
   deliver NUMBER                 the datagram arrives, perhaps once more
@@ -41,15 +49,14 @@ pub(crate) const PLAY_FORM: &str =
 store fails.
 
 Example:
-  lispd play examples/schedules/01-exchange.schedule";
+  lispd play examples/schedules/01-exchange.schedule
 
-/// What `draw` does, for its help.
-pub(crate) const DRAW_ABOUT: &str =
-    "Play a schedule, as `play` does, and draw what happens at each node and under way: as an image (SVG), or as text for a terminal";
 
-/// How its picture is read, for its help.
-pub(crate) const DRAW_FORM: &str =
-    "The title is the first line of the file that begins with `#`. Each node that something happens to has a line, and time runs
+draw  Play a schedule, as `play` does, and draw what happens at each node and under way: as an image (SVG), or as text for a terminal
+FILE
+[--text]  As lines of text, of at most 100 characters of ASCII
+
+The title is the first line of the file that begins with `#`. Each node that something happens to has a line, and time runs
 down. An arrow is a datagram, from where it was sent to where it arrives; one that arrives again has an arrow again; a stub never
 arrives. A dot is an event, a cross a refusal, a ring around either a store that was armed to fail; where a line is broken the node
 started again. A bar at the left is a command that the network doesn't take. Of a long answer nine lines are shown. Above 600
@@ -60,51 +67,74 @@ start, `#` a question, and `x` the end of a datagram that never arrives.
 
 Examples:
   lispd draw examples/schedules/02-replay.schedule > picture.svg
-  lispd draw --text examples/schedules/02-replay.schedule";
+  lispd draw --text examples/schedules/02-replay.schedule
 
-/// What `server` does, for its help.
-pub(crate) const SERVER_ABOUT: &str =
-    "Run a Map-Server of a configuration at its address, UDP port 4342, and print what each datagram \
-comes to, a line for each; it answers Map-Requests where its entry there has `resolve`";
 
-/// What `router` does, for its help.
-pub(crate) const ROUTER_ABOUT: &str =
-    "Run a site router (ETR) of a configuration at its address, UDP port 4342: it sends Map-Registers \
-when they are due, answers Map-Requests where its entry there has `resolve`, and prints a line for each event";
+server  Run a Map-Server of a configuration at its address, UDP port 4342, and print what each datagram comes to, a line for each; it \
+answers Map-Requests where its entry there has `resolve`
+CONFIG  The configuration, TOML
+NAME  The node's name there
+--store DIR  The folder of the nonces, made if it isn't there; each node has a folder of its name in it
+[--database]  Keep the nonces of each node in a SQLite database there, nonces.db, which takes over those in files; left out, they are \
+in files
+[--group N]  How many datagrams that wait it takes in a turn at most, whose nonces are saved with one sync, from 1 (the default) to \
+64; only with --database
+[--quiet SECONDS]  For how long after its start it sends no negative Map-Reply, since its routers may not have registered again yet, \
+from 0 to 3600; left out, 60
+[--budget BYTES]  How many bytes a second it sends for Map-Requests to each destination at most, from 1024 to 262144; left out, 4096. \
+A Map-Reply of more is never sent
+[--turns N]  How many turns it takes, each of which waits at most 100 ms for a datagram, from 0 to 4294967295; left out, it runs until \
+it is killed
+[--known]  Don't start where the store keeps no nonces; not with --turns
+[--json]  Print each line as a JSON object, with the time and a severity; not with --turns
+[--control DIR]  The folder of the socket at which the node is asked and told, which has to be there: who may write it may do so; left \
+out, the node's own folder
 
-/// How long a node runs, for its help.
-pub(crate) const NODE_RUNS: &str =
-    "Nonces are saved before their messages are sent or answered, so a node may be killed at any time \
-(SIGINT and SIGTERM end it at once).
-
-Example:
-  lispd router examples/configuration.toml r1 --store nonces --turns 10";
-
-/// How long a Map-Server runs, what it saves together and when it is quiet, for its help.
-pub(crate) const SERVER_GROUPS: &str =
-    "Nonces are saved before their messages are answered, so it may be killed at any time (SIGINT and SIGTERM end it at once).
+Nonces are saved before their messages are answered, so it may be killed at any time (SIGINT and SIGTERM end it at once).
 
 With --quiet 0 it tells an ITR that nobody is there from the first second on, also of what its routers have yet to register again.
 
 Examples:
   lispd server examples/configuration.toml s1 --store nonces --database --group 64
-  lispd server examples/configuration.toml s1 --store nonces --quiet 120";
+  lispd server examples/configuration.toml s1 --store nonces --quiet 120
 
-/// What `loop` does, for its help.
-pub(crate) const LOOP_ABOUT: &str =
-    "Play a script over a network of a configuration whose datagrams go over UDP, and whose nodes keep \
-their nonces in files, or in databases";
 
-/// What a delivery is there, for its help.
-pub(crate) const LOOP_FORM: &str =
-    "The script is as in `lispd play --help`, in a file of its own. `deliver NUMBER` takes the next datagram that \
-comes to where that datagram was sent, and prints `lost NUMBER` where it is another or none comes in a second.";
+router  Run a site router (ETR) of a configuration at its address, UDP port 4342: it sends Map-Registers when they are due, answers \
+Map-Requests where its entry there has `resolve`, and prints a line for each event
+CONFIG
+NAME
+--store DIR
+[--database]
+[--budget BYTES]
+[--turns N]
+[--known]
+[--json]
+[--control DIR]
 
-/// What `ask` does, for its help.
-pub(crate) const ASK_ABOUT: &str = "Ask a Map-Server or router that runs, and print its answer";
+Nonces are saved before their messages are sent or answered, so a node may be killed at any time (SIGINT and SIGTERM end it at once).
 
-/// What a node is asked, for its help.
-pub(crate) const ASK_FORM: &str = "A Map-Server is asked:
+Example:
+  lispd router examples/configuration.toml r1 --store nonces --turns 10
+
+
+loop  Play a script over a network of a configuration whose datagrams go over UDP, and whose nodes keep their nonces in files, or in \
+databases
+CONFIG
+FILE  The script
+--store DIR
+[--database]
+
+The script is as in `lispd play --help`, in a file of its own. `deliver NUMBER` takes the next datagram that comes to where that \
+datagram was sent, and prints `lost NUMBER` where it is another or none comes in a second.
+
+
+ask  Ask a Map-Server or router that runs, and print its answer
+FOLDER  The folder of the node's nonces, DIR/NAME
+[WORD]..  The words, without the node's name
+[--prometheus]  Print what `counts` tells in the text format of Prometheus
+[--json]  Print each line as a JSON object
+
+A Map-Server is asked:
   hold          which rows it holds
   ask ADDRESS   who answers for the address
   routers       which routers it heard since its start, and when
@@ -119,14 +149,16 @@ and both:
   counts        how many lines of each kind it printed since its start; its rows, sites and notices, or its records; its Map-Requests
 
 Example:
-  lispd ask nonces/s1 hold";
+  lispd ask nonces/s1 hold
 
-/// What `tell` does, for its help.
-pub(crate) const TELL_ABOUT: &str =
-    "Tell a Map-Server or router that runs what to do, and print what it comes to";
 
-/// What a node is told, for its help.
-pub(crate) const TELL_FORM: &str = "A Map-Server is told:
+tell  Tell a Map-Server or router that runs what to do, and print what it comes to
+FOLDER
+[WORD]..
+[--force]  Send `change` also where the router's site doesn't allow a record
+[--strict]  Don't send `reload` where the configuration has a warning
+
+A Map-Server is told:
   notice ROUTER       to send the router an unsolicited Map-Notify of what it holds of it
   reload CONFIG       to take the sites of the file from now on, without a restart
 and a router:
@@ -146,31 +178,34 @@ with, nothing is told (142). A router isn't told: restart it. Its nonces are kep
 
 Examples:
   lispd tell nonces/s1 notice r1
-  lispd tell nonces/s1 reload lispd.toml --strict";
+  lispd tell nonces/s1 reload lispd.toml --strict
 
-/// What `look` does, for its help.
-pub(crate) const LOOK_ABOUT: &str =
-    "Ask a Map-Server who answers for an address or an EID-Prefix, by a Map-Request as an ITR sends it, and print the Map-Reply";
 
-/// What it prints, for its help.
-pub(crate) const LOOK_FORM: &str =
-    "It prints from whom the Map-Reply comes, and after how many milliseconds: the Map-Server, or a router to which it forwards. Then a
+look  Ask a Map-Server who answers for an address or an EID-Prefix, by a Map-Request as an ITR sends it, and print the Map-Reply
+EID  The address, or the EID-Prefix
+--server ADDRESS  The Map-Server, at UDP port 4342
+[--from ADDRESS]  The ITR-RLOC to which the Map-Reply goes, an address of this machine; left out, that from which the Map-Server is reached
+[--tries N]  How often it asks at most, a second each time, from 1 to 100; left out, 3
+
+It prints from whom the Map-Reply comes, and after how many milliseconds: the Map-Server, or a router to which it forwards. Then a
 line for each record: `record` with its locators, or `negative` with what an ITR does with packets. The Map-Server has to reply to the
 ITR-RLOC.
 
 The status is 0 where the longest record that covers what was asked for has locators, 4 where it has none, and 1 where no Map-Reply comes.
 
 Example:
-  lispd look 10.1.2.3 --server 192.0.2.1";
+  lispd look 10.1.2.3 --server 192.0.2.1
 
-/// What `forget` does, for its help.
-pub(crate) const FORGET_ABOUT: &str =
-    "Print which nonces a Map-Server that doesn't run keeps of routers, a line for each, or which of those of a list it keeps still, \
-whose routers weren't heard since; with --remove, remove these";
 
-/// How it is used, and what it risks, for its help.
-pub(crate) const FORGET_RISKS: &str =
-    "Each line is `kept SITE XTR key K nonce N`, and `forgotten ..` of a nonce that was removed, once that is synced. Each Map-Register
+forget  Print which nonces a Map-Server that doesn't run keeps of routers, a line for each, or which of those of a list it keeps \
+still, whose routers weren't heard since; with --remove, remove these
+NAME  The Map-Server's name, that of its folder
+[LIST]  A file that it printed before
+--store DIR  The folder of the nonces, in which the Map-Server has a folder of its name
+[--database]  The nonces are in a SQLite database there, nonces.db
+[--remove]  Remove those of LIST that are still kept
+
+Each line is `kept SITE XTR key K nonce N`, and `forgotten ..` of a nonce that was removed, once that is synced. Each Map-Register
 that is accepted raises the nonce: one that is the same in a list from a month ago, and now, is of a router that wasn't heard under
 that key for a month. Cross out what is to stay, or put `#` before it; blank lines are skipped, and any other line is fault 141.
 
@@ -182,15 +217,16 @@ The Map-Server has to be stopped. No configuration is read. Nonces that a router
 Example:
   lispd forget s1 --store nonces > june.txt
   lispd forget s1 --store nonces june.txt > unheard.txt
-  lispd forget s1 --store nonces --remove unheard.txt";
+  lispd forget s1 --store nonces --remove unheard.txt
 
-/// What `raise` does, for its help.
-pub(crate) const RAISE_ABOUT: &str =
-    "Raise by N each nonce that a stopped Map-Server or router keeps, so that an old copy of its store can be put back";
 
-/// What it needs, for its help.
-pub(crate) const RAISE_NEEDS: &str =
-    "A Map-Server that lost its disk gets an old copy of its folder. N has to be at least as much as any nonce can have risen since the
+raise  Raise by N each nonce that a stopped Map-Server or router keeps, so that an old copy of its store can be put back
+NAME  The node's name, that of its folder
+N  By how much, from 1 to 4294967295
+--store DIR  The folder of the nonces, in which the node has a folder of its name
+[--database]  The nonces are in a SQLite database there, nonces.db
+
+A Map-Server that lost its disk gets an old copy of its folder. N has to be at least as much as any nonce can have risen since the
 copy was made: that of a router by 86400 a day for each part and Map-Server where it sends one a second, and by its nonce_block at each
 start. Then no Map-Register that was accepted since is accepted again, if the copy has a nonce of its router and key: a router or a key
 that came later needs a new key.
@@ -202,15 +238,15 @@ When all are saved it prints `raised KIND SITE XTR key K nonce N` for each. If i
 raise it again. The node has to be stopped. No configuration is read.
 
 Example:
-  lispd raise s1 604800 --store nonces";
+  lispd raise s1 604800 --store nonces
 
-/// What `check-store` does, for its help.
-pub(crate) const CHECK_STORE_ABOUT: &str =
-    "Read all that a Map-Server or a router keeps, which doesn't run, and print each nonce and each file that is damaged";
 
-/// What it prints, for its help.
-pub(crate) const CHECK_STORE_FORM: &str =
-    "It prints `found KIND SITE XTR key K nonce N` for each nonce, `damaged FILE WHY` for each file of which no nonce can be read, and
+check-store  Read all that a Map-Server or a router keeps, which doesn't run, and print each nonce and each file that is damaged
+NAME  The node's name, that of its folder
+--store DIR  The folder of the nonces, in which the node has a folder of its name
+[--database]  The nonces are in a SQLite database there, nonces.db
+
+It prints `found KIND SITE XTR key K nonce N` for each nonce, `damaged FILE WHY` for each file of which no nonce can be read, and
 `store NAME nonces N damaged M`. WHY is `content` where the file has other bytes than a nonce, `no-file` of a folder, a link and the
 like, `denied` where it may not be read, and `unread` where the disk doesn't give it. Where a file is damaged the status is 1 (93).
 
@@ -220,33 +256,34 @@ database that is damaged is fault 93, and nothing is printed.
 Nothing is changed there. The node has to be stopped. No configuration is read.
 
 Example:
-  lispd check-store s1 --store nonces";
+  lispd check-store s1 --store nonces
 
-/// What `check` does, for its help.
-pub(crate) const CHECK_ABOUT: &str =
-    "Read a configuration, and print what was understood: a line for each site, Map-Server and router, then its warnings";
 
-/// What warnings are, for its help.
-pub(crate) const CHECK_WARNS: &str =
-    "A line `warning: ..` says what may not be meant, as an unknown key, a short secret or a record that no Map-Server takes. At a \
-fault nothing is printed, and standard error names its entry, with its line and its value; then further faults, at most 20. A table \
-that no configuration has is fault 25.
+check  Read a configuration, and print what was understood: a line for each site, Map-Server and router, then its warnings
+CONFIG  The configuration, TOML; `-` for standard input
+[--strict]  End with status 2 where a warning is printed
+[--against FOLDER]  Print also what `lispd tell FOLDER reload CONFIG` would do to the Map-Server that runs over that folder, which \
+changes nothing there
+
+A line `warning: ..` says what may not be meant, as an unknown key, a short secret or a record that no Map-Server takes. At a fault \
+nothing is printed, and standard error names its entry, with its line and its value; then further faults, at most 20. A table that no \
+configuration has is fault 25.
 
 With --against it asks the Map-Server that runs over the folder what `lispd tell FOLDER reload CONFIG` would do, which has to have the
 same nodes (142): `compared NAME sites N kept`, or `restarted` where its rows would leave; `comes SITE` and `goes SITE` for each site
 that is new, or is no more there; and `leaves ..` for each row that would leave.
 
 Example:
-  lispd check lispd.toml --against nonces/s1";
+  lispd check lispd.toml --against nonces/s1
 
-/// What `read` does, for its help.
-pub(crate) const READ_ABOUT: &str =
-    "Explain a capture: a line for each LISP control message in it, with whether its tag checks under the secrets of CONFIG; or, with \
---schedule, a schedule for `play` in which the nodes of CONFIG get them again";
 
-/// What it prints, for its help.
-pub(crate) const READ_FORM: &str =
-    "The capture is of pcap or pcapng, of Ethernet, IP alone or Linux cooked capture, and has at most 1,073,741,824 bytes. Each packet of UDP
+read  Explain a capture: a line for each LISP control message in it, with whether its tag checks under the secrets of CONFIG; or, with \
+--schedule, a schedule for `play` in which the nodes of CONFIG get them again
+FILE  The capture, of pcap or pcapng; `-` for standard input
+[CONFIG]  The configuration whose secrets are tried, TOML; left out, no tag is known
+[--schedule]  Print it as a schedule for CONFIG
+
+The capture is of pcap or pcapng, of Ethernet, IP alone or Linux cooked capture, and has at most 1,073,741,824 bytes. Each packet of UDP
 to or from port 4342 is a line: its number, its seconds since the first packet, from whom to whom, and the message:
   map-register site SITE xtr XTR key K nonce N [proxy] [use-ttl] [want-notify] tag .. records N RECORD ..
   map-notify key K nonce N tag .. records N RECORD ..
@@ -269,16 +306,14 @@ takes at most 1,048,576 bytes.
 Examples:
   tcpdump -i any -w lisp.pcap udp port 4342
   lispd read lisp.pcap lispd.toml
-  lispd read lisp.pcap lispd.toml --schedule | lispd play -";
+  lispd read lisp.pcap lispd.toml --schedule | lispd play -
 
-/// What `explain` does, for its help.
-pub(crate) const EXPLAIN_ABOUT: &str =
-    "Explain the numbers of a line that a node printed, or one number: what each means, and what to do about it; all \
-numbers, where none is given";
 
-/// Words of a line, for its help.
-pub(crate) const LINE_EXAMPLE: &str =
-    "The line may be whole, also with what a log puts in front of it, or begin with its number. A fault that it carries is explained
+explain  Explain the numbers of a line that a node printed, or one number: what each means, and what to do about it; all numbers, \
+where none is given
+[N]..  The number, such as 57, or the line that has it, whole or from its number on
+
+The line may be whole, also with what a log puts in front of it, or begin with its number. A fault that it carries is explained
 too, as 30 in the examples. What is no such line is fault 98.
 
 Examples:
@@ -286,3 +321,14 @@ Examples:
   lispd explain 56 store 30
   lispd explain refused s1 59 store 30 StorageFull from 192.0.2.11
   lispd explain 'Nov 29 03:23:24 host lispd[812]: lispd: fault 93'";
+
+/// What the help says of an argument, by how a usage has it: what the table says first.
+pub(crate) fn help_of(usage: &str) -> &'static str {
+    for line in TABLE.split('\n') {
+        match line.split_once("  ") {
+            Some((other, help)) if other == usage => return help,
+            _ => {}
+        }
+    }
+    ""
+}

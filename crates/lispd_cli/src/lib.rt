@@ -17,22 +17,17 @@
 //!   200 bytes.
 #![tactic(auto)]
 
-mod advice;
-mod argument;
+mod answers;
 mod asking;
 mod capture;
-mod capture_fault;
-mod capture_text;
-mod capture_words;
 mod check;
 mod command_line;
+mod config_text;
 mod explanation;
 mod failure;
 mod fault;
+mod findings;
 mod help;
-mod line_words;
-mod objects;
-mod option;
 mod options;
 mod parts;
 mod printed_line;
@@ -45,17 +40,12 @@ mod subcommands;
 mod words;
 
 pub use asking::{Errand, ask_node};
-pub use capture_fault::ReadingFault;
 pub use check::check_config;
-pub use command_line::{
-    AGAINST, BUDGET, CONFIG, CONTROL, DATABASE, FILE, FOLDER, GROUP, KNOWN, LIST, NAME, NUMBER,
-    QUESTION, QUIET, REMOVE, STORE, STRICT, TEXT, TURNS, WORDS, command,
-};
+pub use command_line::{CONFIG, DATABASE, FILE, NAME, STORE, TEXT, command};
 pub use failure::Failure;
-pub use fault::{ProgramFault, SetupFault};
-pub use option::AnswerOption;
-pub use options::setup;
-pub use question::{QuestionFault, look_up};
+pub use fault::{Misuse, ProgramFault, ReadingFault, SetupFault};
+pub use options::{AnswerOption, setup};
+pub use question::look_up;
 pub use reporting::{InWords, report};
 pub use subcommands::run_alone;
 pub use words::{

@@ -3,17 +3,62 @@
 ghost use Rattle.std.specs.Prelude.{◌≡◌, IsErrOf};
 ghost use Rattle.std.specs.Option.{option_map};
 ghost use Rattle.lisp_records.specs.Result.{Reads};
-ghost use Rattle.lispd_cli.specs.Options.{Gives, option_text, site_in, key_in, secret_in, prefix_in, flag_of, ReachesSecret, setup_of};
+ghost use Rattle.lispd_cli.specs.Options.{Gives, option_name, option_text, site_in, key_in, secret_in, prefix_in, flag_of, ReachesSecret, setup_of};
 ghost use Rattle.lispd_cli.specs.declared.fault.SetupFault.{SetupFault};
 
 use crate::fault::SetupFault;
-use crate::option::AnswerOption;
+use crate::help::help_of;
 use crate::words;
 use clap::ArgMatches;
 use lisp_answer::{AnswerSetup, DEFAULT_KEY, DEFAULT_SECRET, DEFAULT_SITE, default_prefix};
 use lisp_memory::{FallibleCopies, Memory};
 use lisp_records::{Bytes, Prefix};
 use lisp_texts::{number_from_text, prefix_from_text, secret_from_text, site_id_from_text};
+use std::fmt::{self, Display, Formatter, Write};
+
+/// An option of `answer` that has a value.
+#[derive(Clone, Copy, Debug, PartialEq, Eq)]
+pub enum AnswerOption {
+    /// `--site`: the Site-ID of the one site.
+    Site,
+    /// `--key`: the Key ID of its one key.
+    Key,
+    /// `--secret`: the secret of that key.
+    Secret,
+    /// `--prefix`: the EID-Prefix that its routers may register.
+    Prefix,
+}
+
+impl AnswerOption {
+    /// The option's name, without the two dashes.
+    pub const fn name<'a>(self) -> &'a str
+        ensures { result.now ≡ option_name self }
+    {
+        match self {
+            AnswerOption::Site => "site",
+            AnswerOption::Key => "key",
+            AnswerOption::Secret => "secret",
+            AnswerOption::Prefix => "prefix",
+        }
+    }
+
+    // How a usage has it.
+    const fn usage<'a>(self) -> &'a str {
+        match self {
+            AnswerOption::Site => "[--site H]",
+            AnswerOption::Key => "[--key N]",
+            AnswerOption::Secret => "[--secret H]",
+            AnswerOption::Prefix => "[--prefix P]",
+        }
+    }
+}
+
+impl Display for AnswerOption {
+    fn fmt<W: Write>(&self, formatter: &mut Formatter<W>) -> fmt::Result {
+        let (name, help) = (self.name(), help_of(self.usage()));
+        write!(formatter, "bad value for --{name}. {help}")
+    }
+}
 
 /// The setup that the options ask for, in memory of `alloc`: `--site` 16 hexadecimal digits, `--key`
 /// a decimal number 0 to 255, `--secret` hexadecimal text of 1 to 256 bytes, `--prefix` a prefix as

@@ -3,7 +3,7 @@
 ghost use Rattle.std.specs.Prelude.{◌≡◌, [], ◌∷◌, map, IfOk};
 ghost use Rattle.std.specs.List.{flat_map};
 ghost use Rattle.std.specs.String.{string_bytes};
-ghost use Rattle.lispd_cli.specs.Parts.{AreParts, is_same, sites_of_part};
+ghost use Rattle.lispd_cli.specs.Reloading.{AreParts, is_same, sites_of_part};
 
 use lisp_memory::{FallibleString, FallibleVec};
 use lisp_policy::Sites;

@@ -2,7 +2,8 @@
 
 ghost use Rattle.std.specs.Prelude.{◌≡◌, ◌∷◌, [], true, drop, IfOk, OnErr, Some};
 ghost use Rattle.std.specs.Option.{option_map, option_to_list};
-ghost use Rattle.lispd_cli.specs.PrintedLine.{texts, is_among, verbs, fault_of, is_source, is_kind, none_if, told_by, carried_by, numbered, of_verb, whole, from_verb, with_carried, numbers_of, both, read_as, name_of};
+ghost use Rattle.lisp_script.specs.Words.{texts};
+ghost use Rattle.lispd_cli.specs.PrintedLine.{is_among, verbs, fault_of, is_source, is_kind, none_if, told_by, carried_by, numbered, of_verb, whole, from_verb, with_carried, numbers_of, both, read_as, name_of};
 
 use lisp_memory::{FallibleVec, Memory};
 use lisp_texts::{addr_from_text, number_from_text};

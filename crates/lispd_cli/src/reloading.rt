@@ -3,13 +3,13 @@
 ghost use Rattle.std.specs.Prelude.{◌≡◌, true, false, OnOk};
 ghost use Rattle.std.specs.Io.KnownBytes.{Appends};
 ghost use Rattle.std.specs.Option.{option_map};
-ghost use Rattle.lispd_cli.specs.PrintedLine.{texts};
+ghost use Rattle.lisp_script.specs.Words.{texts};
 ghost use Rattle.lispd_cli.specs.Reloading.{config_in, compared_nodes, sites_message, is_gathered, restarts, is_row, leaving};
 
-use crate::asking::{
-    Errand, PATIENCE, answer, bad_line, behind_word, control_path, fault_in, first_line,
-    first_word, print_answer, refusal_words, third_word,
+use crate::answers::{
+    bad_line, behind_word, fault_in, first_line, first_word, print_answer, third_word,
 };
+use crate::asking::{Errand, answer, connect, control_path, refusal_words};
 use crate::check::{Checked, accept, read_checked, tell_warnings};
 use crate::command_line::{FOLDER, QUESTION, STRICT};
 use crate::failure::Failure;
@@ -26,9 +26,7 @@ use lisp_sites::Config;
 use std::alloc::Global;
 use std::io::{self, BufRead, BufReader, Read, Write};
 use std::net::Net;
-use std::os::unix::net::UnixStream;
 use std::rt::Files;
-use std::time::Duration;
 
 /// The number of a configuration whose nodes changed.
 const OTHER_NODES: u16 = 142;
@@ -198,18 +196,30 @@ fn connect_and_send<R: Files + Net + AllocGlobal>(
     parts: &[String],
     line: &str,
 ) -> io::Result<String> {
-    let mut stream = UnixStream::connect(rt, path)?;
-    stream.set_read_timeout(Some(Duration::from_secs(PATIENCE)))?;
-    stream.set_write_timeout(Some(Duration::from_secs(PATIENCE)))?;
+    let mut stream = connect(rt, path)?;
     let mut reader = BufReader::new(rt.alloc(), stream.try_clone()?)?;
-    for part in parts {
-        send_sites(part.as_str(), &mut stream)?;
-        if let Some(refusal) = read_refusal(rt.alloc(), &mut reader)? {
-            return Ok(refusal);
-        }
+    if let Some(refusal) = send_parts(rt.alloc(), parts, &mut stream, &mut reader)? {
+        return Ok(refusal);
     }
     writeln!(stream, "{line}")?;
     io::read_to_string(rt.alloc(), reader)
+}
+
+// Sends the parts one after another, until one isn't gathered; what is answered to that.
+fn send_parts<W: Write, R: BufRead>(
+    alloc: Global,
+    parts: &[String],
+    writer: &mut W,
+    reader: &mut R,
+) -> io::Result<Option<String>> {
+    for part in parts {
+        send_sites(part.as_str(), writer)?;
+        let refusal = read_refusal(alloc, reader)?;
+        if refusal.is_some() {
+            return Ok(refusal);
+        }
+    }
+    Ok(None)
 }
 
 fn send_sites<W: Write>(sites: &str, writer: &mut W) -> io::Result<()>

@@ -2,7 +2,7 @@
 
 use crate::capture::read_capture;
 use crate::check::{accept, print_findings, read_checked};
-use crate::command_line::{AGAINST, CHECK, CONFIG, NUMBER, READ, STRICT};
+use crate::command_line::{CHECK, CONFIG, NUMBER, READ, STRICT};
 use crate::explanation::explain_line;
 use crate::failure::Failure;
 use crate::fault::ProgramFault;
@@ -77,7 +77,7 @@ fn check<R: Input + Eprint + Files + Net + AllocGlobal, W: Write>(
     let checked = read_checked(rt, path)?;
     let has_warnings = print_findings(rt.alloc(), path, &checked, writer)?;
     accept(rt.alloc(), &checked, is_given(words, STRICT), has_warnings)?;
-    match words.get_str(AGAINST) {
+    match words.get_str("against") {
         Some(folder) => compare_sites(rt, folder, &checked, writer),
         None => Ok(()),
     }

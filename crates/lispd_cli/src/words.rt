@@ -1,30 +1,28 @@
 //! The words of the command line, as `clap` matched them.
 
 ghost use Rattle.std.specs.Prelude.{◌≡◌, ◌≢◌, ◌≤◌, true, codes, Some, None, IfOk, IfSome, OnErr};
-ghost use Rattle.lispd_cli.specs.Words.{word_in, is_given_in, option_in, turns_of, group_below, group_of, quiet_below, quiet_of, budget_below, budget_of, by_below, ReadsNode, ReadsForget, ReadsRaise};
+ghost use Rattle.std.specs.Option.{option_map};
+ghost use Rattle.lispd_cli.specs.Words.{word_in, is_given_in, option_in, turns_of, within, number_given, quiet_of, ReadsNode, ReadsForget, ReadsRaise};
 ghost use Rattle.lisp_texts.specs.Number.{number_of};
 
 use crate::command_line::{
-    BUDGET, CHECK, CONFIG, CONTROL, DATABASE, GROUP, JSON, KNOWN, LIST, NAME, NUMBER, QUESTION,
-    QUIET, RELOAD, REMOVE, STORE, TELL, TURNS, WORDS,
+    CHECK, CONFIG, DATABASE, GROUP, JSON, LIST, NAME, NUMBER, QUESTION, RELOAD, STORE, TELL, WORDS,
 };
-use crate::fault::ProgramFault;
+use crate::fault::Misuse;
 use clap::ArgMatches;
 use lisp_texts::number_from_text;
 
 /// The most datagrams that are committed together.
 const MOST_TOGETHER: u64 = 64;
 
-/// For how long a Map-Server is quiet where nobody says so, in ms.
-const QUIET_LEFT_OUT: u64 = 60_000;
+/// For how long a Map-Server is quiet where nobody says so, and the longest that it may be, in seconds.
+const QUIET_LEFT_OUT: u64 = 60;
 
-/// The longest that it may be, in seconds.
 const LONGEST_QUIET: u64 = 3_600;
 
-/// How many bytes a second go to each destination where nobody says so.
-const BUDGET_LEFT_OUT: u32 = 4_096;
+/// How many bytes a second go to each destination where nobody says so, the fewest and the most: all destinations together get no more.
+const BUDGET_LEFT_OUT: u64 = 4_096;
 
-/// The fewest and the most that they may be: all destinations together get no more.
 const LEAST_BUDGET: u64 = 1_024;
 
 const MOST_BUDGET: u64 = 262_144;
@@ -100,11 +98,11 @@ pub struct NodeWords<'a> {
     pub control: Option<&'a str>,
 }
 
-/// The words of `server` and `router`. Faults, all 98: `ProgramFault::Turns` where the turns have another form than they take,
-/// `ProgramFault::Known` where `--known` comes with them, `ProgramFault::Json` where `--json` does, `ProgramFault::Group` where the
-/// group has another form than it takes, `ProgramFault::GroupOfFiles` where `--group` comes without `--database`,
-/// `ProgramFault::Quiet` where `--quiet` has another form than it takes, `ProgramFault::Budget` where `--budget` has.
-pub fn node_words<'a>(words: &ArgMatches<'a>) -> Result<NodeWords<'a>, ProgramFault>
+/// The words of `server` and `router`. Faults, all 98: `Misuse::Turns` where the turns have another form than they take,
+/// `Misuse::Known` where `--known` comes with them, `Misuse::Json` where `--json` does, `Misuse::Group` where the
+/// group has another form than it takes, `Misuse::GroupOfFiles` where `--group` comes without `--database`,
+/// `Misuse::Quiet` where `--quiet` has another form than it takes, `Misuse::Budget` where `--budget` has.
+pub fn node_words<'a>(words: &ArgMatches<'a>) -> Result<NodeWords<'a>, Misuse>
     ensures words { IfOk result (ReadsNode words.now) }
     ensures known { IfOk result (λ w. w.is_known ≡ true → w.turns ≡ None) }
     ensures json { IfOk result (λ w. w.is_json ≡ true → w.turns ≡ None) }
@@ -115,13 +113,13 @@ pub fn node_words<'a>(words: &ArgMatches<'a>) -> Result<NodeWords<'a>, ProgramFa
     ensures budget { IfOk result (λ w. (1024 ≤ w.budget) × (w.budget ≤ 262144)) }
 {
     let turns = turns(words)?;
-    let is_known = is_given(words, KNOWN);
+    let is_known = is_given(words, "known");
     if is_known && turns.is_some() {
-        return Err(ProgramFault::Known);
+        return Err(Misuse::Known);
     }
     let is_json = is_given(words, JSON);
     if is_json && turns.is_some() {
-        return Err(ProgramFault::Json);
+        return Err(Misuse::Json);
     }
     let has_database = is_given(words, DATABASE);
     Ok(NodeWords {
@@ -135,7 +133,7 @@ pub fn node_words<'a>(words: &ArgMatches<'a>) -> Result<NodeWords<'a>, ProgramFa
         group: group(words, has_database)?,
         quiet: quiet(words)?,
         budget: budget(words)?,
-        control: words.get_str(CONTROL),
+        control: words.get_str("control"),
     })
 }
 
@@ -153,16 +151,16 @@ pub struct ForgetWords<'a> {
     pub removes: bool,
 }
 
-/// The words of `forget`. Fault: `ProgramFault::NoList`, 98, where `--remove` comes without a list.
-pub fn forget_words<'a>(words: &ArgMatches<'a>) -> Result<ForgetWords<'a>, ProgramFault>
+/// The words of `forget`. Fault: `Misuse::NoList`, 98, where `--remove` comes without a list.
+pub fn forget_words<'a>(words: &ArgMatches<'a>) -> Result<ForgetWords<'a>, Misuse>
     ensures words { IfOk result (ReadsForget words.now) }
     ensures listed { IfOk result (λ w. w.removes ≡ true → w.list ≢ None) }
     ensures fault { OnErr result (option_in words.now (codes "LIST") ≡ None) }
 {
     let list = words.get_str(LIST);
-    let removes = is_given(words, REMOVE);
+    let removes = is_given(words, "remove");
     if removes && list.is_none() {
-        return Err(ProgramFault::NoList);
+        return Err(Misuse::NoList);
     }
     Ok(ForgetWords {
         name: word(words, NAME),
@@ -185,114 +183,101 @@ pub struct RaiseWords<'a> {
     pub by: u32,
 }
 
-/// The words of `raise`. Fault: `ProgramFault::By`, 98, where N has another form than it takes.
-pub fn raise_words<'a>(words: &ArgMatches<'a>) -> Result<RaiseWords<'a>, ProgramFault>
+/// The words of `raise`. Fault: `Misuse::By`, 98, where N has another form than it takes.
+pub fn raise_words<'a>(words: &ArgMatches<'a>) -> Result<RaiseWords<'a>, Misuse>
     ensures words { IfOk result (ReadsRaise words.now) }
     ensures bounds { IfOk result (λ w. 1 ≤ w.by) }
-    ensures fault { OnErr result (by_below (number_of (word_in words.now (codes "N"))) ≡ None) }
+    ensures fault { OnErr result
+        (within 1 4294967295 (number_of (word_in words.now (codes "N"))) ≡ None) }
 {
-    let Some(by) = by_in(word(words, NUMBER)) else {
-        return Err(ProgramFault::By);
+    let Some(by) = number_within(word(words, NUMBER), 1, MOST_RAISED) else {
+        return Err(Misuse::By);
     };
     Ok(RaiseWords {
         name: word(words, NAME),
         dir: word(words, STORE),
         has_database: is_given(words, DATABASE),
-        by,
+        by: by as u32,
     })
 }
 
-fn by_in(text: &str) -> Option<u32>
-    ensures number { result ≡ by_below (number_of text.now) }
-    ensures bounds { IfSome result (λ by. 1 ≤ by) }
-{
-    match number_from_text(text) {
-        Some(by) if 1 <= by && by <= MOST_RAISED => Some(by as u32),
-        _ => None,
-    }
-}
-
 // How many turns a node takes; `None` where it runs until it is killed.
-fn turns(words: &ArgMatches<'_>) -> Result<Option<u32>, ProgramFault>
+fn turns(words: &ArgMatches<'_>) -> Result<Option<u32>, Misuse>
     ensures { IfOk result (λ turns. turns_of (option_in words.now (codes "turns")) ≡ Some turns) }
 {
-    let Some(text) = words.get_str(TURNS) else {
+    let Some(text) = words.get_str("turns") else {
         return Ok(None);
     };
     match number_from_text(text).map(u32::try_from) {
         Some(Ok(turns)) => Ok(Some(turns)),
-        _ => Err(ProgramFault::Turns),
+        _ => Err(Misuse::Turns),
     }
 }
 
 // How many datagrams a node takes in a turn at most. Faults: `Group`, `GroupOfFiles`.
-fn group(words: &ArgMatches<'_>, has_database: bool) -> Result<u8, ProgramFault>
+fn group(words: &ArgMatches<'_>, has_database: bool) -> Result<u8, Misuse>
     ensures number { IfOk result
-        (λ group. group_of (option_in words.now (codes "group")) ≡ Some group) }
+        (λ group. number_given 1 1 64 (option_in words.now (codes "group")) ≡ Some group) }
     ensures database { IfOk result (λ _. option_in words.now (codes "group") ≢ None
         → has_database ≡ true) }
     ensures bounds { IfOk result (λ group. (1 ≤ group) × (group ≤ 64)) }
 {
-    let Some(text) = words.get_str(GROUP) else {
-        return Ok(1);
+    let Some(group) = number_given(words.get_str(GROUP), 1, 1, MOST_TOGETHER) else {
+        return Err(Misuse::Group);
     };
-    let group = group_in(text).ok_or(ProgramFault::Group)?;
-    if !has_database {
-        return Err(ProgramFault::GroupOfFiles);
+    if words.get_str(GROUP).is_some() && !has_database {
+        return Err(Misuse::GroupOfFiles);
     }
-    Ok(group)
-}
-
-fn group_in(text: &str) -> Option<u8>
-    ensures number { result ≡ group_below (number_of text.now) }
-    ensures bounds { IfSome result (λ group. (1 ≤ group) × (group ≤ 64)) }
-{
-    match number_from_text(text) {
-        Some(group) if 1 <= group && group <= MOST_TOGETHER => Some(group as u8),
-        _ => None,
-    }
+    Ok(group as u8)
 }
 
 // For how long after its start a Map-Server sends no negative Map-Reply, in ms. Fault: `Quiet`.
-fn quiet(words: &ArgMatches<'_>) -> Result<u64, ProgramFault>
+fn quiet(words: &ArgMatches<'_>) -> Result<u64, Misuse>
     ensures number { IfOk result
         (λ quiet. quiet_of (option_in words.now (codes "quiet")) ≡ Some quiet) }
     ensures bounds { IfOk result (λ quiet. quiet ≤ 3600000) }
 {
-    match words.get_str(QUIET) {
-        Some(text) => quiet_in(text).ok_or(ProgramFault::Quiet),
-        None => Ok(QUIET_LEFT_OUT),
-    }
-}
-
-fn quiet_in(text: &str) -> Option<u64>
-    ensures number { result ≡ quiet_below (number_of text.now) }
-    ensures bounds { IfSome result (λ quiet. quiet ≤ 3600000) }
-{
-    match number_from_text(text) {
-        Some(seconds) if seconds <= LONGEST_QUIET => Some(seconds * 1_000),
-        _ => None,
+    match number_given(words.get_str("quiet"), QUIET_LEFT_OUT, 0, LONGEST_QUIET) {
+        Some(seconds) => Ok(seconds * 1_000),
+        None => Err(Misuse::Quiet),
     }
 }
 
 // How many bytes a second a node sends for Map-Requests to each destination, at most. Fault: `Budget`.
-fn budget(words: &ArgMatches<'_>) -> Result<u32, ProgramFault>
+fn budget(words: &ArgMatches<'_>) -> Result<u32, Misuse>
     ensures number { IfOk result
-        (λ budget. budget_of (option_in words.now (codes "budget")) ≡ Some budget) }
+        (λ budget. number_given 4096 1024 262144 (option_in words.now (codes "budget"))
+        ≡ Some budget) }
     ensures bounds { IfOk result (λ budget. (1024 ≤ budget) × (budget ≤ 262144)) }
 {
-    match words.get_str(BUDGET) {
-        Some(text) => budget_in(text).ok_or(ProgramFault::Budget),
-        None => Ok(BUDGET_LEFT_OUT),
+    let text = words.get_str("budget");
+    match number_given(text, BUDGET_LEFT_OUT, LEAST_BUDGET, MOST_BUDGET) {
+        Some(budget) => Ok(budget as u32),
+        None => Err(Misuse::Budget),
     }
 }
 
-fn budget_in(text: &str) -> Option<u32>
-    ensures number { result ≡ budget_below (number_of text.now) }
-    ensures bounds { IfSome result (λ budget. (1024 ≤ budget) × (budget ≤ 262144)) }
+/// The number that an option's value is, between two bounds; `None` where it has another form. Left out, the option has a number between
+/// them.
+pub(crate) fn number_given(text: Option<&str>, left_out: u64, least: u64, most: u64) -> Option<u64>
+    requires { (least ≤ left_out) × (left_out ≤ most) }
+    ensures number { result ≡ number_given left_out least most
+        (option_map (λ text. text.now) text.entry) }
+    ensures bounds { IfSome result (λ number. (least ≤ number) × (number ≤ most)) }
+{
+    match text {
+        Some(text) => number_within(text, least, most),
+        None => Some(left_out),
+    }
+}
+
+// A decimal number between two bounds.
+fn number_within(text: &str, least: u64, most: u64) -> Option<u64>
+    ensures number { result ≡ within least most (number_of text.now) }
+    ensures bounds { IfSome result (λ number. (least ≤ number) × (number ≤ most)) }
 {
     match number_from_text(text) {
-        Some(bytes) if LEAST_BUDGET <= bytes && bytes <= MOST_BUDGET => Some(bytes as u32),
+        Some(number) if least <= number && number <= most => Some(number),
         _ => None,
     }
 }

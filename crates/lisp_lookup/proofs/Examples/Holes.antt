@@ -41,7 +41,7 @@ kept : (of_site : PrefixValue) (addr : Addr) (eid : PrefixValue) → KeepsSites 
 kept of_site addr eid keeps = keeps 0 (record { id = 0; keys = []; prefixes = []; limits = no_limits }) (omega arith) 0 (record { eid = of_site; more_specifics = true }) (omega arith)
 
 -- no row is there
-in_none : {P : Type 0} → (h : RowValue) → Contains [] h → P
+pub in_none : {P : Type 0} → (h : RowValue) → Contains [] h → P
 in_none h (k, lt, is) = absurd (omega (arith, lt))
 
 -- between 10.0.0.0/24 and 10.0.2.0/24
@@ -53,7 +53,7 @@ between_alike = record {
   keeps = no_site (ipv4 10 0 1 1) (block 10 0 1 0 24);
 }
 
-between : IsHole gaps [] (ipv4 10 0 1 1) 0 (block 10 0 1 0 24)
+pub between : IsHole gaps [] (ipv4 10 0 1 1) 0 (block 10 0 1 0 24)
 unfolding masked all_below
 between = record {
   around = (omega arith, refl);
@@ -84,7 +84,7 @@ configured_gap = record {
 }
 
 -- no live row: all of the site's prefix, and no more; without a site all addresses, though a row is there that is dead
-of_all_the_site : IsHole [] (site (block 10 0 0 0 16)) (ipv4 10 0 1 1) 0 (block 10 0 0 0 16)
+pub of_all_the_site : IsHole [] (site (block 10 0 0 0 16)) (ipv4 10 0 1 1) 0 (block 10 0 0 0 16)
 unfolding masked all_below
 of_all_the_site = record {
   around = (omega arith, refl);

@@ -1,7 +1,7 @@
 -- Rows of the examples, and what holds of each element of a short list by a test.
 use Rattle.std.proofs.Common.{Bool, List, [], inl, inr, ap, arith, false, true, refl, suc, subst, sym, zero, ℕ, not, is_gt, true≢false, Greater, Less, Equal, Ordering, ◌&&◌, ◌<◌, ◌||◌, ◌∙◌, ◌∷◌, ◌≡◌, ◌≢◌, ◌⊎◌}
-use Rattle.std.specs.List.{AllByRecursion, Contains, list_all}
 use Rattle.std.proofs.lemmas.Bool.{and_from, and_parts}
+use Rattle.std.specs.List.{AllByRecursion, Contains, list_all}
 use Rattle.lisp_records.specs.Address.{PrefixValue, prefix_eq}
 use Rattle.lisp_records.specs.Record.{MapRecordValue}
 use Rattle.lisp_records.specs.Row.{RowValue, is_alive}

@@ -7,8 +7,8 @@ use Rattle.lisp_records.specs.Record.{MapRecordValue}
 use Rattle.lisp_replies.specs.declared.reply.Negative.{Negative}
 use Rattle.lisp_replies.specs.declared.reply.Reply.{Reply}
 use Rattle.lisp_replies.specs.declared.reply.Reply.TheVariants as replies
-use Rattle.lisp_resolve.specs.Asked.{AskedValue}
-use Rattle.lisp_resolve.specs.declared.replier.Replier.TheVariants.{Router}
+use Rattle.lisp_mapping.specs.Asked.{AskedValue}
+use Rattle.lisp_mapping.specs.declared.replier.Replier.TheVariants.{Router}
 use Rattle.lisp_mapping.specs.Handling.{outcome_of, probed}
 use Rattle.lisp_mapping.specs.declared.outcome.Outcome.TheVariants as outcomes
 

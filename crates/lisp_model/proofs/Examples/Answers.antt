@@ -1,22 +1,21 @@
 -- Who answers for an address: what is so, and what isn't.
-use Rattle.std.proofs.Common.{Bor, Some, [], ap, arith, false, inl, inr, refl, subst, suc, sym, true, true≢false, zero, ℕ, ◌∙◌, ◌∷◌, ◌≡◌, ◌≢◌, ◌⊎◌}
+use Rattle.std.proofs.Common.{[], Bor, Some, ap, arith, false, inl, inr, refl, subst, suc, sym, true, true≢false, zero, ℕ, ◌∙◌, ◌∷◌, ◌≡◌, ◌≢◌, ◌⊎◌}
 use Rattle.std.specs.List.{Contains}
 use Rattle.std.specs.declared.cmp.Ordering.TheVariants.{Equal, Greater, Less}
 use Rattle.lisp_records.specs.Address.{masked}
 use Rattle.lisp_records.specs.Record.{MapRecordValue}
 use Rattle.lisp_records.specs.Row.{RowValue}
 use Rattle.lisp_records.specs.declared.address.Addr.TheVariants.{V4}
+use Rattle.lisp_records.specs.Parts.{cut, cut_from}
+use Rattle.lisp_records.specs.Written.{written}
 use Rattle.lisp_lookup.specs.Answer.{IsBest, greater, may_answer, rank_cmp}
 use Rattle.lisp_lookup.specs.declared.answer.Answer.TheVariants.{Forward, NoSite, NotRegistered, Reply}
 use Rattle.lisp_model.specs.Answer.{IsAnswer}
 use Rattle.lisp_model.specs.Bag.{since_start}
 use Rattle.lisp_model.specs.Held.{rows}
 use Rattle.lisp_model.specs.Story.{local_at, mapping, one, one_taken, opening, two, wide}
-use Rattle.lisp_model.proofs.Examples.Samples.{row_of}
-use Rattle.lisp_model.proofs.Examples.Traces.{both_heard, row_of_one, row_of_two}
+use Rattle.lisp_model.proofs.Examples.Samples.{row_of, both_heard, row_of_one, row_of_two}
 use Rattle.lisp_model.proofs.ListLemmas.{at_head, head_or_tail, in_none}
-use Rattle.lisp_records.specs.Parts.{cut, cut_from}
-use Rattle.lisp_records.specs.Written.{written}
 
 -- who answers: no site has the address; a site has it, and nobody registered it
 empty_has : (h : RowValue) → Contains [] h → ⊥

@@ -1,6 +1,6 @@
 -- Traces, each of which breaks one promise. They are legal up to the step that breaks it, which is illegal; in four it is
 -- legal and unclean: `accepted_forged`, `accepted_from_elsewhere`, `held_forged` and `held_unequal`.
-use Rattle.std.proofs.Common.{Bool, List, None, Ok, Option, Some, [], ap, arith, false, inl, inr, refl, slice_index_or, subst, suc, sym, true, true≢false, zero, ℕ, ◌∙◌, ◌∷◌, ◌≡◌, ◌≢◌}
+use Rattle.std.proofs.Common.{[], Bool, List, None, Ok, Option, Some, ap, arith, false, inl, inr, refl, slice_index_or, subst, suc, sym, true, true≢false, zero, ℕ, ◌∙◌, ◌∷◌, ◌≡◌, ◌≢◌}
 use Rattle.std.specs.FinMap.{empty, insert}
 use Rattle.std.specs.List.{Contains, flat_map}
 use Rattle.std.specs.Option.{option_to_list}
@@ -10,10 +10,13 @@ use Rattle.lisp_records.specs.Row.{RowValue}
 use Rattle.lisp_records.specs.declared.address.Addr.{Addr}
 use Rattle.lisp_records.specs.declared.address.Addr.TheVariants.{V4, V6}
 use Rattle.lisp_records.specs.declared.router.RouterId.{RouterId}
+use Rattle.lisp_records.specs.Parts.{cut, cut_from}
+use Rattle.lisp_records.specs.Written.{written}
 use Rattle.lisp_nonces.specs.Kept.{kept_at, number}
+use Rattle.lisp_nonces.specs.declared.pair.Pair.{Pair}
+use Rattle.lisp_nonces.proofs.Kept.{kept_at-empty}
 use Rattle.lisp_nonces.specs.declared.fate.Fate.TheVariants as fates
 use Rattle.lisp_nonces.specs.declared.fault.StoreFault.TheVariants as stores
-use Rattle.lisp_nonces.specs.declared.pair.Pair.{Pair}
 use Rattle.lisp_messages.specs.Message.{Registers, MapRegisterValue, MessageValue}
 use Rattle.lisp_messages.specs.Reading.{message_at}
 use Rattle.lisp_messages.specs.declared.fault.ReadFault.{ReadFault}
@@ -32,24 +35,19 @@ use Rattle.lisp_model.specs.Promises.{AbsentPartsRest, AcceptedWasSent, CountedW
 use Rattle.lisp_model.specs.Timers.{Notice, RoundTimes}
 use Rattle.lisp_model.specs.Trace.{Step, address_at, router_at}
 use Rattle.lisp_model.specs.Context.{HasCause}
-use Rattle.lisp_model.specs.declared.event.Event.TheVariants as events
 use Rattle.lisp_model.specs.declared.line.Line.{Line}
+use Rattle.lisp_model.specs.Story.{at, blank, counts, got_from, keeps, local_at, mapping, network, one, one_counted, one_sent, one_taken, opening, replays, secret, sends, sent_by, step, takes, two, wide}
+use Rattle.lisp_model.specs.declared.event.Event.TheVariants as events
 use Rattle.lisp_model.specs.declared.line.Line.TheVariants as lines
 use Rattle.lisp_model.specs.declared.refusal.Refusal.TheVariants as refusals
-use Rattle.lisp_model.proofs.Examples.Arrivals.{admitted, hears, registers_read}
+use Rattle.lisp_model.proofs.Examples.Steps.{admitted, hears, registers_read, wide_whole}
 use Rattle.lisp_model.proofs.Examples.NearMisses.Common.{never}
-use Rattle.lisp_model.specs.Story.{at, blank, counts, got_from, keeps, local_at, mapping, network, one, one_counted, one_sent, one_taken, opening, replays, secret, sends, sent_by, step, takes, two, wide}
-use Rattle.lisp_model.proofs.Examples.Samples.{acknowledged, answered, arrived, counts_part, ends, heard_of, notices, one_left, refuses, registers, row_of, tells, ticks, told_to}
-use Rattle.lisp_model.proofs.Examples.Wholes.{wide_whole}
+use Rattle.lisp_model.proofs.Examples.Samples.{acknowledged, answered, arrived, counts_part, ends, heard_of, notices, one_left, refuses, registers, row_of, tells, ticks, told_to, answered_elsewhere, both_heard, both_sent, both_taken, first_entry, first_told, foreign, foreign_sent, newer_taken, parts_sent, parts_taken, registered_again, restarted, sent_twice, short, was_noticed}
 use Rattle.lisp_model.proofs.Examples.Rotations.{loses, rotating, sends_under, started, takes_under}
-use Rattle.lisp_model.proofs.Examples.Traces.{answered_elsewhere, both_heard, both_sent, both_taken, first_entry, first_told, foreign, foreign_sent, newer_taken, parts_sent, parts_taken, registered_again, restarted, sent_twice, short, was_noticed}
 use Rattle.lisp_model.proofs.ItemLemmas.{item_authentic}
-use Rattle.lisp_nonces.proofs.Kept.{kept_at-empty}
 use Rattle.lisp_model.proofs.KeptLemmas.{only_value, set_here}
 use Rattle.lisp_model.proofs.ListLemmas.{at_head, head_or_tail, in_none}
 use Rattle.lisp_model.proofs.MustLaws.{must}
-use Rattle.lisp_records.specs.Parts.{cut, cut_from}
-use Rattle.lisp_records.specs.Written.{written}
 
 only_first : (e : SentRegister) → Contains (first_entry ∷ []) e → e ≡ first_entry
 only_first e has = at (head_or_tail first_entry [] e has)

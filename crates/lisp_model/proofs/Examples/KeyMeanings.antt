@@ -1,5 +1,5 @@
 -- What the meanings make of a router's keys, and of its lost store.
-use Rattle.std.proofs.Common.{List, None, Some, [], false, map, refl, true, ◌∷◌, ◌≡◌}
+use Rattle.std.proofs.Common.{[], List, None, Some, false, map, refl, true, ◌∷◌, ◌≡◌}
 use Rattle.std.specs.FinMap.{empty, insert}
 use Rattle.lisp_nonces.specs.Kept.{kept_at}
 use Rattle.lisp_nonces.specs.declared.fate.Fate.TheVariants as fates
@@ -14,12 +14,11 @@ use Rattle.lisp_model.specs.Keys.{keys_before_loss, keys_since_loss}
 use Rattle.lisp_model.specs.Sending.{last_sent, start_values}
 use Rattle.lisp_model.specs.Timers.{due}
 use Rattle.lisp_model.specs.Trace.{Step, database, etr_config, fate_of, is_up, key}
+use Rattle.lisp_model.specs.Story.{blank, keeps, local_at, mapping, narrow, one, one_counted, sent_by, step, wide}
 use Rattle.lisp_model.specs.declared.event.Event.TheVariants as events
 use Rattle.lisp_model.specs.declared.line.Line.TheVariants as lines
 use Rattle.lisp_model.specs.declared.refusal.Refusal.TheVariants as refusals
-use Rattle.lisp_model.specs.Story.{blank, keeps, local_at, mapping, narrow, one, one_counted, sent_by, step, wide}
-use Rattle.lisp_model.proofs.Examples.Samples.{acknowledged, ticks}
-use Rattle.lisp_model.proofs.Examples.Traces.{short}
+use Rattle.lisp_model.proofs.Examples.Samples.{acknowledged, ticks, short}
 use Rattle.lisp_model.proofs.Examples.Rotations.{emptied, kept_key, loses, new_secret, not_emptied, not_loaded, renewed, rotating, sent_anew, shows, started, under}
 
 -- a router's key: the configured one; the one that it went over to, or was to start under once its store was lost; not where

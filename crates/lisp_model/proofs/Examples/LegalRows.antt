@@ -1,5 +1,5 @@
 -- Legal traces of the small network: what each meaning makes of them.
-use Rattle.std.proofs.Common.{rules, List, None, Option, Some, [], ap, arith, inl, inr, map, refl, subst, sym, true, true≢false, ℕ, ◌-◌, ◌∷◌, ◌≡◌, ◌≤◌}
+use Rattle.std.proofs.Common.{[], rules, List, None, Option, Some, ap, arith, inl, inr, map, refl, subst, sym, true, true≢false, ℕ, ◌-◌, ◌∷◌, ◌≡◌, ◌≤◌}
 use Rattle.std.specs.FinMap.{empty}
 use Rattle.std.specs.List.{Contains}
 use Rattle.std.specs.Prelude.{Result, slice_get, ◌+◌, ◌^◌}
@@ -9,14 +9,12 @@ use Rattle.lisp_records.specs.Record.{MapRecordValue}
 use Rattle.lisp_records.specs.Written.{written}
 use Rattle.lisp_nonces.specs.Kept.{number}
 use Rattle.lisp_nonces.specs.declared.fate.Fate.TheVariants as fates
-use Rattle.lisp_messages.specs.Message.{MessageValue}
-use Rattle.lisp_messages.specs.declared.fault.ReadFault.{ReadFault}
+use Rattle.lisp_messages.specs.{Message.MessageValue, declared.fault.ReadFault.ReadFault}
 use Rattle.lisp_messages.specs.declared.fault.ReadFault.TheVariants as reads
 use Rattle.lisp_etr.specs.Sending.{last_nonce}
 use Rattle.lisp_etr.specs.declared.notify_fault.NotifyFault.TheVariants as notify_faults
 use Rattle.lisp_etr.specs.declared.send_fault.SendFault.TheVariants as send_faults
-use Rattle.lisp_admission.specs.NoticeTimer.{due_after}
-use Rattle.lisp_admission.specs.Pairs.{notice_pair}
+use Rattle.lisp_admission.specs.{NoticeTimer.due_after, Pairs.notice_pair}
 use Rattle.lisp_admission.specs.declared.notice_fault.NoticeFault.TheVariants as notice_faults
 use Rattle.lisp_admission.specs.declared.refused.Refused.TheVariants as refuseds
 use Rattle.lisp_model.specs.Bag.{Item, bag, bytes_of, register_item, reply_item, since_start, acceptances_in, junk_arrival}
@@ -24,18 +22,15 @@ use Rattle.lisp_model.specs.Held.{held_row}
 use Rattle.lisp_model.specs.Legal.{Legal, LegalTrace, context_of}
 use Rattle.lisp_model.specs.Receiving.{FailsCheck}
 use Rattle.lisp_model.specs.Trace.{Step}
+use Rattle.lisp_model.specs.Story.{at, blank, counts, got_from, keeps, local_at, mapping, narrow, network, one, one_counted, one_sent, one_taken, opening, replays, restarts, sends, sent_by, step, takes, two, wide}
+use Rattle.lisp_model.specs.Numbers.{numbers_below}
 use Rattle.lisp_model.specs.declared.event.Event.TheVariants as events
 use Rattle.lisp_model.specs.declared.line.Line.TheVariants as lines
 use Rattle.lisp_model.specs.declared.refusal.Refusal.TheVariants as refusals
-use Rattle.lisp_model.proofs.Examples.Arrivals.{hears, kinds_differ, registers_read, short_heard, short_message, strange_refused}
-use Rattle.lisp_model.specs.Story.{at, blank, counts, got_from, keeps, local_at, mapping, narrow, network, one, one_counted, one_sent, one_taken, opening, replays, restarts, sends, sent_by, step, takes, two, wide}
-use Rattle.lisp_model.proofs.Examples.Samples.{answered, blocks, changes, counts_part, fails_load, refuses, spent, tells, ticks, told}
-use Rattle.lisp_model.proofs.Examples.Steps.{changes_legal, counts_legal, counts_part_legal, doubts_send_legal, doubts_take_legal, ends_legal, fails_load_legal, notices_legal, refuses_record, repeats_legal, replays_legal, restarts_legal, restarts_to_legal, sends_legal, takes_legal, tells_legal, ticks_legal}
-use Rattle.lisp_model.proofs.Examples.Traces.{aged, answered_elsewhere, both_sent, both_taken, doubted, ended, first_told, foreign, foreign_sent, forgot, held_at, is_down, kept_it, newer_taken, not_started, older_noticed, parts_sent_again, parts_taken, registered_again, restarted, second_counted, sent_after, sent_twice, short, spent_taken, told_again, told_and_gone, told_anew, two_sent, unsure, unsure_forgot, unsure_kept, vanished, waited, was_noticed}
-use Rattle.lisp_model.proofs.Examples.Wholes.{foreign_whole, short_whole, wide_whole}
+use Rattle.lisp_model.proofs.Examples.Steps.{hears, kinds_differ, registers_read, short_heard, short_message, strange_refused, changes_legal, counts_legal, counts_part_legal, doubts_send_legal, doubts_take_legal, ends_legal, fails_load_legal, notices_legal, refuses_record, repeats_legal, replays_legal, restarts_legal, restarts_to_legal, sends_legal, takes_legal, tells_legal, ticks_legal, foreign_whole, short_whole, wide_whole}
+use Rattle.lisp_model.proofs.Examples.Samples.{answered, blocks, changes, counts_part, fails_load, refuses, spent, tells, ticks, told, aged, answered_elsewhere, both_sent, both_taken, doubted, ended, first_told, foreign, foreign_sent, forgot, held_at, is_down, kept_it, newer_taken, not_started, older_noticed, parts_sent_again, parts_taken, registered_again, restarted, second_counted, sent_after, sent_twice, short, spent_taken, told_again, told_and_gone, told_anew, two_sent, unsure, unsure_forgot, unsure_kept, vanished, waited, was_noticed}
 use Rattle.lisp_model.proofs.KeptLemmas.{empty_full, insert_full, only_value, set_full, set_here, set_others, stays}
 use Rattle.lisp_model.proofs.ContextLemmas.{doubted_end, doubted_new, doubted_old, fresh_value, other_value, set_value}
-use Rattle.lisp_model.specs.Numbers.{numbers_below}
 
 pub one_sent_legal : LegalTrace opening one_sent
 one_sent_legal = (sends_legal [] 0 1 0 None refl refl refl refl (fresh_value (sent_by one)) refl (omega arith) wide_whole refl, tt)

@@ -1,5 +1,5 @@
 -- A site that may have one live row: a Map-Register of two records is refused, and leaves nothing behind.
-use Rattle.std.proofs.Common.{rules, List, None, Ok, Option, Some, [], ap, arith, inr, refl, subst, suc, sym, true, zero, ℕ, ◌∙◌, ◌∷◌, ◌≡◌, ◌≢◌}
+use Rattle.std.proofs.Common.{[], rules, List, None, Ok, Option, Some, ap, arith, inr, refl, subst, suc, sym, true, zero, ℕ, ◌∙◌, ◌∷◌, ◌≡◌, ◌≢◌}
 use Rattle.std.proofs.lemmas.List.Elements.{All-from_recursion}
 use Rattle.std.specs.FinMap.{empty}
 use Rattle.std.specs.List.{AllPairs}
@@ -14,9 +14,9 @@ use Rattle.lisp_policy.specs.Limits.{no_limits}
 use Rattle.lisp_policy.specs.Site.{SiteValue}
 use Rattle.lisp_policy.specs.declared.full.Full.TheVariants.{Routers, Rows}
 use Rattle.lisp_nonces.specs.Kept.{Kept, kept_at}
+use Rattle.lisp_nonces.proofs.Kept.{kept_at-empty}
 use Rattle.lisp_nonces.specs.declared.fate.Fate.TheVariants as fates
 use Rattle.lisp_nonces.specs.declared.fault.StoreFault.TheVariants as stores
-use Rattle.lisp_nonces.proofs.Kept.{kept_at-empty}
 use Rattle.lisp_messages.specs.Authentic.{is_authentic}
 use Rattle.lisp_messages.specs.Message.{AreRecords, MapRegisterValue, MessageValue, Registers}
 use Rattle.lisp_messages.specs.declared.fault.ReadFault.{ReadFault}
@@ -33,14 +33,14 @@ use Rattle.lisp_model.specs.Promises.{SitesStayWithin}
 use Rattle.lisp_model.specs.Receiving.{HasSpace, IsFresh, LacksSpace}
 use Rattle.lisp_model.specs.Story.{blank, got_from, keeps, local_at, mapping, narrow, network, one, one_sent, opening, secret, sent_by, site, step, wide}
 use Rattle.lisp_model.specs.Trace.{Opening, Step, router_at}
+use Rattle.lisp_model.specs.declared.refusal.Refusal.{Refusal}
 use Rattle.lisp_model.specs.declared.event.Event.TheVariants as events
 use Rattle.lisp_model.specs.declared.line.Line.TheVariants as lines
-use Rattle.lisp_model.specs.declared.refusal.Refusal.{Refusal}
 use Rattle.lisp_model.specs.declared.refusal.Refusal.TheVariants as refusals
 use Rattle.lisp_model.proofs.ContextLemmas.{fresh_value, saved}
 use Rattle.lisp_model.proofs.Examples.NearMisses.Common.{first, first_item, item_is, nothing_is_no_number, only_set_of, register_is}
 use Rattle.lisp_model.proofs.Examples.Samples.{arrived, registers}
-use Rattle.lisp_model.proofs.Examples.Wholes.{IsOnePart}
+use Rattle.lisp_model.proofs.Examples.Steps.{IsOnePart}
 use Rattle.lisp_model.proofs.ItemLemmas.{item_authentic}
 use Rattle.lisp_model.proofs.KeptLemmas.{set_here}
 
@@ -131,8 +131,7 @@ keys_differ : AllPairs {X = RouterId × PrefixValue} (λ a b. a ≢ b) ((one, wi
 keys_differ zero (suc zero) d low high = λ e. let masks : ◌≡◌ {A = ℕ} 16 24 = ap (λ (k : RouterId × PrefixValue). k.1.mask_len) e in absurd (omega (arith, masks))
 keys_differ zero zero d low high = absurd (omega (arith, low))
 keys_differ i (suc (suc j)) d low high = absurd (omega (arith, high))
-keys_differ (suc i) zero d low high = absurd (omega (arith, low))
-keys_differ (suc i) (suc zero) d low high = absurd (omega (arith, low))
+keys_differ (suc i) _ d low high = absurd (omega (arith, low))
 
 both_are_too_many : IsFull None (Some 1) 1 (held_rows [] 0) (held_rows (both_arrived ∷ []) 0) Rows
 both_are_too_many = (tt, ((one, narrow), (refl, refl), ((λ was. absurd cc), ((one, wide) ∷ (one, narrow) ∷ [], omega arith, keys_differ, All-from_recursion (HasRow (held_rows (both_arrived ∷ []) 0) 1) ((one, wide) ∷ (one, narrow) ∷ []) ((refl, refl), ((refl, refl), tt))))))
@@ -183,8 +182,7 @@ kept_though_full l = nothing_is_no_number (sym (kept_at-empty (got_from one)) �
 told_of_routers : Legal limited both_sent (refuses_both (refusals.Receive (refuseds.Full 1 Routers))) → ⊥
 unfolding cut cut_from written
 told_of_routers l =
-    let item : both_item ≡ l.row.item = item_is _ _ l.row.sent in
-    let message : registers two_records 1 ≡ l.row.arrives.1.message = register_is _ _ _ _ item refl l.row.arrives.1.admits.read in
+    let message : registers two_records 1 ≡ l.row.arrives.1.message = register_is both_item _ _ _ (item_is both_item _ l.row.sent) refl l.row.arrives.1.admits.read in
     let t = context_of limited both_sent (refuses_both (refusals.Receive (refuseds.Full 1 Routers))) in
     subst (λ (m : MapRegisterValue). LacksSpace t (arrival_of l.row.item) m Routers) (sym message) l.row.arrives.1.lacks
 
@@ -192,8 +190,7 @@ told_of_routers l =
 told_of_another_site : Legal limited both_sent (refuses_both (refusals.Receive (refuseds.Full 2 Rows))) → ⊥
 unfolding cut cut_from written
 told_of_another_site l =
-    let item : both_item ≡ l.row.item = item_is _ _ l.row.sent in
-    let message : registers two_records 1 ≡ l.row.arrives.1.message = register_is _ _ _ _ item refl l.row.arrives.1.admits.read in
+    let message : registers two_records 1 ≡ l.row.arrives.1.message = register_is both_item _ _ _ (item_is both_item _ l.row.sent) refl l.row.arrives.1.admits.read in
     let two_is_one : 2 ≡ 1 = l.row.arrives.1.its ∙ ap (λ (m : MapRegisterValue). m.site) (sym message) in
     absurd (omega (arith, two_is_one))
 
@@ -201,8 +198,7 @@ told_of_another_site l =
 full_though_unlimited : Legal opening one_sent (step (events.Deliver 0 fates.Done) (lines.Refused 0 (refusals.Receive (refuseds.Full 1 Rows))) 0 blank) → ⊥
 unfolding cut cut_from written
 full_though_unlimited l =
-    let item : first_item ≡ l.row.item = item_is _ _ l.row.sent in
-    let message : first ≡ l.row.arrives.1.message = register_is _ _ _ _ item refl l.row.arrives.1.admits.read in
+    let message : first ≡ l.row.arrives.1.message = register_is first_item _ _ _ (item_is first_item _ l.row.sent) refl l.row.arrives.1.admits.read in
     let t = context_of opening one_sent (step (events.Deliver 0 fates.Done) (lines.Refused 0 (refusals.Receive (refuseds.Full 1 Rows))) 0 blank) in
     let lacks : LacksSpace t (arrival_of l.row.item) first Rows = subst (λ (m : MapRegisterValue). LacksSpace t (arrival_of l.row.item) m Rows) (sym message) l.row.arrives.1.lacks in
     lacks.1
@@ -224,8 +220,7 @@ remembers = record limited { stores = keeps blank (got_from one) 1 ∷ blank ∷
 full_though_replayed : Legal remembers both_sent (record (refuses_both (refusals.Receive (refuseds.Full 1 Rows))) { shown = keeps blank (got_from one) 1 }) → ⊥
 unfolding cut cut_from written
 full_though_replayed l =
-    let item : both_item ≡ l.row.item = item_is _ _ l.row.sent in
-    let message : registers two_records 1 ≡ l.row.arrives.1.message = register_is _ _ _ _ item refl l.row.arrives.1.admits.read in
+    let message : registers two_records 1 ≡ l.row.arrives.1.message = register_is both_item _ _ _ (item_is both_item _ l.row.sent) refl l.row.arrives.1.admits.read in
     let t = context_of remembers both_sent (record (refuses_both (refusals.Receive (refuseds.Full 1 Rows))) { shown = keeps blank (got_from one) 1 }) in
     let fresh : IsFresh t (registers two_records 1) = subst (IsFresh t) (sym message) l.row.arrives.1.fresh in
     let above : 1 < 1 = subst (λ (b : Option ℕ). IsBelow b 1) (only_set_of (got_from one) _ fresh.base (Some 1) fresh.counts) fresh.above in

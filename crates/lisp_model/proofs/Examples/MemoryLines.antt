@@ -1,5 +1,5 @@
 -- Which lines say that memory was refused: a node's, or its store's.
-use Rattle.std.proofs.Common.{List, [], false, map, refl, sym, true, true≢false, ◌∷◌, ◌≡◌}
+use Rattle.std.proofs.Common.{[], List, false, map, refl, sym, true, true≢false, ◌∷◌, ◌≡◌}
 use Rattle.lisp_nonces.specs.declared.fault.StoreFault.{StoreFault}
 use Rattle.lisp_nonces.specs.declared.fault.StoreFault.TheVariants as stores
 use Rattle.lisp_etr.specs.declared.notify_fault.NotifyFault.TheVariants as notify_faults
@@ -9,8 +9,8 @@ use Rattle.lisp_etr.specs.declared.start_fault.StartFault.TheVariants as start_f
 use Rattle.lisp_admission.specs.declared.notice_fault.NoticeFault.TheVariants as notice_faults
 use Rattle.lisp_admission.specs.declared.refused.Refused.TheVariants as refuseds
 use Rattle.lisp_model.specs.Memory.{MayTell, is_node_memory, is_store_memory}
-use Rattle.lisp_model.specs.declared.line.Line.TheVariants as lines
 use Rattle.lisp_model.specs.declared.refusal.Refusal.{Refusal}
+use Rattle.lisp_model.specs.declared.line.Line.TheVariants as lines
 use Rattle.lisp_model.specs.declared.refusal.Refusal.TheVariants as refusals
 
 abbrev by_nodes : List Refusal
@@ -19,11 +19,9 @@ by_nodes = refusals.Send send_faults.OutOfMemory ∷ refusals.Notify notify_faul
 abbrev by_stores : StoreFault → List Refusal
 by_stores fault = refusals.Send (send_faults.Store fault) ∷ refusals.Receive (refuseds.StoreLoad fault) ∷ refusals.Receive (refuseds.StoreSave fault) ∷ refusals.Notice (notice_faults.StoreLoad fault) ∷ refusals.Notice (notice_faults.StoreSave fault) ∷ refusals.Start (start_faults.Store fault) ∷ refusals.Rotate (rotate_faults.Store fault) ∷ []
 
-nodes_lines : map is_node_memory by_nodes ≡ true ∷ true ∷ true ∷ true ∷ true ∷ []
-nodes_lines = refl
-
-not_stores : map is_store_memory by_nodes ≡ false ∷ false ∷ false ∷ false ∷ false ∷ []
-not_stores = refl
+-- a node's memory, and no store's
+of_nodes : (map is_node_memory by_nodes ≡ true ∷ true ∷ true ∷ true ∷ true ∷ []) × (map is_store_memory by_nodes ≡ false ∷ false ∷ false ∷ false ∷ false ∷ [])
+of_nodes = (refl, refl)
 
 stores_lines : map is_store_memory (by_stores stores.OutOfMemory) ≡ true ∷ true ∷ true ∷ true ∷ true ∷ true ∷ true ∷ []
 stores_lines = refl

@@ -1,5 +1,5 @@
 -- Which configurations are a network's, and which aren't.
-use Rattle.std.proofs.Common.{List, [], ap, arith, refl, slice_index_or, suc, zero, ℕ, ◌<◌, ◌∷◌, ◌≡◌, ◌≢◌}
+use Rattle.std.proofs.Common.{[], List, ap, arith, refl, slice_index_or, suc, zero, ℕ, ◌<◌, ◌∷◌, ◌≡◌, ◌≢◌}
 use Rattle.std.specs.List.{AllPairs}
 use Rattle.lisp_records.specs.declared.address.Addr.{Addr}
 use Rattle.lisp_records.specs.declared.address.Addr.TheVariants.{V4, V6}
@@ -29,22 +29,19 @@ addresses_differ (suc (suc zero)) (suc (suc (suc zero))) d low high = differ (lo
 addresses_differ i (suc (suc (suc (suc j)))) d low high = absurd (omega (arith, high))
 addresses_differ (suc i) zero d low high = absurd (omega (arith, low))
 addresses_differ (suc (suc i)) (suc zero) d low high = absurd (omega (arith, low))
-addresses_differ (suc (suc (suc i))) (suc (suc zero)) d low high = absurd (omega (arith, low))
-addresses_differ (suc (suc (suc i))) (suc (suc (suc zero))) d low high = absurd (omega (arith, low))
+addresses_differ (suc (suc (suc i))) _ d low high = absurd (omega (arith, low))
 
 identities_differ : AllPairs (λ a b. a.me ≢ b.me) network.routers
 identities_differ zero (suc zero) d low high = λ e. let last : ◌≡◌ {A = ℕ} 10 11 = ap (λ (r : RouterId). slice_index_or r.xtr 15 0) e in absurd (omega (arith, last))
 identities_differ zero zero d low high = absurd (omega (arith, low))
 identities_differ i (suc (suc j)) d low high = absurd (omega (arith, high))
-identities_differ (suc i) zero d low high = absurd (omega (arith, low))
-identities_differ (suc i) (suc zero) d low high = absurd (omega (arith, low))
+identities_differ (suc i) _ d low high = absurd (omega (arith, low))
 
 two_servers_differ : AllPairs {X = ℕ} (λ a b. a ≢ b) (0 ∷ 1 ∷ [])
 two_servers_differ zero (suc zero) d low high = λ e. absurd (omega (arith, e))
 two_servers_differ zero zero d low high = absurd (omega (arith, low))
 two_servers_differ i (suc (suc j)) d low high = absurd (omega (arith, high))
-two_servers_differ (suc i) zero d low high = absurd (omega (arith, low))
-two_servers_differ (suc i) (suc zero) d low high = absurd (omega (arith, low))
+two_servers_differ (suc i) _ d low high = absurd (omega (arith, low))
 
 one_server_differs : AllPairs {X = ℕ} (λ a b. a ≢ b) (0 ∷ [])
 one_server_differs i zero d low high = absurd (omega (arith, low))

@@ -1,9 +1,11 @@
 -- What the premises of the promises let through: traces that are clean, and entries with no change between them.
-use Rattle.std.proofs.Common.{Err, List, Ok, Some, [], ap, arith, false, inl, inr, refl, reverse, subst, sym, true≢false, ℕ, ◌∙◌, ◌∷◌, ◌≡◌}
+use Rattle.std.proofs.Common.{[], Err, List, Ok, Some, ap, arith, false, inl, inr, refl, reverse, subst, sym, true≢false, ℕ, ◌∙◌, ◌∷◌, ◌≡◌}
 use Rattle.std.specs.List.{Contains}
 use Rattle.std.specs.Prelude.{Result, position, slice_get, ◌⊎◌}
 use Rattle.lisp_records.specs.Record.{MapRecordValue}
 use Rattle.lisp_records.specs.declared.address.Addr.{Addr}
+use Rattle.lisp_records.specs.Parts.{cut, cut_from}
+use Rattle.lisp_records.specs.Written.{written}
 use Rattle.lisp_messages.specs.Authentic.{is_authentic}
 use Rattle.lisp_messages.specs.Message.{IsMessage, Registers, MapRegisterValue, MessageValue}
 use Rattle.lisp_messages.specs.Reading.{message_at}
@@ -16,17 +18,14 @@ use Rattle.lisp_model.specs.Change.{Keeps, NoChange, gives_database}
 use Rattle.lisp_model.specs.Clean.{Clean, IsEcho, IsForged, IsHarmless, IsNoise, secrets_of}
 use Rattle.lisp_model.specs.History.{SentRegister}
 use Rattle.lisp_model.specs.Trace.{Step, address_at}
+use Rattle.lisp_model.specs.Story.{at, blank, local_at, mapping, network, one_sent, opening, restarts, secret, sends, step, wide}
 use Rattle.lisp_model.specs.declared.event.Event.TheVariants as events
 use Rattle.lisp_model.specs.declared.line.Line.TheVariants as lines
 use Rattle.lisp_model.specs.declared.refusal.Refusal.TheVariants as refusals
-use Rattle.lisp_model.proofs.Examples.Arrivals.{fits, item_reads, short_message, wide_record}
-use Rattle.lisp_model.specs.Story.{at, blank, local_at, mapping, network, one_sent, opening, restarts, secret, sends, step, wide}
-use Rattle.lisp_model.proofs.Examples.Samples.{changes, refuses, registers, ticks, two_keys}
-use Rattle.lisp_model.proofs.Examples.Traces.{both_sent, first_entry, restarted_changed, short, two_sent}
+use Rattle.lisp_model.proofs.Examples.Steps.{fits, item_reads, short_message, wide_record}
+use Rattle.lisp_model.proofs.Examples.Samples.{changes, refuses, registers, ticks, two_keys, both_sent, first_entry, restarted_changed, short, two_sent}
 use Rattle.lisp_model.proofs.ItemLemmas.{item_authentic}
 use Rattle.lisp_model.proofs.ListLemmas.{at_head, head_or_tail, in_none}
-use Rattle.lisp_records.specs.Parts.{cut, cut_from}
-use Rattle.lisp_records.specs.Written.{written}
 
 -- clean: a datagram that was overheard and is thrown in again; bytes that are no message; bytes that aren't authentic under
 -- what the node holds, whatever other nodes hold

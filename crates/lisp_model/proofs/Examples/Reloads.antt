@@ -1,5 +1,5 @@
 -- A Map-Server takes other sites: one more, after which it holds what it held; and without a key, after which it starts anew.
-use Rattle.std.proofs.Common.{ℕ, List, [], ◌∷◌, None, refl, sym, ◌≡◌, true≢false, arith}
+use Rattle.std.proofs.Common.{[], ℕ, List, ◌∷◌, None, refl, sym, ◌≡◌, true≢false, arith}
 use Rattle.lisp_policy.specs.Site.{SiteValue}
 use Rattle.lisp_model.specs.Bag.{since_start}
 use Rattle.lisp_model.specs.Clean.{secrets_of}
@@ -8,8 +8,8 @@ use Rattle.lisp_model.specs.Life.{began}
 use Rattle.lisp_model.specs.Story.{at, network, one_taken, opening, secret, site, step}
 use Rattle.lisp_model.specs.Timers.{last_notice, notices}
 use Rattle.lisp_model.specs.Trace.{Step, sites}
-use Rattle.lisp_model.specs.declared.event.Event.TheVariants as events
 use Rattle.lisp_model.specs.declared.line.Line.{Line}
+use Rattle.lisp_model.specs.declared.event.Event.TheVariants as events
 use Rattle.lisp_model.specs.declared.line.Line.TheVariants as lines
 
 -- another site
@@ -52,11 +52,9 @@ its_sites_then = refl
 others_sites_then : sites opening (kept ∷ one_taken) 1 ≡ network.sites
 others_sites_then = refl
 
-secrets_then : secrets_of opening (kept ∷ one_taken) 0 ≡ secret ∷ secret ∷ []
-secrets_then = refl
-
-no_secrets_then : secrets_of opening (anew ∷ one_taken) 0 ≡ []
-no_secrets_then = refl
+-- what it may check tags with, then
+secrets_of_its_sites : (secrets_of opening (kept ∷ one_taken) 0 ≡ secret ∷ secret ∷ []) × (secrets_of opening (anew ∷ one_taken) 0 ≡ [])
+secrets_of_its_sites = (refl, refl)
 
 -- what it holds then: all, or nothing
 rows_kept : since_start opening (kept ∷ one_taken) 0 ≡ since_start opening one_taken 0

@@ -1,21 +1,23 @@
 -- A router of a site with three keys goes over to the second, and back to the first; its store is lost, and it starts
 -- under the third.
-use Rattle.std.proofs.Common.{rules, Bool, List, None, Ok, Option, Some, [], ap, arith, false, inl, inr, length, refl, subst, suc, sym, true, true≢false, zero, ℕ, ◌∙◌, ◌∷◌, ◌≡◌}
+use Rattle.std.proofs.Common.{[], rules, Bool, List, None, Ok, Option, Some, ap, arith, false, inl, inr, length, refl, subst, suc, sym, true, true≢false, zero, ℕ, ◌∙◌, ◌∷◌, ◌≡◌}
+use Rattle.std.proofs.lemmas.Bool.Decides.{Decides-eqb}
 use Rattle.std.specs.FinMap.{empty}
 use Rattle.std.specs.List.{Contains}
 use Rattle.std.specs.Prelude.{Err, slice_get, ◌+◌, ◌<◌, ◌==◌, ◌^◌, ◌≢◌}
-use Rattle.std.proofs.lemmas.Bool.Decides.{Decides-eqb}
 use Rattle.lisp_records.specs.Result.{◌>>=◌}
+use Rattle.lisp_records.specs.Parts.{cut, cut_from, part_at}
+use Rattle.lisp_records.specs.Written.{written}
 use Rattle.lisp_policy.specs.Site.{SiteValue, secret_of}
 use Rattle.lisp_nonces.specs.Kept.{SameElsewhere, kept_at, number}
+use Rattle.lisp_nonces.specs.declared.pair.Pair.{Pair}
 use Rattle.lisp_nonces.specs.declared.fate.Fate.TheVariants as fates
 use Rattle.lisp_nonces.specs.declared.fault.StoreFault.TheVariants as stores
-use Rattle.lisp_nonces.specs.declared.pair.Pair.{Pair}
 use Rattle.lisp_messages.specs.Message.{AreRecords, MapNotifyValue, Notifies}
 use Rattle.lisp_etr.specs.Hearing.{ServerNotify, check, checked_notify}
 use Rattle.lisp_etr.specs.Sending.{block_end, map_register_of}
-use Rattle.lisp_etr.specs.declared.notify_fault.NotifyFault.TheVariants as notify_faults
 use Rattle.lisp_etr.specs.declared.rotate_fault.RotateFault.{RotateFault}
+use Rattle.lisp_etr.specs.declared.notify_fault.NotifyFault.TheVariants as notify_faults
 use Rattle.lisp_etr.specs.declared.rotate_fault.RotateFault.TheVariants as rotate_faults
 use Rattle.lisp_etr.specs.declared.start_fault.StartFault.TheVariants as start_faults
 use Rattle.lisp_admission.specs.Checks.{first_not_allowed, most_jump_at, secret_under}
@@ -29,20 +31,17 @@ use Rattle.lisp_model.specs.Legal.{Legal, LegalTrace, context_of}
 use Rattle.lisp_model.specs.Receiving.{IsFresh}
 use Rattle.lisp_model.specs.Sending.{CountsFrom}
 use Rattle.lisp_model.specs.Trace.{Opening, ShownStore, Step, sites, database, etr_config, etr_config_under, is_up, key as key_of, router_at, shown_store}
+use Rattle.lisp_model.specs.Story.{blank, got_from, keeps, local_at, mapping, network, one, opening, secret, sent_by, site, step, wide}
+use Rattle.lisp_model.specs.Numbers.{numbers_below}
 use Rattle.lisp_model.specs.declared.event.Event.TheVariants as events
 use Rattle.lisp_model.specs.declared.line.Line.TheVariants as lines
 use Rattle.lisp_model.specs.declared.refusal.Refusal.TheVariants as refusals
-use Rattle.lisp_model.specs.Story.{blank, got_from, keeps, local_at, mapping, network, one, opening, secret, sent_by, site, step, wide}
-use Rattle.lisp_model.proofs.Examples.Wholes.{IsOnePart, wide_whole}
+use Rattle.lisp_model.proofs.Examples.Steps.{IsOnePart, wide_whole, block_of_one, fits_under}
 use Rattle.lisp_model.proofs.Examples.Samples.{failed}
-use Rattle.lisp_model.proofs.Examples.Steps.{block_of_one, fits_under}
 use Rattle.lisp_model.proofs.ContextLemmas.{fresh_value, other_value, saved, set_value}
 use Rattle.lisp_model.proofs.ItemLemmas.{item_authentic, passes}
 use Rattle.lisp_model.proofs.KeptLemmas.{empty_full, set_here, set_others, stays}
 use Rattle.lisp_model.proofs.ListLemmas.{in_none}
-use Rattle.lisp_model.specs.Numbers.{numbers_below}
-use Rattle.lisp_records.specs.Parts.{cut, cut_from, part_at}
-use Rattle.lisp_records.specs.Written.{written}
 
 -- the texts `new` and `third`
 abbrev pub new_secret : List ℕ

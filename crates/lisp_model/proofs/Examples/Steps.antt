@@ -1,48 +1,147 @@
--- Legal steps of the small network.
-use Rattle.std.proofs.Common.{Bool, List, None, Ok, Option, Some, [], ap, arith, false, inl, inr, length, refl, subst, sym, true, true≢false, ℕ, ◌+◌, ◌∙◌, ◌∷◌, ◌≡◌, ◌≤◌}
-use Rattle.std.specs.List.{Contains}
-use Rattle.std.specs.Prelude.{nat_le, slice_get, ◌<◌, ◌^◌, ◌≢◌, ◌⊎◌}
+-- What arrives in the small network: its messages fit, are read back, and pass the checks.
+use Rattle.std.proofs.Common.{[], Bool, Err, List, None, Ok, Option, Some, ap, arith, refl, rules, subst, sym, true, ℕ, ◌∙◌, ◌∷◌, ◌≡◌, false, inl, inr, length, true≢false, ◌+◌, ◌≤◌}
 use Rattle.std.proofs.lemmas.Bool.{le-leb, leb-true}
-use Rattle.lisp_records.specs.Database.{database_of}
-use Rattle.lisp_records.specs.Parts.{fits_message, part_at, part_count}
-use Rattle.lisp_records.specs.Moment.{max_moment}
+use Rattle.std.specs.Prelude.{ok_or, ◌<◌, ◌^◌, nat_le, slice_get, ◌≢◌, ◌⊎◌}
+use Rattle.std.specs.List.{Contains}
+use Rattle.lisp_hmac.proofs.TagLemmas.{length-tag}
+use Rattle.lisp_records.specs.Address.{masked}
 use Rattle.lisp_records.specs.Record.{MapRecordValue}
-use Rattle.lisp_records.specs.Written.{written}
+use Rattle.lisp_records.specs.Result.{◌>>=◌}
 use Rattle.lisp_records.specs.declared.address.Addr.{Addr}
-use Rattle.lisp_nonces.specs.Kept.{kept_at, number}
-use Rattle.lisp_nonces.specs.declared.fate.Fate.TheVariants as fates
-use Rattle.lisp_nonces.specs.declared.fault.StoreFault.TheVariants as stores
+use Rattle.lisp_records.specs.declared.router.RouterId.{RouterId}
+use Rattle.lisp_records.specs.Database.{database_of, repeats as repeats_in}
+use Rattle.lisp_records.specs.Parts.{cut, cut_from, part_at, part_count, fits_message}
+use Rattle.lisp_records.specs.Written.{written}
+use Rattle.lisp_records.specs.Moment.{max_moment}
 use Rattle.lisp_nonces.specs.declared.pair.Pair.{Pair}
+use Rattle.lisp_nonces.specs.Kept.{kept_at, number}
+use Rattle.lisp_messages.proofs.WrittenLaws.{reads_back}
 use Rattle.lisp_messages.specs.Authentic.{is_authentic}
-use Rattle.lisp_messages.specs.Message.{IsMapRegister, Registers, MessageValue}
-use Rattle.lisp_etr.specs.Hearing.{first_notice}
+use Rattle.lisp_messages.specs.Message.{AreRecords, IsMapRegister, IsMessage, Registers, MessageValue}
+use Rattle.lisp_messages.specs.Reading.{kind_at, message_at}
+use Rattle.lisp_etr.specs.Hearing.{check, checked_notify, first_notice}
+use Rattle.lisp_etr.specs.declared.notify_fault.NotifyFault.TheVariants.{BadAuth, NotMine}
 use Rattle.lisp_etr.specs.Rounds.{part_with}
 use Rattle.lisp_etr.specs.Sending.{block_end, last_nonce, map_register_of}
-use Rattle.lisp_policy.specs.Site.{SiteValue}
-use Rattle.lisp_lookup.specs.Growth.{Fits, LiveRows}
-use Rattle.lisp_admission.specs.Checks.{first_not_allowed, most_jump_at, most_routers_at, most_rows_at, secret_under}
-use Rattle.lisp_admission.specs.Nonces.{IsBelow, IsNear, nonce_after}
+use Rattle.lisp_admission.specs.Checks.{first_not_allowed, secret_under, most_jump_at, most_routers_at, most_rows_at}
 use Rattle.lisp_admission.specs.Pairs.{notice_pair}
-use Rattle.lisp_admission.specs.declared.refused.Refused.TheVariants as refuseds
-use Rattle.lisp_model.specs.Bag.{Item, arrival_of, bag, bytes_of, since_start}
-use Rattle.lisp_model.specs.Counted.{notify_at, latest_nonces, server_from}
+use Rattle.lisp_model.specs.Bag.{Item, arrival_of, bytes_of, junk_arrival, bag, since_start}
+use Rattle.lisp_model.specs.Counted.{notify_at, server_from, latest_nonces}
+use Rattle.lisp_model.specs.Trace.{Step, etr_config_under, key, router_at, Opening, clock, database, sites, key as key_of, is_listed, is_router, is_server, is_up, node_at}
+use Rattle.lisp_model.specs.Story.{got_from, local_at, mapping, network, opening, secret, site, wide, at, counts, one, replays, restarts, sends, sent_by, takes}
 use Rattle.lisp_model.specs.Held.{Acceptance, heard_last, held_row, last_of, records_of}
 use Rattle.lisp_model.specs.Legal.{Legal, context_of}
 use Rattle.lisp_model.specs.Receiving.{FailsCheck, awaiting}
 use Rattle.lisp_model.specs.Sending.{CountsFrom}
 use Rattle.lisp_model.specs.Timers.{Notice, due, is_due, last_notice, notice_to}
-use Rattle.lisp_model.specs.Trace.{Opening, Step, clock, database, sites, etr_config_under, key as key_of, router_at, is_listed, is_router, is_server, is_up, node_at}
 use Rattle.lisp_model.specs.Context.{IsBase, SaveFails, Saves}
+use Rattle.lisp_model.proofs.Examples.Samples.{heard_of, registers, told, foreign, short, answered, changes, counts_part, doubts_send, doubts_take, ends, fails_load, notices, refuses, repeats, restarts_to, tells, ticks}
+use Rattle.lisp_model.proofs.ItemLemmas.{item_authentic, passes, is_not_allowed}
+use Rattle.lisp_policy.specs.Site.{SiteValue}
+use Rattle.lisp_lookup.specs.Growth.{Fits, LiveRows}
+use Rattle.lisp_admission.specs.Nonces.{IsBelow, IsNear, nonce_after}
+use Rattle.lisp_model.proofs.KeptLemmas.{IsFull, narrows, set_here, set_others, stays}
+use Rattle.lisp_model.proofs.ContextLemmas.{in_doubt, saved}
+use Rattle.lisp_nonces.specs.declared.pair.PairKind.TheVariants as kinds
+use Rattle.lisp_messages.specs.declared.fault.ReadFault.TheVariants as reads
+use Rattle.lisp_etr.specs.declared.notify_fault.NotifyFault.TheVariants as notify_faults
+use Rattle.lisp_nonces.specs.declared.fate.Fate.TheVariants as fates
+use Rattle.lisp_nonces.specs.declared.fault.StoreFault.TheVariants as stores
+use Rattle.lisp_admission.specs.declared.refused.Refused.TheVariants as refuseds
 use Rattle.lisp_model.specs.declared.event.Event.TheVariants as events
 use Rattle.lisp_model.specs.declared.line.Line.TheVariants as lines
 use Rattle.lisp_model.specs.declared.refusal.Refusal.TheVariants as refusals
-use Rattle.lisp_model.proofs.Examples.Arrivals.{admitted, fits, hears}
-use Rattle.lisp_model.proofs.Examples.Wholes.{IsOnePart}
-use Rattle.lisp_model.specs.Story.{at, counts, got_from, local_at, mapping, network, one, opening, replays, restarts, secret, sends, sent_by, site, takes, wide}
-use Rattle.lisp_model.proofs.Examples.Samples.{answered, changes, counts_part, doubts_send, doubts_take, ends, fails_load, notices, refuses, registers, repeats, restarts_to, tells, ticks, told}
-use Rattle.lisp_model.proofs.ItemLemmas.{is_not_allowed, item_authentic}
-use Rattle.lisp_model.proofs.KeptLemmas.{IsFull, narrows, set_here, set_others, stays}
-use Rattle.lisp_model.proofs.ContextLemmas.{in_doubt, saved}
+
+-- messages of a few records fit
+pub fits : (db : List MapRecordValue) (nonce : ℕ) → nonce < 2 ^ 64 → AreRecords db → IsMapRegister (registers db nonce)
+fits db nonce low records = record { nonce = low; key = omega arith; records = records; xtr = refl; xtr_bytes = search rules; site = omega arith }
+
+pub no_records : AreRecords []
+no_records = (omega arith, tt)
+
+pub wide_record : (ttl : ℕ) → ttl < 2 ^ 32 → AreRecords (mapping wide ttl ∷ [])
+unfolding masked
+wide_record ttl low = (omega arith, (record { ttl = low; act = omega arith; version = omega arith; block = (omega arith, refl); eid = record { width = refl; bytes = (omega arith, (omega arith, (omega arith, (omega arith, tt)))) }; count = omega arith; locators = tt }, tt))
+
+-- a Map-Register of the first router passes the checks
+pub admitted : (i : Item) (db : List MapRecordValue) (nonce : ℕ) → i.secret ≡ secret → first_not_allowed site db ≡ None → secret_under network.sites i.from (bytes_of i) (registers db nonce) ≡ Ok secret
+admitted i db nonce its allowed = passes network.sites i.from (bytes_of i) (registers db nonce) site secret refl refl (subst (λ (s : List ℕ). is_authentic (bytes_of i) s ≡ true) its (item_authentic i)) refl refl allowed
+
+passed : (s : Option ℕ) (server nonce : ℕ) (records : List MapRecordValue) (b : Bool) → s ≡ Some server → b ≡ true
+    → ok_or s NotMine >>= (λ n. check b BadAuth >>= λ _. Ok (heard_of n nonce records)) ≡ Ok (heard_of server nonce records)
+passed s server nonce records b from tag = rw (from, tag) refl
+
+-- from a server it passes the checks of the first router
+pub hears : (from to : Addr) (nonce : ℕ) (records : List MapRecordValue) (server : ℕ) → server_from network 2 from ≡ Some server → (T : List Step) → key opening T 2 ≡ 1 → notify_at opening T 2 (arrival_of (told from to nonce records)) ≡ Ok (heard_of server nonce records)
+unfolding checked_notify
+hears from to nonce records server is T under =
+    ap (λ (k : ℕ). checked_notify (etr_config_under network (router_at network 2) k) (bytes_of (told from to nonce records)) (arrival_of (told from to nonce records)).read (server_from network 2 from)) under
+    ∙ passed _ server nonce records _ is (item_authentic (told from to nonce records))
+
+-- what was sent is read back
+pub item_reads : (i : Item) → IsMessage i.message → message_at (bytes_of i) ≡ Ok i.message
+unfolding bytes_of
+item_reads i said = reads_back i.message _ said (length-tag i.secret _ 16)
+
+pub registers_read : (i : Item) (ttl nonce : ℕ) → i.message ≡ Registers (registers (mapping wide ttl ∷ []) nonce) → ttl < 2 ^ 32 → nonce < 2 ^ 64 → message_at (bytes_of i) ≡ Ok i.message
+registers_read i ttl nonce says low small = item_reads i (subst IsMessage (sym says) (fits (mapping wide ttl ∷ []) nonce small (wide_record ttl low)))
+
+pub told_reads : (from to : Addr) (nonce ttl : ℕ) → nonce < 2 ^ 64 → ttl < 2 ^ 32 → message_at (bytes_of (told from to nonce (mapping wide ttl ∷ []))) ≡ Ok (told from to nonce (mapping wide ttl ∷ [])).message
+told_reads from to nonce ttl small low = item_reads (told from to nonce (mapping wide ttl ∷ [])) (record { nonce = small; key = omega arith; records = wide_record ttl low })
+
+-- no bytes are no message
+pub short_message : message_at [] ≡ Err reads.Short
+unfolding message_at kind_at
+short_message = refl
+
+-- a record of another site
+pub strange_refused : first_not_allowed site foreign ≡ Some 1
+unfolding masked
+strange_refused = refl
+
+-- notices have a pair of their own
+pub kinds_differ : {router : RouterId} → notice_pair ≡ got_from router → ⊥
+kinds_differ e = let kinds : kinds.Notice ≡ kinds.Received = ap (λ (p : Pair). p.kind) e in cc
+
+-- neither are they at a router
+pub short_heard : notify_at opening [] 2 (junk_arrival (local_at 11) []) ≡ Err (notify_faults.Read reads.Short)
+unfolding checked_notify
+short_heard = rw short_message refl
+
+-- ---- Databases of the small network, each of which is one part.
+
+-- records that are a database of one part, and fit the format
+pub record IsOnePart (db : List MapRecordValue) : Type 0 where
+  pub database : database_of db ≡ Ok db
+  pub there : 0 < part_count db
+  pub alone : part_at db 0 ≡ db
+  pub records : AreRecords db
+
+-- those of the first router, at first and after a change
+pub wide_whole : IsOnePart (mapping wide 1440 ∷ [])
+unfolding cut cut_from written repeats_in
+wide_whole = record { database = refl; there = omega arith; alone = refl; records = wide_record 1440 (omega arith) }
+
+pub short_whole : IsOnePart short
+unfolding cut cut_from written repeats_in
+short_whole = record { database = refl; there = omega arith; alone = refl; records = wide_record 60 (omega arith) }
+
+-- with a record of another site
+foreign_records : AreRecords foreign
+unfolding masked
+foreign_records = (
+  omega arith,
+  (
+    record { ttl = omega arith; act = omega arith; version = omega arith; block = (omega arith, refl); eid = record { width = refl; bytes = (omega arith, (omega arith, (omega arith, (omega arith, tt)))) }; count = omega arith; locators = tt },
+    (record { ttl = omega arith; act = omega arith; version = omega arith; block = (omega arith, refl); eid = record { width = refl; bytes = (omega arith, (omega arith, (omega arith, (omega arith, tt)))) }; count = omega arith; locators = tt }, tt),
+  ),
+)
+
+pub foreign_whole : IsOnePart foreign
+unfolding cut cut_from written repeats_in masked
+foreign_whole = record { database = refl; there = omega arith; alone = refl; records = foreign_records }
+
+-- ---- Legal steps of the small network.
 
 -- a router that saves each nonce by itself
 pub block_of_one : (nonce : ℕ) → nonce ≤ last_nonce → block_end nonce 1 ≡ nonce

@@ -2,9 +2,8 @@
 use Rattle.std.proofs.Common.{Some, arith, inl, refl}
 use Rattle.lisp_model.specs.Legal.{LegalTrace}
 use Rattle.lisp_model.specs.Story.{one_counted, opening, replay_refused, server_restarted, six_steps}
-use Rattle.lisp_model.proofs.Examples.Wholes.{wide_whole}
+use Rattle.lisp_model.proofs.Examples.Steps.{wide_whole, replays_legal, restarts_legal, sends_legal}
 use Rattle.lisp_model.proofs.Examples.LegalRows.{acceptance}
-use Rattle.lisp_model.proofs.Examples.Steps.{replays_legal, restarts_legal, sends_legal}
 use Rattle.lisp_model.proofs.KeptLemmas.{empty_full, set_full}
 use Rattle.lisp_model.proofs.ContextLemmas.{set_value}
 use Rattle.lisp_records.specs.Parts.{cut, cut_from}

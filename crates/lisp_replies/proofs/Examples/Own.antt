@@ -1,5 +1,5 @@
 -- What a router sends over its database.
-use Rattle.std.proofs.Common.{List, [], ◌∷◌, Some, None, inl, inr, arith, false, true, refl, sym, ap, ◌∙◌, subst, true≢false, ℕ, ◌≤◌, ◌≡◌}
+use Rattle.std.proofs.Common.{[], List, ◌∷◌, Some, None, inl, inr, arith, false, true, refl, sym, ap, ◌∙◌, subst, true≢false, ℕ, ◌≤◌, ◌≡◌}
 use Rattle.std.specs.List.{Contains}
 use Rattle.lisp_records.specs.declared.locator.Locator.{Locator}
 use Rattle.lisp_records.specs.Address.{PrefixValue, covers, holds, masked, prefix_around, prefix_eq}

@@ -1,8 +1,7 @@
-use Rattle.std.proofs.Common.{length}
-use Rattle.lisp_check.specs.Warning.{of_prefix, of_each}
-use Rattle.lisp_check.specs.Adding.{AddsThose}
+use Rattle.std.proofs.Common.{◌≡◌, ◌++◌, drop}
+use Rattle.lisp_check.specs.Warning.{each, each_from, of_prefix}
 use Rattle.lisp_check.proofs.prefixes.warn_of_prefixes.Given as goal
 
--- the warnings of the prefixes so far were added
+-- those that were added, and those that are left
 abbrev pub invariant-loop-place : goal.invariant-loop-place
-invariant-loop-place g l = AddsThose l.config (of_each (of_prefix (length l.config.sites) l.site) l.place) l.fn.warnings.items l.warnings.items
+invariant-loop-place g l = l.warnings.items ++ each_from (of_prefix l.sites l.site l.id) l.place (drop l.place l.prefixes) ≡ l.fn.warnings.items ++ each (of_prefix l.sites l.site l.id) l.prefixes

@@ -1,19 +1,9 @@
-use Rattle.std.proofs.Common.{◌≡◌, length, arith, sym}
-use Rattle.lisp_check.proofs.Added.{adds_none}
-use Rattle.lisp_check.proofs.RouterWarnings.{adds_record, adds_records, adds_no_record}
+use Rattle.lisp_check.specs.Warning.{of_record}
+use Rattle.lisp_check.proofs.Each.{each_next, each_done}
 use Rattle.lisp_check.proofs.routers.warn_of_records.Goals as goal
 
-pub loop-place-init : goal.loop-place-init
-loop-place-init g c = adds_none c.args.config.now _
-
 pub loop-place-preserved : goal.loop-place-preserved
-loop-place-preserved g c =
-    adds_record c.args.config.now c.args.router c.in-Some.entry.now (sym c.in-Some.ensures) _ _ _ _ c.loop-place.place c.is_refused.result c.is_out_of_bounds.result c.is_refused.ensures c.is_out_of_bounds.ensures c.loop-place.invariant c.in_ok-warn_if.ensures.added c.in_ok-warn_if-2.ensures.added
-
-pub returns-in_default-clause-added : goal.returns-in_default-clause-added
-returns-in_default-clause-added g c = adds_no_record c.args.config.now c.args.router (sym c.in_default.ensures) _
+loop-place-preserved g c = each_next (of_record c.args.sites.now c.args.router c.args.entry.now) c.args.records.now _ c.loop-place.place c.index-records-place.result _ _ c.loop-place-test.true c.index-records-place.is c.loop-place.invariant c.in_ok-warn_of_record.ensures.added
 
 pub returns-clause-added : goal.returns-clause-added
-returns-clause-added g c =
-    let all : c.loop-place.place ≡ length c.in-Some.entry.now.database = omega (arith, c.record_count-place-end.ensures, c.loop-place-test.false, c.loop-place.auto.place-end) in
-    adds_records c.args.config.now c.args.router c.in-Some.entry.now (sym c.in-Some.ensures) _ _ c.loop-place.place all c.loop-place.invariant
+returns-clause-added g c = each_done (of_record c.args.sites.now c.args.router c.args.entry.now) c.args.records.now _ c.loop-place.place _ c.loop-place-test.false c.loop-place.invariant

@@ -1,16 +1,9 @@
-use Rattle.std.proofs.Common.{◌≡◌, length, arith, ap}
 use Rattle.lisp_check.specs.Warning.{of_router}
-use Rattle.lisp_check.proofs.Added.{adds_none, adds_more, adds_all}
+use Rattle.lisp_check.proofs.Each.{each_next, each_done}
 use Rattle.lisp_check.proofs.routers.warn_of_routers.Goals as goal
 
-pub loop-place-init : goal.loop-place-init
-loop-place-init g c = adds_none c.args.config.now _
-
 pub loop-place-preserved : goal.loop-place-preserved
-loop-place-preserved g c = adds_more c.args.config.now (of_router c.args.config.now.routers) _ _ _ c.loop-place.place c.loop-place.invariant c.in_ok-warn_of_router.ensures.added
+loop-place-preserved g c = each_next (of_router c.args.config.now) c.args.routers.now _ c.loop-place.place c.index-routers-place.result _ _ c.loop-place-test.true c.index-routers-place.is c.loop-place.invariant c.in_ok-warn_of_router.ensures.added
 
 pub returns-clause-added : goal.returns-clause-added
-returns-clause-added g c =
-    let long = ap length c.routers-place-end.ensures.routers in
-    let all : c.loop-place.place ≡ length c.args.config.now.routers = omega (arith, long, c.loop-place-test.false, c.loop-place.auto.place-end) in
-    adds_all c.args.config.now (of_router c.args.config.now.routers) _ _ c.loop-place.place (length c.args.config.now.routers) all c.loop-place.invariant
+returns-clause-added g c = each_done (of_router c.args.config.now) c.args.routers.now _ c.loop-place.place _ c.loop-place-test.false c.loop-place.invariant

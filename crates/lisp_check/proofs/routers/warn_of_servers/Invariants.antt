@@ -1,8 +1,7 @@
-use Rattle.std.proofs.Common.{map, take}
-use Rattle.lisp_check.specs.declared.warning.Warning.TheVariants.{OtherFamily}
-use Rattle.lisp_check.specs.Adding.{AddsThose}
+use Rattle.std.proofs.Common.{◌≡◌, ◌++◌, drop}
+use Rattle.lisp_check.specs.Warning.{each, each_from, of_server}
 use Rattle.lisp_check.proofs.routers.warn_of_servers.Given as goal
 
--- the warnings of the Map-Servers so far were added
+-- those that were added, and those that are left
 abbrev pub invariant-loop-place : goal.invariant-loop-place
-invariant-loop-place g l = AddsThose l.config (map (λ s. OtherFamily l.router s) (take l.place-index l.entry.servers)) l.fn.warnings.items l.warnings.items
+invariant-loop-place g l = l.warnings.items ++ each_from (of_server l.servers l.router l.entry) l.place-index (drop l.place-index l.places) ≡ l.fn.warnings.items ++ each (of_server l.servers l.router l.entry) l.places

@@ -1,5 +1,5 @@
 use Rattle.lisp_replies.specs.Own.{IsOwnReply}
-use Rattle.lisp_resolve.specs.declared.replier.Replier.TheVariants.{Router}
+use Rattle.lisp_mapping.specs.declared.replier.Replier.TheVariants.{Router}
 use Rattle.lisp_embedded.proofs.Replies.{says}
 use Rattle.lisp_embedded.proofs.replying.router_reply_of.Goals as goal
 

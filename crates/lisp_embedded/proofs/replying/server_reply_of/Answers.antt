@@ -1,6 +1,6 @@
 use Rattle.std.proofs.Common.{false}
 use Rattle.lisp_replies.specs.Reply.{IsReply}
-use Rattle.lisp_resolve.specs.declared.replier.Replier.TheVariants.{MapServer}
+use Rattle.lisp_mapping.specs.declared.replier.Replier.TheVariants.{MapServer}
 use Rattle.lisp_embedded.proofs.Replies.{says}
 use Rattle.lisp_embedded.proofs.replying.server_reply_of.Goals as goal
 

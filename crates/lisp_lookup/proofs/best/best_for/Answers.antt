@@ -5,7 +5,7 @@ use Rattle.lisp_lookup.specs.Covering.{may_answer_for}
 use Rattle.lisp_lookup.specs.Index.{IsFirstOf}
 use Rattle.lisp_lookup.specs.Inside.{is_inside, HasNoRow}
 use Rattle.lisp_lookup.proofs.BestLaws.{for_length, found_longest, missed_longest}
-use Rattle.lisp_lookup.proofs.CoveringLaws.{itself_around, missed_none, wider_has}
+use Rattle.lisp_lookup.proofs.InsideLaws.{itself_around, missed_none, wider_has}
 use Rattle.lisp_lookup.proofs.best.best_for.Goals.{then-may_have_row+else-is_some-2, else-may_have_row}
 use Rattle.lisp_lookup.proofs.best.best_for.Goals as goal
 

@@ -1,9 +1,7 @@
 use Rattle.std.proofs.Common.{◌≡◌, ◌+◌, ◌<◌, ◌≤◌, ℕ, true}
 use Rattle.std.specs.List.{Contains}
-use Rattle.lisp_records.specs.Address.{prefix_around}
-use Rattle.lisp_records.specs.Row.{RowValue}
-use Rattle.lisp_lookup.specs.Covering.{may_answer_for}
-use Rattle.lisp_lookup.specs.Index.{IsFirstOf}
+use Rattle.lisp_records.specs.{Address.prefix_around, Row.RowValue}
+use Rattle.lisp_lookup.specs.{Covering.may_answer_for, Index.IsFirstOf}
 use Rattle.lisp_lookup.proofs.best.best_for.Given as goal
 
 -- the masks of the rows that may answer are shorter than those that were gone through, of which one was sought last

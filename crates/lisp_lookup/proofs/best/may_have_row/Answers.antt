@@ -2,7 +2,7 @@ use Rattle.std.proofs.Common.{◌<◌, length, sym, ap, ◌∙◌, subst, arith}
 use Rattle.lisp_records.specs.Address.{PrefixValue, IsPrefix, IsWhole, covers}
 use Rattle.lisp_records.specs.Row.{RowValue}
 use Rattle.lisp_lookup.specs.Index.{row_prefix_cmp}
-use Rattle.lisp_lookup.proofs.CoveringLaws.{none_before, none_first}
+use Rattle.lisp_lookup.proofs.InsideLaws.{none_before, none_first}
 use Rattle.lisp_lookup.proofs.IndexLaws.{below_most, number_within, row_read}
 use Rattle.lisp_lookup.proofs.best.may_have_row.Goals as goal
 

@@ -1,5 +1,5 @@
 use Rattle.std.proofs.Common.{◌+◌, ◌-◌, ◌/◌, length, sym, arith}
-use Rattle.lisp_lookup.proofs.FindLaws.{cost_look, before_too, after_too}
+use Rattle.lisp_lookup.proofs.IndexLaws.{cost_look, before_too, after_too}
 use Rattle.lisp_lookup.proofs.find.find.Goals as goal
 
 pub loop-size-preserved-then-is_after : goal.loop-size-preserved-then-is_after

@@ -1,7 +1,7 @@
 use Rattle.std.proofs.Common.{◌≡◌, ℕ, ◌+◌, ◌-◌, ◌<◌, ◌≤◌, true, false, length}
 use Rattle.lisp_records.specs.Row.{RowValue}
 use Rattle.lisp_lookup.specs.Index.{is_before, row_at_place}
-use Rattle.lisp_lookup.proofs.FindLaws.{Cost}
+use Rattle.lisp_lookup.proofs.IndexLaws.{Cost}
 use Rattle.lisp_lookup.proofs.find.find.Given as goal
 
 abbrev pub invariant-loop-size : goal.invariant-loop-size

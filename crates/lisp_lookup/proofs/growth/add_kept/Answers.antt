@@ -1,9 +1,7 @@
 use Rattle.std.proofs.Common.{true, inl, inr, sym, ap, ◌∙◌, subst}
 use Rattle.std.specs.BTreeSet.{BTreeSet, Updates}
-use Rattle.lisp_records.specs.Router.{router_cmp}
-use Rattle.lisp_records.specs.Row.{RowValue}
-use Rattle.lisp_records.specs.declared.router.RouterId.{RouterId}
-use Rattle.lisp_lookup.proofs.SettingLaws.{add_kept_next}
+use Rattle.lisp_records.specs.{Router.router_cmp, Row.RowValue, declared.router.RouterId.RouterId}
+use Rattle.lisp_lookup.proofs.GrowthLaws.{add_kept_next}
 use Rattle.lisp_lookup.proofs.growth.add_kept.Goals.{then-stays_live+in_ok-try_insert, else-stays_live}
 use Rattle.lisp_lookup.proofs.growth.add_kept.Goals as goal
 

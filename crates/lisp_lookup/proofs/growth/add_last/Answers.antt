@@ -1,9 +1,7 @@
 use Rattle.std.proofs.Common.{true, inl, sym, ap, ◌∙◌, subst}
 use Rattle.std.specs.BTreeSet.{Updates}
-use Rattle.lisp_records.specs.Router.{router_cmp}
-use Rattle.lisp_records.specs.Row.{RowValue}
-use Rattle.lisp_records.specs.declared.router.RouterId.{RouterId}
-use Rattle.lisp_lookup.proofs.SettingLaws.{add_last_next}
+use Rattle.lisp_records.specs.{Router.router_cmp, Row.RowValue, declared.router.RouterId.RouterId}
+use Rattle.lisp_lookup.proofs.GrowthLaws.{add_last_next}
 use Rattle.lisp_lookup.proofs.growth.add_last.Goals as goal
 
 pub loop-row-preserved-in_ok-try_insert : goal.loop-row-preserved-in_ok-try_insert

@@ -1,7 +1,6 @@
 use Rattle.std.proofs.Common.{◌≡◌, ◌||◌, length}
 use Rattle.std.specs.BTreeSet.{contains}
-use Rattle.lisp_records.specs.Router.{router_cmp}
-use Rattle.lisp_records.specs.declared.router.RouterId.{RouterId}
+use Rattle.lisp_records.specs.{Router.router_cmp, declared.router.RouterId.RouterId}
 use Rattle.lisp_lookup.specs.Setting.{has_router, last_rows}
 use Rattle.lisp_lookup.proofs.growth.add_last.Given as goal
 

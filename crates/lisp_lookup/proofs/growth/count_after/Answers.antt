@@ -1,4 +1,4 @@
-use Rattle.lisp_lookup.proofs.SettingLaws.{count_after}
+use Rattle.lisp_lookup.proofs.GrowthLaws.{count_after}
 use Rattle.lisp_lookup.proofs.growth.count_after.Goals as goal
 
 pub returns : goal.returns

@@ -1,5 +1,5 @@
 use Rattle.std.proofs.Common.{inr, refl, sym, ◌∙◌, arith}
-use Rattle.lisp_lookup.proofs.SettingLaws.{count_last_next}
+use Rattle.lisp_lookup.proofs.GrowthLaws.{count_last_next}
 use Rattle.lisp_lookup.proofs.growth.count_last.Goals as goal
 
 pub loop-row-preserved : goal.loop-row-preserved

@@ -1,5 +1,5 @@
 use Rattle.std.proofs.Common.{sym}
-use Rattle.lisp_lookup.proofs.HoleLaws.{hole_is, hole_of, none_of}
+use Rattle.lisp_lookup.proofs.SitesLaws.{hole_is, hole_of, none_of}
 use Rattle.lisp_lookup.proofs.hole.hole.Goals as goal
 
 pub returns : goal.returns

@@ -2,7 +2,7 @@ use Rattle.std.proofs.Common.{◌≡◌, ◌+◌, ◌-◌, ◌*◌, ◌/◌, ℕ
 use Rattle.lisp_records.specs.Address.{max_len, prefix_around, width}
 use Rattle.lisp_records.specs.declared.address.Family.{Family}
 use Rattle.lisp_lookup.specs.Hole.{IsEmptyIn}
-use Rattle.lisp_lookup.proofs.HoleLaws.{empty_alone, wider_up}
+use Rattle.lisp_lookup.proofs.SitesLaws.{empty_alone, wider_up}
 use Rattle.lisp_lookup.proofs.hole.widest_empty.Goals as goal
 
 pub loop-low-init : goal.loop-low-init

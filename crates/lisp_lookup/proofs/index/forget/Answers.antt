@@ -1,5 +1,5 @@
 use Rattle.std.proofs.Common.{◌-◌, length, sym, arith}
-use Rattle.lisp_lookup.proofs.RemovalLaws.{without_last, without}
+use Rattle.lisp_lookup.proofs.IndexLaws.{without_last, without}
 use Rattle.lisp_lookup.proofs.index.forget.Goals as goal
 
 pub returns-then-number-last : goal.returns-then-number-last

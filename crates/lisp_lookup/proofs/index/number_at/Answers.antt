@@ -1,7 +1,6 @@
 use Rattle.std.proofs.Common.{refl, sym, ap, ◌∙◌, arith}
 use Rattle.std.proofs.lemmas.List.{get_or_read}
-use Rattle.lisp_lookup.specs.Table.{is_row_of}
-use Rattle.lisp_lookup.specs.Index.{row_prefix_cmp}
+use Rattle.lisp_lookup.specs.{Table.is_row_of, Index.row_prefix_cmp}
 use Rattle.lisp_lookup.proofs.IndexLaws.{number_within, row_read, some_is_found}
 use Rattle.lisp_lookup.proofs.PutLaws.{found_here}
 use Rattle.lisp_lookup.proofs.index.number_at.Goals as goal

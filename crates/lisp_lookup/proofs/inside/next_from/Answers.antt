@@ -2,8 +2,7 @@ use Rattle.std.proofs.Common.{◌<◌, ◌≤◌, length, Some, None, sym, ap, �
 use Rattle.lisp_records.specs.Address.{PrefixValue, IsPrefix, IsWhole, holds}
 use Rattle.lisp_records.specs.declared.address.Addr.{Addr}
 use Rattle.lisp_records.specs.Row.{RowValue}
-use Rattle.lisp_lookup.specs.Answer.{IsBestOfPrefix}
-use Rattle.lisp_lookup.specs.Index.{row_prefix_cmp}
+use Rattle.lisp_lookup.specs.{Answer.IsBestOfPrefix, Index.row_prefix_cmp}
 use Rattle.lisp_lookup.proofs.IndexLaws.{row_read}
 use Rattle.lisp_lookup.proofs.InsideLaws.{found_inside, inside_run, is_hit, none_hit, none_sought, one_more, own_best, stopped, walk_goes}
 use Rattle.lisp_lookup.proofs.inside.next_from.Goals as goal

@@ -1,6 +1,5 @@
 use Rattle.std.proofs.Common.{inl, inr, sym, ap, ◌+◌, ◌∙◌, length, arith}
-use Rattle.lisp_records.specs.Row.{RowValue}
-use Rattle.lisp_records.specs.Written.{written}
+use Rattle.lisp_records.specs.{Row.RowValue, Written.written}
 use Rattle.lisp_lookup.proofs.LiveLaws.{counts_next, counts_all, too_large, fits}
 use Rattle.lisp_lookup.proofs.live.count_live.Goals.{then-is_live_of, else-is_live_of, then-count-gt-MAX_RECORDS-via-then-count-gt-MAX_RECORDS, then-count-gt-MAX_RECORDS-via-else-count-gt-MAX_RECORDS+then-size-gt-MAX_SIZE}
 use Rattle.lisp_lookup.proofs.live.count_live.Goals as goal

@@ -1,7 +1,7 @@
 use Rattle.std.proofs.Common.{◌++◌, length, ◌∷◌, [], inl, inr, sym, ap, ◌∙◌, arith}
-use Rattle.std.specs.List.{filter}
 use Rattle.std.proofs.lemmas.List.{take_all}
 use Rattle.std.proofs.lemmas.Result.{IfOk-from_err}
+use Rattle.std.specs.List.{filter}
 use Rattle.lisp_records.specs.Row.{RowValue, is_alive}
 use Rattle.lisp_records.proofs.Grown.{on_err}
 use Rattle.lisp_lookup.proofs.LiveLaws.{rows_next, none_passes}

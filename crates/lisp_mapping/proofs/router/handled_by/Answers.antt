@@ -2,7 +2,7 @@ use Rattle.std.proofs.Common.{List, Option, ap, ◌∙◌, subst}
 use Rattle.lisp_records.specs.declared.address.Addr.{Addr}
 use Rattle.lisp_records.specs.Address.{PrefixValue}
 use Rattle.lisp_replies.specs.Own.{IsOwnReply}
-use Rattle.lisp_resolve.specs.Asked.{AskedValue}
+use Rattle.lisp_mapping.specs.Asked.{AskedValue}
 use Rattle.lisp_mapping.specs.Handling.{RepliesEach, probed}
 use Rattle.lisp_mapping.proofs.HandlingLaws.{is_handled}
 use Rattle.lisp_mapping.proofs.router.handled_by.Goals as goal

@@ -2,7 +2,7 @@ use Rattle.std.proofs.Common.{sym, ap, ◌∙◌}
 use Rattle.lisp_records.specs.declared.address.Family.{Family}
 use Rattle.lisp_records.specs.Address.{family}
 use Rattle.lisp_replies.specs.Own.{IsOwnReply}
-use Rattle.lisp_resolve.specs.Asked.{router_asked}
+use Rattle.lisp_mapping.specs.Asked.{router_asked}
 use Rattle.lisp_mapping.specs.Handling.{probed}
 use Rattle.lisp_mapping.proofs.HandlingLaws.{handles}
 use Rattle.lisp_mapping.proofs.router.router_handles.Goals as goal

@@ -1,7 +1,7 @@
 use Rattle.std.proofs.Common.{List, ap, ◌∙◌, subst}
 use Rattle.lisp_records.specs.Address.{PrefixValue}
 use Rattle.lisp_replies.specs.Reply.{IsReply}
-use Rattle.lisp_resolve.specs.Asked.{AskedValue}
+use Rattle.lisp_mapping.specs.Asked.{AskedValue}
 use Rattle.lisp_mapping.specs.Handling.{RepliesEach}
 use Rattle.lisp_mapping.proofs.HandlingLaws.{is_handled}
 use Rattle.lisp_mapping.proofs.server.handled_at.Goals as goal

@@ -1,6 +1,6 @@
 use Rattle.lisp_replies.specs.Reply.{IsReply}
-use Rattle.lisp_resolve.specs.Asked.{encapsulated_asked}
-use Rattle.lisp_resolve.specs.declared.replier.Replier.TheVariants.{MapServer}
+use Rattle.lisp_mapping.specs.Asked.{encapsulated_asked}
+use Rattle.lisp_mapping.specs.declared.replier.Replier.TheVariants.{MapServer}
 use Rattle.lisp_mapping.proofs.HandlingLaws.{handles}
 use Rattle.lisp_mapping.proofs.server.server_handles.Goals as goal
 

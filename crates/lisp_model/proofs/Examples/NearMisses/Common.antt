@@ -1,5 +1,5 @@
 -- What the near misses have in common.
-use Rattle.std.proofs.Common.{List, None, Ok, Option, Some, [], ap, false, refl, subst, sym, true, ℕ, ◌∙◌, ◌∷◌, ◌≡◌}
+use Rattle.std.proofs.Common.{[], List, None, Ok, Option, Some, ap, false, refl, subst, sym, true, ℕ, ◌∙◌, ◌∷◌, ◌≡◌}
 use Rattle.std.specs.FinMap.{insert}
 use Rattle.std.specs.List.{Contains}
 use Rattle.std.specs.Prelude.{Err, Result}
@@ -17,8 +17,8 @@ use Rattle.lisp_admission.specs.declared.refused.Refused.{Refused}
 use Rattle.lisp_model.specs.Bag.{Item, register_item}
 use Rattle.lisp_model.specs.Held.{Acceptance}
 use Rattle.lisp_model.specs.Timers.{Notice}
-use Rattle.lisp_model.proofs.Examples.Arrivals.{fits}
 use Rattle.lisp_model.specs.Story.{mapping, opening, wide}
+use Rattle.lisp_model.proofs.Examples.Steps.{fits}
 use Rattle.lisp_model.proofs.Examples.Samples.{registers}
 use Rattle.lisp_model.proofs.KeptLemmas.{only_value, set_here}
 

@@ -1,5 +1,5 @@
 use Rattle.lisp_model.proofs.laws.notices_differ.Goals as goal
-use Rattle.lisp_model.proofs.NoticeNonces.{notices_differ}
+use Rattle.lisp_model.proofs.NoticeRising.{notices_differ}
 
 pub returns : goal.returns
 returns c = notices_differ

@@ -1,7 +1,7 @@
 use Rattle.std.proofs.Common.{ℕ, ◌-◌, ◌<◌, List, length, get_or, ◌++◌, arith, inl, inr, sym, subst, ap, ◌∙◌}
-use borrow.Author.Rules.{scaled_Fits}
-use Rattle.std.specs.Prelude.{slice_get, slice_set}
 use Rattle.std.proofs.lemmas.Option.{slice_get-get_or}
+use Rattle.std.specs.Prelude.{slice_get, slice_set}
+use borrow.Author.Rules.{scaled_Fits}
 use Rattle.lisp_refinement.specs.Calls.{NodeReceives}
 use Rattle.lisp_refinement.specs.Events.{address_of, datagram_to, server_line}
 use Rattle.lisp_refinement.specs.World.{ServerNodeState, RouterNodeState}

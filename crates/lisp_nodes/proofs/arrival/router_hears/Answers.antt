@@ -1,5 +1,5 @@
 use Rattle.std.proofs.Common.{sym}
-use Rattle.lisp_nodes.proofs.ArrivalCalls.{hears_at, router_tells}
+use Rattle.lisp_nodes.proofs.NodeCalls.{hears_at, router_tells}
 use Rattle.lisp_nodes.proofs.arrival.router_hears.Goals as goal
 
 pub returns-clause-hears : goal.returns-clause-hears

@@ -1,4 +1,4 @@
-use Rattle.lisp_nodes.proofs.ArrivalCalls.{server_tells}
+use Rattle.lisp_nodes.proofs.NodeCalls.{server_tells}
 use Rattle.lisp_nodes.proofs.arrival.server_hears.Goals as goal
 
 pub returns-clause-hears : goal.returns-clause-hears

@@ -1,4 +1,4 @@
-use Rattle.lisp_nodes.proofs.KeyLists.{alone}
+use Rattle.lisp_nodes.proofs.NodeCalls.{alone}
 use Rattle.lisp_nodes.proofs.used_keys.only.Goals as goal
 
 pub returns-clause-alone : goal.returns-clause-alone

@@ -1,8 +1,9 @@
 use Rattle.std.proofs.Common.{string_bytes}
-use Rattle.lisp_picture.specs.Ladder.{AddsEvents}
-use Rattle.lisp_picture.specs.Picture.{texts_of}
+use Rattle.lisp_picture.specs.declared.drawing.Form.TheVariants.{Text}
+use Rattle.lisp_picture.specs.Picture.{AddsElements, AddsLines, texts_of}
 use Rattle.lisp_picture.proofs.ladder.put_events.Given as goal
 
--- the events so far were appended
+-- the elements so far were appended
 abbrev pub invariant-loop-place : goal.invariant-loop-place
-invariant-loop-place g l = AddsEvents (texts_of l.history.outcomes.items) l.place (string_bytes l.fn.text) (string_bytes l.text)
+invariant-loop-place g l = AddsElements Text (texts_of l.history.outcomes.items) l.place (string_bytes l.fn.text) (string_bytes l.text)
+    × AddsLines (string_bytes l.fn.text) (string_bytes l.text)

@@ -1,7 +1,7 @@
 use Rattle.std.proofs.Common.{take, ◌++◌}
 use Rattle.std.specs.List.{flat_map}
 use Rattle.std.specs.Io.KnownBytes.{Appends}
-use Rattle.lisp_refusals.specs.Document.{section_head, row_line}
+use Rattle.lisp_refusals.specs.Table.{section_head, row_line}
 use Rattle.lisp_refusals.proofs.document.write_section.Given as goal
 
 -- what was written so far

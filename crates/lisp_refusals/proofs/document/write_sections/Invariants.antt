@@ -1,7 +1,7 @@
 use Rattle.std.proofs.Common.{take}
 use Rattle.std.specs.List.{flat_map}
 use Rattle.std.specs.Io.KnownBytes.{Appends}
-use Rattle.lisp_refusals.specs.Document.{section_document}
+use Rattle.lisp_refusals.specs.Table.{section_document}
 use Rattle.lisp_refusals.proofs.document.write_sections.Given as goal
 
 -- what was written so far

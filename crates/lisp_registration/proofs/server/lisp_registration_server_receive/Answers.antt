@@ -1,6 +1,6 @@
 use Rattle.std.proofs.Common.{sym, ◌∙◌, arith}
 use Rattle.lisp_registration.specs.Server.{kept_in}
-use Rattle.lisp_registration.proofs.Serving.{is_received}
+use Rattle.lisp_registration.proofs.Telling.{is_received}
 use Rattle.lisp_registration.proofs.server.lisp_registration_server_receive.Goals as goal
 
 pub returns-in-Some-clause-received : goal.returns-in-Some-clause-received

@@ -2,7 +2,7 @@ use Rattle.std.proofs.lemmas.Str.{is_utf8-from_IsUtf8}
 use Rattle.std.proofs.Common.{Err, refl, sym, ap, subst, ◌∙◌}
 use Rattle.lisp_registration.specs.Starting.{Comes, configured}
 use Rattle.lisp_registration.specs.Starting.Asked.{it_may}
-use Rattle.lisp_registration.specs.declared.node_fault.NodeFault.TheVariants.{Configuration}
+use Rattle.lisp_registration.specs.declared.fault.NodeFault.TheVariants.{Configuration}
 use Rattle.lisp_registration.proofs.Configured.{fails_so, is_read, not_text}
 use Rattle.lisp_registration.proofs.starting.read.Goals as goal
 

@@ -1,5 +1,5 @@
 use Rattle.std.proofs.Common.{ℕ, Ok, Err, ap, ◌∙◌}
-use Rattle.lisp_registration.proofs.Datagrams.{is_full, is_written}
+use Rattle.lisp_registration.proofs.Buffers.{is_full, is_written}
 use Rattle.lisp_registration.proofs.writing.put_written.Goals as goal
 
 pub returns-then-put-clause-written : goal.returns-then-put-clause-written

@@ -2,7 +2,7 @@ use Rattle.std.proofs.Common.{◌≡◌, ◌+◌, ◌-◌, ◌/◌, ℕ, sym, ap
 use Rattle.lisp_records.specs.Row.{RowValue}
 use Rattle.lisp_records.specs.Address.{PrefixValue, prefix_around}
 use Rattle.lisp_replies.specs.Narrowing.{FitFor, NoneFitFor}
-use Rattle.lisp_replies.proofs.NarrowingLaws.{of_found, none_found, wider_up, nowhere_at, own_is_less, widest_at}
+use Rattle.lisp_replies.proofs.FitLaws.{of_found, none_found, wider_up, nowhere_at, own_is_less, widest_at}
 use Rattle.lisp_replies.proofs.narrowing.widest_records.Goals as goal
 
 pub returns-in_default-clause-nowhere : goal.returns-in_default-clause-nowhere

@@ -1,6 +1,6 @@
 use Rattle.std.proofs.Common.{◌+◌, ◌-◌, ◌/◌, sym, ap, ◌∙◌, arith}
 use Rattle.lisp_records.specs.Address.{PrefixValue}
-use Rattle.lisp_replies.proofs.OwnFitLaws.{few_bits, nowhere_is, some_inside, wider_next}
+use Rattle.lisp_replies.proofs.OwnHoleLaws.{few_bits, nowhere_is, some_inside, wider_next}
 use Rattle.lisp_replies.proofs.own_narrowing.widest_that_fits.Goals as goal
 
 pub overflow_add-low : goal.overflow_add-low

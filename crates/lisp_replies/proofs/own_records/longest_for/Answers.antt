@@ -1,8 +1,8 @@
 use Rattle.std.proofs.Common.{inl, inr, List, take, sym, ap, ◌∙◌, subst}
-use Rattle.std.specs.List.{All}
-use Rattle.std.specs.Option.{option_map}
 use Rattle.std.proofs.lemmas.List.{take_all}
 use Rattle.std.proofs.lemmas.List.Elements.{All-push}
+use Rattle.std.specs.List.{All}
+use Rattle.std.specs.Option.{option_map}
 use Rattle.lisp_records.specs.Address.{PrefixValue, IsPrefix, covers}
 use Rattle.lisp_records.specs.Record.{MapRecordValue}
 use Rattle.lisp_replies.specs.Own.{IsLongestForOf}

@@ -1,7 +1,6 @@
 use Rattle.std.proofs.Common.{◌≡◌, ◌∷◌, inl, inr, List, map, take, sym, ap, ◌∙◌}
 use Rattle.std.proofs.lemmas.List.{take_all}
-use Rattle.lisp_records.specs.Address.{PrefixValue}
-use Rattle.lisp_records.specs.Record.{MapRecordValue}
+use Rattle.lisp_records.specs.{Address.PrefixValue, Record.MapRecordValue}
 use Rattle.lisp_lookup.specs.Inside.{is_inside}
 use Rattle.lisp_replies.specs.Own.{own_inside, own_record}
 use Rattle.lisp_replies.proofs.OwnWalkLaws.{inside_step, records_next}

@@ -1,8 +1,7 @@
 use Rattle.std.proofs.Common.{ℕ, ◌+◌, min, Some, None, sym, ap, ◌∙◌, subst}
-use Rattle.lisp_records.specs.Address.{IsPrefix}
-use Rattle.lisp_records.specs.Row.{RowValue}
+use Rattle.lisp_records.specs.{Address.IsPrefix, Row.RowValue}
 use Rattle.lisp_lookup.proofs.InsideLaws.{is_wider}
-use Rattle.lisp_replies.proofs.WalkLaws.{IsWalked, goes_behind, shows_next, walked_none, walked_more, walked_many, walked_all}
+use Rattle.lisp_replies.proofs.SeenLaws.{IsWalked, goes_behind, shows_next, walked_none, walked_more, walked_many, walked_all}
 use Rattle.lisp_replies.proofs.records.least_ttl.Goals as goal
 
 pub loop-row-init : goal.loop-row-init

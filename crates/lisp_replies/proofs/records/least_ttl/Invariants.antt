@@ -1,6 +1,6 @@
 use Rattle.std.proofs.Common.{◌≡◌, ◌-◌}
 use Rattle.lisp_records.specs.Address.{PrefixValue}
-use Rattle.lisp_replies.proofs.WalkLaws.{IsWalked}
+use Rattle.lisp_replies.proofs.SeenLaws.{IsWalked}
 use Rattle.lisp_replies.proofs.records.least_ttl.Given as goal
 
 -- the walk is behind a prefix, and up to there all was seen

@@ -1,11 +1,10 @@
 use Rattle.std.proofs.Common.{◌≡◌, ◌∷◌, List, false, refl, ◌∙◌, subst}
 use Rattle.std.proofs.lemmas.Result.{IfOk-weaker}
-use Rattle.lisp_records.specs.Parts.{fits_message}
-use Rattle.lisp_records.specs.Row.{RowValue}
+use Rattle.lisp_records.specs.{Parts.fits_message, Row.RowValue}
 use Rattle.lisp_lookup.specs.Inside.{AreInside, InsideValue}
 use Rattle.lisp_lookup.specs.Replies.{IsLeastTtl}
 use Rattle.lisp_replies.specs.Walk.{HasMoreThan, records_of}
-use Rattle.lisp_replies.proofs.WalkLaws.{many_unfit, unfit_for}
+use Rattle.lisp_replies.proofs.SeenLaws.{many_unfit, unfit_for}
 use Rattle.lisp_replies.proofs.records.records_for.Goals as goal
 
 pub returns-in-Some-clause-unfit : goal.returns-in-Some-clause-unfit

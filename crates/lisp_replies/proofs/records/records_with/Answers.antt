@@ -1,12 +1,12 @@
-use Rattle.std.proofs.Common.{◌≡◌, ◌⊎◌, inl, inr, ◌+◌, ◌<◌, List, Some, None, [], ◌∷◌, ◌++◌, length, ap, sym, ◌∙◌, subst, arith, length-append}
+use Rattle.std.proofs.Common.{[], ◌≡◌, ◌⊎◌, inl, inr, ◌+◌, ◌<◌, List, Some, None, ◌∷◌, ◌++◌, length, ap, sym, ◌∙◌, subst, arith, length-append}
 use Rattle.lisp_records.specs.Record.{MapRecordValue}
 use Rattle.lisp_records.specs.Row.{RowValue}
 use Rattle.lisp_records.specs.Address.{PrefixValue, IsPrefix}
-use Rattle.lisp_lookup.specs.Replies.{record_of}
 use Rattle.lisp_records.proofs.Cuts.{fits_is}
+use Rattle.lisp_lookup.specs.Replies.{record_of}
 use Rattle.lisp_lookup.proofs.CachedLaws.{its_eid}
 use Rattle.lisp_lookup.proofs.InsideLaws.{is_wider}
-use Rattle.lisp_replies.proofs.WalkLaws.{AreMade, goes_behind, shows_next, made_one, made_more, made_many, made_all}
+use Rattle.lisp_replies.proofs.SeenLaws.{AreMade, goes_behind, shows_next, made_one, made_more, made_many, made_all}
 use Rattle.lisp_replies.proofs.records.records_with.Goals as goal
 
 pub loop-row-init : goal.loop-row-init

@@ -1,6 +1,6 @@
 use Rattle.std.proofs.Common.{◌≡◌, ◌-◌, length}
 use Rattle.lisp_records.specs.Address.{PrefixValue}
-use Rattle.lisp_replies.proofs.WalkLaws.{AreMade}
+use Rattle.lisp_replies.proofs.SeenLaws.{AreMade}
 use Rattle.lisp_replies.proofs.records.records_with.Given as goal
 
 -- the walk is behind a prefix, and up to there the records were made

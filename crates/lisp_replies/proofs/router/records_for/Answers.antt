@@ -1,7 +1,7 @@
 use Rattle.std.proofs.Common.{inr, List, refl, sym, subst}
 use Rattle.lisp_records.specs.Record.{MapRecordValue}
 use Rattle.lisp_replies.specs.Own.{OwnRepliesWith}
-use Rattle.lisp_replies.proofs.OwnFitLaws.{none_inside, nowhere_sent, replies_with}
+use Rattle.lisp_replies.proofs.OwnHoleLaws.{none_inside, nowhere_sent, replies_with}
 use Rattle.lisp_replies.proofs.router.records_for.Goals as goal
 
 pub returns-in_default-widest_that_fits-clause-unanswered :

@@ -1,4 +1,4 @@
-use Rattle.lisp_replies.proofs.ServerLaws.{hole_there}
+use Rattle.lisp_replies.proofs.FitLaws.{hole_there}
 use Rattle.lisp_replies.proofs.server.negative.Goals as goal
 
 pub unwrap-requires : goal.unwrap-requires

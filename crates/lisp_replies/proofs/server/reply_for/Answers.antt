@@ -1,7 +1,6 @@
 use Rattle.std.proofs.Common.{inr, sym, ap, ◌∙◌}
 use Rattle.lisp_records.specs.Row.{RowValue}
-use Rattle.lisp_replies.proofs.NarrowingLaws.{of_found}
-use Rattle.lisp_replies.proofs.ServerLaws.{replies_for}
+use Rattle.lisp_replies.proofs.FitLaws.{of_found, replies_for}
 use Rattle.lisp_replies.proofs.server.reply_for.Goals as goal
 
 pub returns-in-Some-2-clause-reply : goal.returns-in-Some-2-clause-reply

@@ -4,7 +4,7 @@ use Rattle.lisp_records.specs.declared.address.Family.{Family}
 use Rattle.lisp_records.specs.Address.{PrefixValue, prefix_around, width}
 use Rattle.lisp_lookup.specs.Covering.{alone}
 use Rattle.lisp_replies.specs.Reply.{RepliesFor, RepliesNone}
-use Rattle.lisp_replies.proofs.NarrowingLaws.{of_found}
+use Rattle.lisp_replies.proofs.FitLaws.{of_found}
 use Rattle.lisp_replies.proofs.server.server_reply.Goals as goal
 
 pub returns-in-Some-2-clause-reply : goal.returns-in-Some-2-clause-reply

@@ -2,7 +2,7 @@ use Rattle.std.proofs.Common.{sym}
 use Rattle.std.proofs.lemmas.Iterator.Consumers.{YieldsList-at, YieldsList-from_enumerate, YieldsList-so_far, YieldsList-turn, YieldsList-end}
 use Rattle.std.proofs.lemmas.Iterator.Splits.{YieldsList-from_lines}
 use Rattle.std.specs.Str.Lines.{lines}
-use Rattle.lisp_script.proofs.Lines.{next_line, all_yielded}
+use Rattle.lisp_lemmas.proofs.NumberedLines.{next_line, all_yielded}
 use Rattle.lisp_script.proofs.Numbers.{none, one_more, as_many}
 use Rattle.lisp_script.proofs.line_numbers.command_lines.Goals as goal
 

@@ -1,7 +1,7 @@
 use Rattle.std.proofs.Common.{length, lit<, refl, sym, ap, ◌∙◌}
 use Rattle.std.proofs.lemmas.Iterator.Consumers.{YieldsList-at, YieldsList-turn, YieldsList-end}
 use Rattle.std.proofs.lemmas.Iterator.Splits.{YieldsList-from_str_split}
-use Rattle.lisp_script.proofs.Filled.{filled, left_out, some_filled}
+use Rattle.lisp_lemmas.proofs.Filled.{filled, left_out, some_filled}
 use Rattle.lisp_script.proofs.Numbers.{no_words, some_words}
 use Rattle.lisp_script.proofs.line_numbers.has_words.Goals as goal
 

@@ -1,5 +1,5 @@
 use Rattle.std.proofs.Common.{◌≡◌, [], map}
-use Rattle.lisp_script.proofs.Filled.{filled}
+use Rattle.lisp_lemmas.proofs.Filled.{filled}
 use Rattle.lisp_script.proofs.line_numbers.has_words.Given as goal
 
 -- the pieces so far are empty

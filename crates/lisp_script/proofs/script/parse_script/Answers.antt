@@ -6,7 +6,8 @@ use Rattle.std.specs.Str.Lines.{lines}
 use Rattle.lisp_script.specs.Command.{command_value}
 use Rattle.lisp_script.specs.Words.{words_of}
 use Rattle.lisp_script.specs.Answers.{MayRunOutIn}
-use Rattle.lisp_script.proofs.Lines.{in_none, goes_on, stops, runs_out, of_script, reaches, next_line, all_yielded}
+use Rattle.lisp_lemmas.proofs.NumberedLines.{next_line, all_yielded}
+use Rattle.lisp_script.proofs.Lines.{in_none, goes_on, stops, runs_out, of_script, reaches}
 use Rattle.lisp_script.proofs.script.parse_script.Goals as goal
 
 pub loop-place-init : goal.loop-place-init

@@ -3,7 +3,7 @@ use Rattle.std.proofs.lemmas.List.{map-append}
 use Rattle.std.proofs.lemmas.Iterator.Consumers.{YieldsList-at, YieldsList-turn, YieldsList-end}
 use Rattle.std.proofs.lemmas.Iterator.Splits.{YieldsList-from_str_split}
 use Rattle.std.proofs.lemmas.Result.{err_from_is_err_and}
-use Rattle.lisp_script.proofs.Filled.{filled, left_out, taken, some_filled}
+use Rattle.lisp_lemmas.proofs.Filled.{filled, left_out, taken, some_filled}
 use Rattle.lisp_script.proofs.words.words.Goals as goal
 
 pub returns-clause-value : goal.returns-clause-value

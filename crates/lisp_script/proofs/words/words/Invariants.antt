@@ -1,5 +1,5 @@
 use Rattle.std.proofs.Common.{◌≡◌, map}
-use Rattle.lisp_script.proofs.Filled.{filled}
+use Rattle.lisp_lemmas.proofs.Filled.{filled}
 use Rattle.lisp_script.proofs.words.words.Given as goal
 
 -- the words so far are those pieces so far that aren't empty

@@ -1,10 +1,9 @@
 use Rattle.std.proofs.Common.{[], ◌∷◌, ◌++◌, ap, ◌∙◌}
-use Rattle.std.specs.Prelude.{slice_index_or}
 use Rattle.std.proofs.lemmas.List.{get_or_default}
-use Rattle.lisp_records.specs.declared.address.Addr.{Addr}
-use Rattle.lisp_records.specs.declared.address.Addr.TheVariants.{V4}
+use Rattle.std.specs.Prelude.{slice_index_or}
+use Rattle.lisp_records.specs.declared.address.Addr.{Addr, TheVariants.V4}
 use Rattle.lisp_sites.proofs.Mapped.{more_mapped}
-use Rattle.lisp_world.proofs.MakingNodes.{each_at}
+use Rattle.lisp_world.proofs.Making.{each_at}
 use Rattle.lisp_world.proofs.new.each_address.Goals as goal
 
 pub bounds-addresses-place : goal.bounds-addresses-place

@@ -1,4 +1,4 @@
-use Rattle.std.proofs.Common.{◌≡◌, [], map, take}
+use Rattle.std.proofs.Common.{[], ◌≡◌, map, take}
 use Rattle.std.specs.Prelude.{slice_index_or}
 use Rattle.lisp_records.specs.declared.address.Addr.TheVariants.{V4}
 use Rattle.lisp_world.proofs.new.each_address.Given as goal

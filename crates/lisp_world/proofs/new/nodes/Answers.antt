@@ -2,7 +2,7 @@ use Rattle.std.proofs.Common.{◌<◌, length, map, arith, refl, sym, ap, ◌∙
 use Rattle.std.proofs.lemmas.Iterator.Adapters.{YieldsList-from_vec}
 use Rattle.std.proofs.lemmas.Iterator.Consumers.{YieldsList-turn, YieldsList-end}
 use Rattle.std.proofs.lemmas.List.{length-map, map-append, map-id}
-use Rattle.lisp_world.proofs.MakingNodes.{none_so_far, one_more, all_made, moved_nodes}
+use Rattle.lisp_world.proofs.Making.{none_so_far, one_more, all_made, moved_nodes}
 use Rattle.lisp_world.proofs.new.nodes.Goals as goal
 
 pub loop-store-init : goal.loop-store-init

@@ -1,5 +1,5 @@
 use Rattle.std.proofs.Common.{map}
-use Rattle.lisp_world.proofs.MakingNodes.{SoFar}
+use Rattle.lisp_world.proofs.Making.{SoFar}
 use Rattle.lisp_world.proofs.new.nodes.Given as goal
 
 -- the nodes over the stores so far

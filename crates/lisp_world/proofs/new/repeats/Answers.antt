@@ -1,10 +1,9 @@
 use Rattle.std.proofs.Common.{◌≡◌, ◌++◌, Bool, map, sym, ap, ◌∙◌}
 use Rattle.std.specs.Prelude.{◌||◌}
-use Rattle.lisp_records.specs.Address.{addr_eq}
-use Rattle.lisp_records.specs.Router.{router_eq}
+use Rattle.lisp_records.specs.{Address.addr_eq, Router.router_eq}
 use Rattle.lisp_model.specs.Trace.{addresses}
 use Rattle.lisp_world.specs.Openings.{has_twice, repeats}
-use Rattle.lisp_world.proofs.MakingChecks.{is_network}
+use Rattle.lisp_world.proofs.Keys.{is_network}
 use Rattle.lisp_world.proofs.new.repeats.Goals as goal
 
 pub returns-else-servers_repeat-clause-network : goal.returns-else-servers_repeat-clause-network

@@ -1,11 +1,10 @@
 use Rattle.std.proofs.Common.{ℕ, Bool, List, ap, sym, ◌∙◌}
 use Rattle.std.specs.List.{list_any}
-use Rattle.lisp_records.specs.Address.{addr_eq}
-use Rattle.lisp_records.specs.Router.{router_eq}
+use Rattle.lisp_records.specs.{Address.addr_eq, Router.router_eq}
 use Rattle.lisp_policy.specs.Configuration.{RouterEntryValue}
-use Rattle.lisp_world.proofs.MakingChecks.{behind, passed_first, passed_second, again_here, again_later, again_nowhere}
-use Rattle.lisp_world.proofs.new.routers_repeat.Goals as goal
+use Rattle.lisp_world.proofs.Keys.{behind, passed_first, passed_second, again_here, again_later, again_nowhere}
 use Rattle.lisp_world.proofs.new.routers_repeat.Goals.{then-is_router_at-via-then-is_router_at, then-is_router_at-via-else-is_router_at+then-is_router}
+use Rattle.lisp_world.proofs.new.routers_repeat.Goals as goal
 
 -- routers of one address, and of one identity
 abbrev alike : RouterEntryValue → RouterEntryValue → Bool

@@ -1,7 +1,6 @@
 use Rattle.std.proofs.Common.{◌≡◌, drop}
 use Rattle.std.specs.Prelude.{◌||◌}
-use Rattle.lisp_records.specs.Address.{addr_eq}
-use Rattle.lisp_records.specs.Router.{router_eq}
+use Rattle.lisp_records.specs.{Address.addr_eq, Router.router_eq}
 use Rattle.lisp_world.specs.Openings.{has_twice}
 use Rattle.lisp_world.proofs.new.routers_repeat.Given as goal
 

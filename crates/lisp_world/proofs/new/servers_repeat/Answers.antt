@@ -2,9 +2,9 @@ use Rattle.std.proofs.Common.{ℕ, Bool, List, ap, sym, ◌∙◌}
 use Rattle.std.specs.List.{list_any}
 use Rattle.lisp_records.specs.Address.{addr_eq}
 use Rattle.lisp_policy.specs.Configuration.{ServerEntryValue, RouterEntryValue}
-use Rattle.lisp_world.proofs.MakingChecks.{behind, passed_first, passed_second, meets_here, meets_later, joined_rest}
-use Rattle.lisp_world.proofs.new.servers_repeat.Goals as goal
+use Rattle.lisp_world.proofs.Keys.{behind, passed_first, passed_second, meets_here, meets_later, joined_rest}
 use Rattle.lisp_world.proofs.new.servers_repeat.Goals.{then-is_server_at-via-then-is_server_at, then-is_server_at-via-else-is_server_at+then-is_router_at}
+use Rattle.lisp_world.proofs.new.servers_repeat.Goals as goal
 
 -- a Map-Server has the address of one behind a place, or of a router
 abbrev meets_server : List ServerEntryValue → ℕ → ServerEntryValue → Bool

@@ -2,7 +2,7 @@ use Rattle.std.proofs.Common.{◌<◌, length, arith, refl, sym, subst}
 use borrow.Author.Rules.{scaled_Fits}
 use Rattle.lisp_refinement.specs.World.{RouterNodeState}
 use Rattle.lisp_world.specs.Making.{HasStarted, IsUnstarted}
-use Rattle.lisp_world.proofs.MakingNodes.{started_to_none, next_was, started_more, started_before, all_started}
+use Rattle.lisp_world.proofs.Making.{started_to_none, next_was, started_more, started_before, all_started}
 use Rattle.lisp_world.proofs.new.start_all.Goals as goal
 
 pub loop-i-init : goal.loop-i-init

@@ -1,4 +1,4 @@
-use Rattle.lisp_world.proofs.MakingNodes.{StartedTo}
+use Rattle.lisp_world.proofs.Making.{StartedTo}
 use Rattle.lisp_world.proofs.new.start_all.Given as goal
 
 -- the routers so far have started

@@ -2,7 +2,7 @@ use Rattle.std.proofs.Common.{length, arith}
 use Rattle.std.proofs.lemmas.Option.{slice_get_within}
 use borrow.Author.Rules.{scaled_Fits}
 use Rattle.lisp_refinement.specs.Events.{ExpiresNode}
-use Rattle.lisp_world.proofs.Loops.{done_more, same_more}
+use Rattle.lisp_world.proofs.Taking.{done_more, same_more}
 use Rattle.lisp_world.proofs.tick.expire_all.Goals as goal
 
 -- a node's size is a long term, over which a search takes seconds: the lemma and its facts are named

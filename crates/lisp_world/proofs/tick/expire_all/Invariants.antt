@@ -1,5 +1,5 @@
 use Rattle.lisp_refinement.specs.Events.{ExpiresNode}
-use Rattle.lisp_world.proofs.Loops.{DoneBelow, SameFrom}
+use Rattle.lisp_world.proofs.Taking.{DoneBelow, SameFrom}
 use Rattle.lisp_world.proofs.tick.expire_all.Given as goal
 
 -- the servers so far dropped their dead rows, and the others are as they were

@@ -3,8 +3,10 @@ use Rattle.std.specs.Prelude.{◌==◌}
 use Rattle.lispd_cli.proofs.check.tell_warnings.Goals as goal
 
 pub returns : goal.returns
-returns g c = record {
-  all = c.in_ok-lines.lines;
-  warnings = c.in_ok-lines.ensures;
-  warned_is = ap not (c.is_empty-has_warnings.ensures ∙ ap (λ (n : ℕ). n == 0) c.in_ok-lines.lines.ok.0);
-}
+returns g c = (
+  c.in_ok-findings.findings.items,
+  record {
+    findings = c.in_ok-findings.ensures;
+    warned_is = ap not (c.is_empty-has_warnings.ensures ∙ ap (λ (n : ℕ). n == 0) c.in_ok-findings.findings.ok.0);
+  },
+)

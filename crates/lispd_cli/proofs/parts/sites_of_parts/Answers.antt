@@ -3,7 +3,7 @@ use Rattle.std.specs.List.{flat_map}
 use Rattle.std.specs.String.{string_bytes}
 use Rattle.std.proofs.lemmas.List.{take_all}
 use Rattle.lisp_policy.specs.Site.{SiteValue}
-use Rattle.lispd_cli.specs.Parts.{sites_of_part}
+use Rattle.lispd_cli.specs.Reloading.{sites_of_part}
 use Rattle.lispd_cli.proofs.Said.{of_texts, one_more}
 use Rattle.lispd_cli.proofs.parts.sites_of_parts.Goals as goal
 

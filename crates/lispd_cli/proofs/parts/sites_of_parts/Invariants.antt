@@ -1,7 +1,7 @@
 use Rattle.std.proofs.Common.{◌≡◌, take}
 use Rattle.std.specs.List.{flat_map}
 use Rattle.std.specs.String.{string_bytes}
-use Rattle.lispd_cli.specs.Parts.{sites_of_part}
+use Rattle.lispd_cli.specs.Reloading.{sites_of_part}
 use Rattle.lispd_cli.proofs.parts.sites_of_parts.Given as goal
 
 -- the sites of the parts so far

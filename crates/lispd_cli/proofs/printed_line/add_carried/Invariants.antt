@@ -1,5 +1,6 @@
 use Rattle.std.proofs.Common.{◌≡◌, drop, Some}
-use Rattle.lispd_cli.specs.PrintedLine.{texts, both, carried_by}
+use Rattle.lisp_script.specs.Words.{texts}
+use Rattle.lispd_cli.specs.PrintedLine.{both, carried_by}
 use Rattle.lispd_cli.proofs.Numbers.{waiting, IsName}
 use Rattle.lispd_cli.proofs.printed_line.add_carried.Given as goal
 

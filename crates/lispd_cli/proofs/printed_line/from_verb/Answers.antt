@@ -1,5 +1,6 @@
 use Rattle.std.proofs.Common.{ap, ◌∙◌}
-use Rattle.lispd_cli.specs.PrintedLine.{texts, from_verb}
+use Rattle.lisp_script.specs.Words.{texts}
+use Rattle.lispd_cli.specs.PrintedLine.{from_verb}
 use Rattle.lispd_cli.proofs.Numbers.{at_verb, no_verb_yet, without_verb}
 use Rattle.lispd_cli.proofs.printed_line.from_verb.Goals as goal
 

@@ -1,5 +1,6 @@
 use Rattle.std.proofs.Common.{◌≡◌, drop}
-use Rattle.lispd_cli.specs.PrintedLine.{texts, from_verb}
+use Rattle.lisp_script.specs.Words.{texts}
+use Rattle.lispd_cli.specs.PrintedLine.{from_verb}
 use Rattle.lispd_cli.proofs.printed_line.from_verb.Given as goal
 
 -- the line is that of the words from here on

@@ -1,4 +1,4 @@
-use Rattle.lispd_cli.specs.PrintedLine.{texts}
+use Rattle.lisp_script.specs.Words.{texts}
 use Rattle.lispd_cli.proofs.Numbers.{no_line}
 use Rattle.lispd_cli.proofs.printed_line.of_verb.Goals as goal
 

@@ -4,7 +4,7 @@ use Rattle.lisp_embedded.proofs.Names.{◌≡◌, List, [], ◌∷◌, ◌++◌,
 use Rattle.lisp_embedded.specs.Held.{held}
 use Rattle.lisp_embedded.specs.contracts.parts.BoxParts as parts
 use Rattle.lisp_embedded.proofs.Steps.{Global-row, fields, word, word_good, ptr_good, some_good, fields_out, fields_in, held_cases}
-use Rattle.lisp_embedded.specs.contracts.hosted_router.HostedRouter.{the_row as core_row}
+use Rattle.lisp_embedded.specs.contracts.hosted.HostedRouter.{the_row as core_row}
 use Rattle.lisp_embedded.specs.contracts.router_handle.RouterHandle.{the_row}
 use Rattle.lisp_embedded.specs.contracts.router_handle.RouterHandle.into_parts as f
 use Rattle.lisp_embedded.proofs.router_handle.RouterHandle.into_parts.Statement.{statement}

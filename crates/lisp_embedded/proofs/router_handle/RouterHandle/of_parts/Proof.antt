@@ -3,7 +3,7 @@
 use Rattle.lisp_embedded.proofs.Names.{◌≡◌, List, [], ◌∷◌, ◌++◌, refl, sym, subst, Some, Val, SProp, ent, emp, id⊢, ftrue, fsep, WpFn, ‵, raw, ◌⊛◌, ◌$◌, ◌∵◌, !, qed, by, move, keep, use0, use1, split, fsplit, fjoin, suffices, agg, sub, whole, stop, fld, of_opd, no_more, and_then, returns, enter, alloc_all, pass_all, free_all, look_at, get, get_in, sets, fact, fact_i, tables, yes, RattleType, owns, ptr_val, types_at, plain, nothing, Stays, stay_dropped, walk_of, Goes-dropped, ghosts, proved_at, leaves}
 use Rattle.lisp_embedded.specs.contracts.parts.BoxParts as parts
 use Rattle.lisp_embedded.proofs.Steps.{Global-row, fields, word, word_good, ptr_good, fields_out, fields_in, boxed}
-use Rattle.lisp_embedded.specs.contracts.hosted_router.HostedRouter.{the_row as core_row}
+use Rattle.lisp_embedded.specs.contracts.hosted.HostedRouter.{the_row as core_row}
 use Rattle.lisp_embedded.specs.contracts.router_handle.RouterHandle.{the_row}
 use Rattle.lisp_embedded.specs.contracts.router_handle.RouterHandle.of_parts as f
 use Rattle.lisp_embedded.proofs.router_handle.RouterHandle.of_parts.Statement.{statement}

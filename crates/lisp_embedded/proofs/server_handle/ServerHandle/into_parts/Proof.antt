@@ -4,7 +4,7 @@ use Rattle.lisp_embedded.proofs.Names.{◌≡◌, List, [], ◌∷◌, ◌++◌,
 use Rattle.lisp_embedded.specs.Held.{held}
 use Rattle.lisp_embedded.specs.contracts.parts.BoxParts as parts
 use Rattle.lisp_embedded.proofs.Steps.{Global-row, fields, word, word_good, ptr_good, some_good, fields_out, fields_in, held_cases}
-use Rattle.lisp_embedded.specs.contracts.hosted_server.HostedServer.{the_row as core_row}
+use Rattle.lisp_embedded.specs.contracts.hosted.HostedServer.{the_row as core_row}
 use Rattle.lisp_embedded.specs.contracts.server_handle.ServerHandle.{the_row}
 use Rattle.lisp_embedded.specs.contracts.server_handle.ServerHandle.into_parts as f
 use Rattle.lisp_embedded.proofs.server_handle.ServerHandle.into_parts.Statement.{statement}

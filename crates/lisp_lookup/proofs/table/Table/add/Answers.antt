@@ -1,14 +1,12 @@
 use Rattle.std.proofs.Common.{◌≡◌, ◌++◌, ◌∷◌, [], List, ℕ, length, sym, ap, ◌∙◌, subst, arith}
-use Rattle.std.specs.List.{All}
 use Rattle.std.proofs.lemmas.List.Elements.{All-push}
-use Rattle.lisp_records.specs.Address.{IsPrefix}
-use Rattle.lisp_records.specs.Row.{RowValue}
+use Rattle.std.specs.List.{All}
+use Rattle.lisp_records.specs.{Address.IsPrefix, Row.RowValue}
 use Rattle.lisp_lookup.specs.declared.order.Order.TheVariants.{ByPrefix, ByDeadline}
 use Rattle.lisp_lookup.specs.Room.{vec_room, deque_room}
 use Rattle.lisp_lookup.specs.Table.{TableState}
 use Rattle.lisp_lookup.specs.Index.{row_prefix_cmp, row_deadline_cmp, own_number, Rises, IsIndex, IsFresh, IsPutIn}
-use Rattle.lisp_lookup.proofs.PutLaws.{rises_more, fresh_more, index_more}
-use Rattle.lisp_lookup.proofs.RoomLaws.{room_each, room_less}
+use Rattle.lisp_lookup.proofs.PutLaws.{rises_more, fresh_more, index_more, room_each, room_less}
 use Rattle.lisp_lookup.proofs.table.Table.add.Goals as goal
 
 pub enter-requires-clause-rises : goal.enter-requires-clause-rises

@@ -1,13 +1,12 @@
 use Rattle.std.proofs.Common.{List, sym, ap, ◌∙◌, subst, ◌≡◌, true, false}
 use Rattle.std.specs.List.{All}
-use Rattle.lisp_records.specs.Address.{IsPrefix}
-use Rattle.lisp_records.specs.Row.{RowValue}
+use Rattle.lisp_records.specs.{Address.IsPrefix, Row.RowValue}
 use Rattle.lisp_policy.specs.Site.{is_configured}
 use Rattle.lisp_lookup.specs.Table.{TableState, OneEach}
 use Rattle.lisp_lookup.specs.Answer.{NoneAnswers}
 use Rattle.lisp_lookup.specs.Index.{row_prefix_cmp, IsIndex}
 use Rattle.lisp_lookup.proofs.AnswerLaws.{best_found, none_found}
-use Rattle.lisp_lookup.proofs.DeadlineLaws.{one_each}
+use Rattle.lisp_lookup.proofs.PutLaws.{one_each}
 use Rattle.lisp_lookup.proofs.table.Table.answer.Goals as goal
 
 pub returns-in-Some-clause-answers : goal.returns-in-Some-clause-answers

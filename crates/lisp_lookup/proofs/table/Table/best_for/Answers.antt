@@ -1,8 +1,7 @@
-use Rattle.std.proofs.Common.{subst}
-use Rattle.std.specs.List.{All}
+use Rattle.std.{proofs.Common.subst, specs.List.All}
 use Rattle.lisp_records.specs.Address.{IsPrefix}
 use Rattle.lisp_lookup.specs.Table.{TableState, OneEach}
-use Rattle.lisp_lookup.proofs.DeadlineLaws.{one_each}
+use Rattle.lisp_lookup.proofs.PutLaws.{one_each}
 use Rattle.lisp_lookup.proofs.table.Table.best_for.Goals as goal
 
 pub returns-clause-one_each : goal.returns-clause-one_each

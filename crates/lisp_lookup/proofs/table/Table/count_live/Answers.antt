@@ -1,4 +1,4 @@
-use Rattle.lisp_lookup.proofs.DeadlineLaws.{one_each}
+use Rattle.lisp_lookup.proofs.PutLaws.{one_each}
 use Rattle.lisp_lookup.proofs.table.Table.count_live.Goals as goal
 
 pub returns-clause-fits : goal.returns-clause-fits

@@ -2,7 +2,7 @@ use Rattle.std.proofs.Common.{◌≡◌, false, ap, ◌∙◌, subst, arith}
 use Rattle.std.proofs.lemmas.List.Sorted.{length_permutation}
 use Rattle.lisp_records.specs.Row.{RowValue, is_alive}
 use Rattle.lisp_lookup.specs.Table.{TableState, OneEach}
-use Rattle.lisp_lookup.proofs.DeadlineLaws.{one_each, one_left, dropped_none, dropped_more, dropped_all}
+use Rattle.lisp_lookup.proofs.PutLaws.{one_each, one_left, dropped_none, dropped_more, dropped_all}
 use Rattle.lisp_lookup.proofs.table.Table.drop_dead.Goals as goal
 
 pub loop-number-init : goal.loop-number-init

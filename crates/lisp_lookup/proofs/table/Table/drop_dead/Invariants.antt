@@ -1,6 +1,6 @@
 use Rattle.std.proofs.Common.{length}
 use Rattle.lisp_lookup.specs.Table.{OneEach}
-use Rattle.lisp_lookup.proofs.DeadlineLaws.{Dropped}
+use Rattle.lisp_lookup.proofs.PutLaws.{Dropped}
 use Rattle.lisp_lookup.proofs.table.Table.drop_dead.Given as goal
 
 abbrev pub invariant-loop-number : goal.invariant-loop-number

@@ -4,7 +4,7 @@ use Rattle.lisp_records.specs.Address.{PrefixValue}
 use Rattle.lisp_records.specs.Row.{RowValue, is_alive}
 use Rattle.lisp_records.specs.declared.router.RouterId.{RouterId}
 use Rattle.lisp_lookup.specs.Table.{TableState, OneEach, DropsDead, row_key}
-use Rattle.lisp_lookup.proofs.DeadlineLaws.{one_each, drops_dead, one_each_left}
+use Rattle.lisp_lookup.proofs.PutLaws.{one_each, drops_dead, one_each_left}
 use Rattle.lisp_lookup.proofs.table.Table.drop_first_dead.Goals as goal
 
 pub returns-in_err-number-clause-one_each : goal.returns-in_err-number-clause-one_each

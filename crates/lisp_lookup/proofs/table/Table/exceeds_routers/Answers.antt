@@ -3,8 +3,8 @@ use Rattle.lisp_records.specs.Row.{RowValue}
 use Rattle.lisp_lookup.specs.Table.{OneEach, TableState}
 use Rattle.lisp_lookup.specs.Growth.{RoutersExceed, RoutersFit, live_rows, live_rows_with}
 use Rattle.lisp_lookup.specs.Setting.{AreRouters, set_rows}
-use Rattle.lisp_lookup.proofs.DeadlineLaws.{one_each}
-use Rattle.lisp_lookup.proofs.SettingLaws.{not_false, not_true_of, routers_exceed, routers_fit_few, routers_fit_none_new, routers_fit_old}
+use Rattle.lisp_lookup.proofs.PutLaws.{one_each}
+use Rattle.lisp_lookup.proofs.GrowthLaws.{not_false, not_true_of, routers_exceed, routers_fit_few, routers_fit_none_new, routers_fit_old}
 use Rattle.lisp_lookup.proofs.table.Table.exceeds_routers.Goals as goal
 
 pub returns-then-not-adds_row-clause-fits : goal.returns-then-not-adds_row-clause-fits

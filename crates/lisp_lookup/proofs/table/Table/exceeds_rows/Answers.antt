@@ -1,11 +1,11 @@
 use Rattle.std.proofs.Common.{◌≡◌, ◌≤◌, ◌<◌, ◌-◌, ◌^◌, min, ℕ, Option, sym, ◌∙◌, subst, arith}
-use Rattle.std.specs.List.{count_by}
 use Rattle.std.proofs.lemmas.Bool.{ltb-true, ltb-false}
+use Rattle.std.specs.List.{count_by}
 use Rattle.lisp_lookup.specs.Table.{OneEach, TableState}
 use Rattle.lisp_lookup.specs.Growth.{RowsExceed, RowsFit, live_rows, live_rows_with}
 use Rattle.lisp_lookup.specs.Setting.{is_live_in, set_rows}
-use Rattle.lisp_lookup.proofs.DeadlineLaws.{one_each}
-use Rattle.lisp_lookup.proofs.SettingLaws.{rows_exceed, rows_fit_few, rows_fit_none_new}
+use Rattle.lisp_lookup.proofs.PutLaws.{one_each}
+use Rattle.lisp_lookup.proofs.GrowthLaws.{rows_exceed, rows_fit_few, rows_fit_none_new}
 use Rattle.lisp_lookup.proofs.table.Table.exceeds_rows.Goals as goal
 
 pub returns-then-adds_row-clause-exceeds : goal.returns-then-adds_row-clause-exceeds

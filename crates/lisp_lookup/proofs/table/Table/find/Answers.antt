@@ -1,11 +1,10 @@
 use Rattle.std.proofs.Common.{List, length, ap, subst, arith}
 use Rattle.std.specs.Ordering.{is_lt}
-use Rattle.lisp_records.specs.Address.{prefix_cmp}
-use Rattle.lisp_records.specs.Row.{RowValue}
+use Rattle.lisp_records.specs.{Address.prefix_cmp, Row.RowValue}
 use Rattle.lisp_lookup.specs.declared.probe.Probe.TheVariants.{Prefix}
 use Rattle.lisp_lookup.specs.Index.{CountedRowsValue, IsBound}
 use Rattle.lisp_lookup.proofs.IndexLaws.{falls_prefix}
-use Rattle.lisp_lookup.proofs.CountLaws.{count_rows, long_index}
+use Rattle.lisp_lookup.proofs.PutLaws.{count_rows, long_index}
 use Rattle.lisp_lookup.proofs.table.Table.find.Goals as goal
 
 pub find-requires : goal.find-requires

@@ -1,12 +1,12 @@
 use Rattle.std.proofs.Common.{◌≡◌, true, ap, slice_index_or, subst, arith}
-use Rattle.std.specs.List.{All}
 use Rattle.std.proofs.lemmas.Bool.{false≢true}
 use Rattle.std.proofs.lemmas.List.{get_or_read}
+use Rattle.std.specs.List.{All}
 use Rattle.lisp_records.specs.Row.{is_alive}
 use Rattle.lisp_lookup.specs.Table.{TableState}
 use Rattle.lisp_lookup.specs.Index.{deadline, IsDeadAt}
 use Rattle.lisp_lookup.proofs.IndexLaws.{first_within, some_is_found}
-use Rattle.lisp_lookup.proofs.DeadlineLaws.{dead, all_alive}
+use Rattle.lisp_lookup.proofs.PutLaws.{dead, all_alive}
 use Rattle.lisp_lookup.proofs.table.Table.first_dead.Goals as goal
 
 pub index-requires : goal.index-requires

@@ -1,6 +1,6 @@
 use Rattle.std.proofs.Common.{◌∙◌, subst, ◌≡◌, slice_index_or}
 use Rattle.lisp_lookup.specs.Table.{TableState}
-use Rattle.lisp_lookup.proofs.SettingLaws.{has_live_found, has_live_nowhere}
+use Rattle.lisp_lookup.proofs.GrowthLaws.{has_live_found, has_live_nowhere}
 use Rattle.lisp_lookup.proofs.table.Table.has_live.Goals as goal
 
 pub returns-in-Some : goal.returns-in-Some

@@ -1,7 +1,6 @@
 use Rattle.std.proofs.Common.{List, ap, ◌∙◌, subst}
 use Rattle.lisp_records.specs.Row.{RowValue}
-use Rattle.lisp_lookup.specs.Table.{TableState}
-use Rattle.lisp_lookup.specs.Hole.{IsHoleOf}
+use Rattle.lisp_lookup.specs.{Table.TableState, Hole.IsHoleOf}
 use Rattle.lisp_lookup.proofs.table.Table.hole.Goals as goal
 
 pub returns : goal.returns

@@ -1,13 +1,12 @@
 use Rattle.std.proofs.Common.{rules, ap, ◌∙◌, subst, List}
+use Rattle.std.proofs.lemmas.List.Sorted.{answers_always, ranks_by}
 use Rattle.std.specs.List.Sorted.{IsPermutation}
 use Rattle.std.specs.Ordering.{is_lt}
-use Rattle.std.proofs.lemmas.List.Sorted.{answers_always, ranks_by}
-use Rattle.lisp_records.specs.Address.{prefix_cmp}
-use Rattle.lisp_records.specs.Record.{MapRecordValue}
+use Rattle.lisp_records.specs.{Address.prefix_cmp, Record.MapRecordValue}
 use Rattle.lisp_lookup.specs.Records.{live_of}
 use Rattle.lisp_lookup.proofs.Orders.{block_total}
 use Rattle.lisp_lookup.proofs.LiveLaws.{by_prefix}
-use Rattle.lisp_lookup.proofs.DeadlineLaws.{one_each}
+use Rattle.lisp_lookup.proofs.PutLaws.{one_each}
 use Rattle.lisp_lookup.proofs.table.Table.live_records.Goals as goal
 
 pub returns-clause-records : goal.returns-clause-records

@@ -5,7 +5,7 @@ use Rattle.std.specs.VecDeque.{deque_len, deque_capacity}
 use Rattle.lisp_records.proofs.Grown.{on_err}
 use Rattle.lisp_lookup.specs.Table.{TableState}
 use Rattle.lisp_lookup.proofs.IndexLaws.{indexed_same}
-use Rattle.lisp_lookup.proofs.RoomLaws.{room_all}
+use Rattle.lisp_lookup.proofs.PutLaws.{room_all}
 use Rattle.lisp_lookup.proofs.table.Table.prepare.Goals as goal
 
 pub returns-in_err-make_room_for-clause-room : goal.returns-in_err-make_room_for-clause-room

@@ -1,15 +1,12 @@
 use Rattle.std.proofs.Common.{ℕ, ◌<◌, ◌∷◌, [], List, length, sym, ap, ◌∙◌, subst, arith}
 use Rattle.std.proofs.lemmas.List.{length-set}
 use Rattle.std.proofs.lemmas.List.Elements.{All-set}
-use Rattle.lisp_records.specs.Address.{IsPrefix}
-use Rattle.lisp_records.specs.Row.{RowValue}
+use Rattle.lisp_records.specs.{Address.IsPrefix, Row.RowValue}
 use Rattle.lisp_lookup.specs.Table.{TableState, Sets}
 use Rattle.lisp_lookup.specs.Room.{vec_room, deque_room}
 use Rattle.lisp_lookup.specs.declared.order.Order.TheVariants.{ByDeadline}
 use Rattle.lisp_lookup.specs.Index.{row_deadline_cmp, own_number, Rises, IsFresh, IsTakenOut, IsPutIn}
-use Rattle.lisp_lookup.proofs.DeadlineLaws.{one_each}
-use Rattle.lisp_lookup.proofs.PutLaws.{own_key, prefixes_over, rises_over, fresh_over, index_over}
-use Rattle.lisp_lookup.proofs.RoomLaws.{room_each, room_less, one_more}
+use Rattle.lisp_lookup.proofs.PutLaws.{one_each, own_key, prefixes_over, rises_over, fresh_over, index_over, room_each, room_less, one_more}
 use Rattle.lisp_lookup.proofs.TableLaws.{sets_set, sets_push}
 use Rattle.lisp_lookup.proofs.table.Table.put.Goals as goal
 

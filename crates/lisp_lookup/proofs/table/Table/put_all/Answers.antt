@@ -5,7 +5,7 @@ use Rattle.std.proofs.lemmas.List.{map-id}
 use Rattle.lisp_records.specs.Row.{RowValue}
 use Rattle.lisp_lookup.specs.Table.{Sets}
 use Rattle.lisp_lookup.proofs.TableLaws.{sets_more}
-use Rattle.lisp_lookup.proofs.DeadlineLaws.{one_each}
+use Rattle.lisp_lookup.proofs.PutLaws.{one_each}
 use Rattle.lisp_lookup.proofs.table.Table.put_all.Goals as goal
 
 pub loop-row-preserved : goal.loop-row-preserved

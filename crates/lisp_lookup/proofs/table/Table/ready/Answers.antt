@@ -1,6 +1,6 @@
 use Rattle.std.proofs.Common.{◌-◌, length, ap, ◌∙◌, arith}
 use Rattle.lisp_lookup.specs.Table.{TableState}
-use Rattle.lisp_lookup.proofs.RoomLaws.{room_read, fits_last, fits_not_first, fits_not_second}
+use Rattle.lisp_lookup.proofs.PutLaws.{room_read, fits_last, fits_not_first, fits_not_second}
 use Rattle.lisp_lookup.proofs.table.Table.ready.Goals.{then-rows-capacity, else-rows-capacity}
 use Rattle.lisp_lookup.proofs.table.Table.ready.Goals as goal
 

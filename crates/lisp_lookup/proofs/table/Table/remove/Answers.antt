@@ -1,10 +1,9 @@
 use Rattle.std.proofs.Common.{◌∷◌, List, sym, ap, ◌∙◌, subst, ◌<◌, length, arith}
-use Rattle.std.specs.List.{All, swap_remove}
-use Rattle.std.specs.List.Sorted.{IsPermutation}
 use Rattle.std.proofs.lemmas.List.Elements.{All-tail}
 use Rattle.std.proofs.lemmas.List.Sorted.{IsPermutation-swap_remove, All-permutation}
-use Rattle.lisp_records.specs.Address.{IsPrefix}
-use Rattle.lisp_records.specs.Row.{RowValue}
+use Rattle.std.specs.List.{All, swap_remove}
+use Rattle.std.specs.List.Sorted.{IsPermutation}
+use Rattle.lisp_records.specs.{Address.IsPrefix, Row.RowValue}
 use Rattle.lisp_lookup.specs.Table.{TableState}
 use Rattle.lisp_lookup.specs.Index.{row_prefix_cmp, row_deadline_cmp, IsIndex, IsRemoved}
 use Rattle.lisp_lookup.proofs.table.Table.remove.Goals as goal

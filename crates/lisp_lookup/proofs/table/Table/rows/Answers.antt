@@ -1,13 +1,13 @@
 use Rattle.std.proofs.Common.{rules, true≢false, sym, ap, ◌∙◌, subst, List}
+use Rattle.std.proofs.lemmas.List.Sorted.{answers_always, ranks_by}
 use Rattle.std.specs.List.{filter}
 use Rattle.std.specs.List.Sorted.{IsPermutation}
 use Rattle.std.specs.Ordering.{is_lt}
-use Rattle.std.proofs.lemmas.List.Sorted.{answers_always, ranks_by}
 use Rattle.lisp_records.specs.Row.{RowValue, is_alive}
 use Rattle.lisp_lookup.specs.Table.{TableState, row_key, row_cmp}
 use Rattle.lisp_lookup.proofs.Orders.{key_total}
 use Rattle.lisp_lookup.proofs.TableLaws.{is_held}
-use Rattle.lisp_lookup.proofs.DeadlineLaws.{one_each}
+use Rattle.lisp_lookup.proofs.PutLaws.{one_each}
 use Rattle.lisp_lookup.proofs.table.Table.rows.Goals as goal
 
 pub returns-clause-held : goal.returns-clause-held

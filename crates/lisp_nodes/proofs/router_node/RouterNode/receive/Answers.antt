@@ -1,6 +1,5 @@
 use Rattle.std.proofs.Common.{ap, refl}
-use Rattle.lisp_nodes.specs.Cores.{core_of}
-use Rattle.lisp_nodes.proofs.NodeCalls.{unused}
+use Rattle.lisp_nodes.{specs.Cores.core_of, proofs.NodeCalls.unused}
 use Rattle.lisp_nodes.proofs.router_node.RouterNode.receive.Goals as goal
 
 pub returns-clause-up : goal.returns-clause-up

@@ -1,6 +1,5 @@
 use Rattle.std.proofs.Common.{ap, refl}
-use Rattle.lisp_nodes.specs.Cores.{core_of}
-use Rattle.lisp_nodes.proofs.NodeCalls.{why_not_rotated}
+use Rattle.lisp_nodes.{specs.Cores.core_of, proofs.NodeCalls.why_not_rotated}
 use Rattle.lisp_nodes.proofs.router_node.RouterNode.rotate.Goals as goal
 
 pub returns-in-Ok-clause-up : goal.returns-in-Ok-clause-up

@@ -1,13 +1,11 @@
 use Rattle.std.proofs.Common.{List, ℕ, ap, refl, sym, subst, ◌∙◌, Err}
 use Rattle.lisp_nonces.specs.Kept.{NoneBelow, kept_at}
-use Rattle.lisp_etr.specs.Config.{sent_pair}
-use Rattle.lisp_etr.specs.Etr.{EtrState}
-use Rattle.lisp_refinement.specs.Calls.{CoreAnswersSend}
-use Rattle.lisp_refinement.specs.Events.{place_of}
+use Rattle.lisp_etr.specs.{Config.sent_pair, Etr.EtrState}
+use Rattle.lisp_refinement.specs.{Calls.CoreAnswersSend, Events.place_of}
 use Rattle.lisp_nodes.specs.Cores.{core_of}
 use Rattle.lisp_nodes.proofs.NodeCalls.{server_there, part_there, nonce_left, why_not_sent}
-use Rattle.lisp_nodes.proofs.router_node.RouterNode.send.Goals as goal
 use Rattle.lisp_nodes.proofs.router_node.RouterNode.send.Goals.{in-Ok, in-Err}
+use Rattle.lisp_nodes.proofs.router_node.RouterNode.send.Goals as goal
 
 pub returns-clause-up : goal.returns-clause-up
 returns-clause-up g c =

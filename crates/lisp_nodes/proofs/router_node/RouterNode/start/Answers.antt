@@ -1,14 +1,12 @@
 use Rattle.std.proofs.Common.{List, ap, refl, subst, sym, ◌∙◌}
 use Rattle.std.specs.Option.{unwrap_or}
 use Rattle.lisp_records.specs.Record.{MapRecordValue}
-use Rattle.lisp_etr.specs.Config.{EtrConfigValue}
-use Rattle.lisp_etr.specs.Etr.{EtrState}
-use Rattle.lisp_refinement.specs.World.{Down}
-use Rattle.lisp_refinement.specs.Calls.{CoreAnswersStart}
+use Rattle.lisp_etr.specs.{Config.EtrConfigValue, Etr.EtrState}
+use Rattle.lisp_refinement.specs.{World.Down, Calls.CoreAnswersStart}
 use Rattle.lisp_nodes.specs.Cores.{core_of}
 use Rattle.lisp_nodes.proofs.RouterCalls.{no_fault, same_fault}
-use Rattle.lisp_nodes.proofs.router_node.RouterNode.start.Goals as goal
 use Rattle.lisp_nodes.proofs.router_node.RouterNode.start.Goals.{in-Ok, in-Err}
+use Rattle.lisp_nodes.proofs.router_node.RouterNode.start.Goals as goal
 
 pub returns-clause-starts : goal.returns-clause-starts
 returns-clause-starts g c =

@@ -1,4 +1,4 @@
-use Rattle.lisp_nodes.proofs.Replying.{node_replies}
+use Rattle.lisp_nodes.proofs.NodeCalls.{node_replies}
 use Rattle.lisp_nodes.proofs.server_node.ServerNode.reply_to.Goals as goal
 
 pub returns-clause-reply : goal.returns-clause-reply

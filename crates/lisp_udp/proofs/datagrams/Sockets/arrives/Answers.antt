@@ -2,7 +2,7 @@ use Rattle.std.proofs.Common.{◌≡◌, [], Some, inl, refl, sym, ap, ◌∙◌
 use Rattle.std.proofs.lemmas.Option.{slice_get-get_or}
 use Rattle.lisp_udp.specs.Sockets.{IsPlaceOf}
 use Rattle.lisp_udp.proofs.Places.{arrival_told, arrival_cut}
-use Rattle.lisp_udp.proofs.Written.{nothing}
+use Rattle.lisp_upkeep.proofs.Written.{nothing}
 use Rattle.lisp_udp.proofs.datagrams.Sockets.arrives.Goals as goal
 
 pub returns-in_default-clause-told : goal.returns-in_default-clause-told

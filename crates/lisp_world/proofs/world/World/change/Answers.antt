@@ -1,4 +1,4 @@
-use Rattle.std.proofs.Common.{◌∙◌, [], append-nil, sym, ap, length, arith}
+use Rattle.std.proofs.Common.{[], ◌∙◌, append-nil, sym, ap, length, arith}
 use Rattle.std.proofs.lemmas.List.{length-set}
 use Rattle.lisp_nodes.proofs.RouterCalls.{acted, same_bag, changed_line}
 use Rattle.lisp_world.proofs.Taking.{changes_taken}

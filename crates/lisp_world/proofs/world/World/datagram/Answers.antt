@@ -1,7 +1,7 @@
 use Rattle.std.proofs.Common.{List, ap, ◌∙◌}
 use Rattle.std.specs.Prelude.{slice_get}
 use Rattle.lisp_refinement.specs.World.{DatagramValue, WorldState}
-use Rattle.lisp_world.proofs.Arrivals.{element_read}
+use Rattle.lisp_world.proofs.Taking.{element_read}
 use Rattle.lisp_world.proofs.world.World.datagram.Goals as goal
 
 pub returns : goal.returns

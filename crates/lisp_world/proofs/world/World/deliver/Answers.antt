@@ -1,8 +1,7 @@
 use Rattle.std.proofs.Common.{◌≡◌, ◌<◌, length, refl, sym, ap, ◌∙◌, arith}
 use Rattle.std.specs.List.{length_refill}
 use Rattle.lisp_refinement.specs.World.{DatagramValue, WorldState}
-use Rattle.lisp_world.proofs.Arrivals.{addressed_there, datagram_there, no_datagram_fault}
-use Rattle.lisp_world.proofs.Taking.{handed, lost}
+use Rattle.lisp_world.proofs.Taking.{addressed_there, datagram_there, no_datagram_fault, handed, lost}
 use Rattle.lisp_world.proofs.world.World.deliver.Goals as goal
 
 pub index-datagram-requires : goal.index-datagram-requires

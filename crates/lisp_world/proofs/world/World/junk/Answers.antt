@@ -1,10 +1,8 @@
 use Rattle.std.proofs.Common.{◌≡◌, ◌<◌, ◌++◌, length, refl, sym, ap, ◌∙◌, arith}
 use Rattle.std.specs.List.{length_refill}
 use Rattle.lisp_nonces.specs.declared.fate.Fate.TheVariants.{Done}
-use Rattle.lisp_refinement.specs.Events.{datagram_to}
-use Rattle.lisp_refinement.specs.World.{WorldState}
-use Rattle.lisp_world.proofs.Arrivals.{arrived, node_there}
-use Rattle.lisp_world.proofs.Taking.{arrives_taken}
+use Rattle.lisp_refinement.specs.{Events.datagram_to, World.WorldState}
+use Rattle.lisp_world.proofs.Taking.{arrived, node_there, arrives_taken}
 use Rattle.lisp_world.proofs.world.World.junk.Goals as goal
 
 pub address-address-requires : goal.address-address-requires

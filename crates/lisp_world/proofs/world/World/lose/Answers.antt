@@ -1,12 +1,10 @@
 use Rattle.std.proofs.Common.{◌∙◌, Option, List, refl, inl, subst, arith}
 use Rattle.lisp_records.specs.Record.{MapRecordValue}
-use Rattle.lisp_refinement.specs.World.{WorldState}
-use Rattle.lisp_refinement.specs.Calls.{NodeLoses}
+use Rattle.lisp_refinement.specs.{World.WorldState, Calls.NodeLoses}
 use Rattle.lisp_world.specs.Faults.{used_ever}
 use Rattle.lisp_world.proofs.Keys.{lost, no_key_fault, used_key, used_there}
-use Rattle.lisp_world.proofs.Refusing.{out_of_memory}
+use Rattle.lisp_world.proofs.Telling.{out_of_memory, lost_tells}
 use Rattle.lisp_world.proofs.Taking.{loses_taken}
-use Rattle.lisp_world.proofs.Telling.{lost_tells}
 use Rattle.lisp_world.proofs.world.World.lose.Goals as goal
 
 pub returns-then-used_ever : goal.returns-then-used_ever

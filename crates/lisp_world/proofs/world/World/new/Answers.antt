@@ -6,14 +6,12 @@ use Rattle.lisp_etr.specs.declared.start_fault.StartFault.TheVariants as starts
 use Rattle.lisp_nodes.proofs.NodeCalls.{err_is}
 use Rattle.lisp_nonces.specs.Store.{StoreState}
 use Rattle.lisp_refinement.specs.World.{RouterNodeState, WorldState}
-use Rattle.lisp_world.specs.Making.{HaveStarted, IsStartFault}
-use Rattle.lisp_world.proofs.MakingNodes.{written_whole}
-use Rattle.lisp_world.proofs.Unmade.{memory_fault, start_fault, calm_fault}
-use Rattle.lisp_world.proofs.Making.{IsMade, lists_same, stays_calm, made_stands}
 use Rattle.lisp_refinement.proofs.Headlines.{networks_promise}
+use Rattle.lisp_world.specs.Making.{HaveStarted, IsStartFault}
+use Rattle.lisp_world.proofs.Making.{written_whole, memory_fault, start_fault, calm_fault, IsMade, lists_same, stays_calm, made_stands}
+use Rattle.lisp_world.proofs.Telling.{taken, repeated_no_memory, repeated_no_start, memory_no_start}
 use Rattle.lisp_model.specs.declared.world_fault.WorldFault.{WorldFault}
 use Rattle.lisp_model.specs.declared.world_fault.WorldFault.TheVariants as faults
-use Rattle.lisp_world.proofs.Refusing.{taken, repeated_no_memory, repeated_no_start, memory_no_start}
 use Rattle.lisp_world.proofs.world.World.new.Goals as goal
 
 -- a configuration without repeats is refused for something else

@@ -1,5 +1,4 @@
-use Rattle.std.proofs.Common.{arith}
-use Rattle.std.proofs.lemmas.List.{length-set}
+use Rattle.std.proofs.{Common.arith, lemmas.List.length-set}
 use Rattle.lisp_refinement.specs.World.{WorldState}
 use Rattle.lisp_world.proofs.Noticing.{noticed, notice_headed}
 use Rattle.lisp_world.proofs.Taking.{no_pair_fault, notices_taken, router_there, server_there}

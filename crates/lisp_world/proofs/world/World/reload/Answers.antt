@@ -1,7 +1,6 @@
-use Rattle.std.proofs.Common.{◌∙◌, List, [], append-nil, length, sym, ap, arith}
+use Rattle.std.proofs.Common.{[], ◌∙◌, List, append-nil, length, sym, ap, arith}
 use Rattle.std.proofs.lemmas.List.{length-set}
-use Rattle.lisp_policy.specs.Extends.{extends}
-use Rattle.lisp_policy.specs.Site.{SiteValue}
+use Rattle.lisp_policy.specs.{Extends.extends, Site.SiteValue}
 use Rattle.lisp_refinement.specs.Events.{reload_line}
 use Rattle.lisp_nodes.proofs.ServerCalls.{server_acted}
 use Rattle.lisp_world.proofs.Taking.{reloads_taken}

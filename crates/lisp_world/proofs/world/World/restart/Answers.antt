@@ -1,7 +1,6 @@
 use Rattle.std.proofs.Common.{Option, List, inl, inr, sym, subst, ◌∙◌}
 use Rattle.lisp_records.specs.Record.{MapRecordValue}
-use Rattle.lisp_model.specs.Restarting.{Fits}
-use Rattle.lisp_model.specs.Memory.{MayTell}
+use Rattle.lisp_model.specs.{Restarting.Fits, Memory.MayTell}
 use Rattle.lisp_refinement.specs.Events.{NetworkRestartsRouter}
 use Rattle.lisp_world.proofs.Taking.{restarts_taken}
 use Rattle.lisp_world.proofs.world.World.restart.Goals as goal

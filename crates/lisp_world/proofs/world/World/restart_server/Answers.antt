@@ -1,4 +1,4 @@
-use Rattle.std.proofs.Common.{refl, sym, [], arith}
+use Rattle.std.proofs.Common.{[], refl, sym, arith}
 use Rattle.std.proofs.lemmas.List.{append-nil, length-set}
 use Rattle.lisp_nodes.proofs.ServerCalls.{server_acted}
 use Rattle.lisp_world.proofs.world.World.restart_server.Goals as goal

@@ -1,9 +1,8 @@
 use Rattle.std.proofs.Common.{arith, length, ◌∙◌, sym, ap, refl}
-use Rattle.std.specs.Option.{option_and_then}
 use Rattle.std.proofs.lemmas.Bool.{le-ltb, ltb-true}
 use Rattle.std.proofs.lemmas.Option.{slice_get_read, slice_get_past}
-use Rattle.lisp_refinement.specs.Nodes.{up_in}
-use Rattle.lisp_refinement.specs.World.{RouterNodeState}
+use Rattle.std.specs.Option.{option_and_then}
+use Rattle.lisp_refinement.specs.{Nodes.up_in, World.RouterNodeState}
 use Rattle.lisp_world.proofs.world.World.router.Goals as goal
 
 pub returns : goal.returns

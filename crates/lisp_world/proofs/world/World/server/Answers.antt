@@ -1,7 +1,7 @@
 use Rattle.std.proofs.Common.{Some, ap, sym, refl, ◌∙◌}
-use Rattle.std.specs.Option.{option_map}
 use Rattle.std.proofs.lemmas.Bool.{ltb-true}
 use Rattle.std.proofs.lemmas.Option.{slice_get_read, slice_get_past}
+use Rattle.std.specs.Option.{option_map}
 use Rattle.lisp_refinement.specs.World.{ServerNodeState}
 use Rattle.lisp_world.proofs.world.World.server.Goals as goal
 

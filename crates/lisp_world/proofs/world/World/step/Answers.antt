@@ -1,5 +1,5 @@
 use Rattle.lisp_refinement.proofs.Headlines.{networks_promise}
-use Rattle.lisp_world.proofs.Refusing.{took_stands, took_calm, has_fault, left, no_memory, tells_of}
+use Rattle.lisp_world.proofs.Telling.{took_stands, took_calm, has_fault, left, no_memory, tells_of}
 use Rattle.lisp_world.proofs.world.World.step.Goals as goal
 
 pub returns-clause-stands : goal.returns-clause-stands

@@ -1,7 +1,7 @@
 use Rattle.std.proofs.Common.{Some, arith, length, ◌∙◌, sym, ap, refl}
-use Rattle.std.specs.Option.{option_map}
 use Rattle.std.proofs.lemmas.Bool.{le-ltb, ltb-true}
 use Rattle.std.proofs.lemmas.Option.{slice_get_read, slice_get_past}
+use Rattle.std.specs.Option.{option_map}
 use Rattle.lisp_refinement.specs.World.{RouterNodeState}
 use Rattle.lisp_world.proofs.world.World.store.Goals as goal
 

@@ -1,10 +1,9 @@
 use Rattle.std.proofs.Common.{◌+◌, ◌∙◌, Bool, Some, None, inl, refl, sym, ap, arith}
-use Rattle.std.specs.Prelude.{if◌then◌else◌}
 use Rattle.std.proofs.lemmas.Bool.{lt-ltb, le-ltb}
+use Rattle.std.specs.Prelude.{if◌then◌else◌}
 use Rattle.lisp_records.specs.Moment.{max_moment}
 use Rattle.lisp_model.specs.declared.world_fault.WorldFault.TheVariants.{Clock}
-use Rattle.lisp_world.proofs.Loops.{rewritten}
-use Rattle.lisp_world.proofs.Taking.{ticks_taken}
+use Rattle.lisp_world.proofs.Taking.{rewritten, ticks_taken}
 use Rattle.lisp_world.proofs.world.World.tick.Goals as goal
 
 pub returns-then-self-ms : goal.returns-then-self-ms

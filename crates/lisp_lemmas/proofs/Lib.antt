@@ -1,0 +1,3 @@
+pub mod NumberedLines
+pub mod Filled
+pub mod Passing

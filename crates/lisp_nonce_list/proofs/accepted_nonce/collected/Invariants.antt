@@ -1,8 +1,0 @@
-use Rattle.std.proofs.Common.{◌≡◌, take}
-use Rattle.std.specs.List.{filter_map}
-use Rattle.lisp_nonce_list.specs.AcceptedNonce.{accepted_of}
-use Rattle.lisp_nonce_list.proofs.accepted_nonce.collected.Given as goal
-
--- those of the nonces so far
-abbrev pub invariant-loop-nonce : goal.invariant-loop-nonce
-invariant-loop-nonce g l = l.nonces.items ≡ filter_map accepted_of (take l.nonce-index l.kept)

@@ -1,6 +1,0 @@
-use Rattle.lisp_nonce_list.proofs.Lists.{SaySoFar, texts}
-use Rattle.lisp_nonce_list.proofs.list.read_list.Given as goal
-
--- the nonces so far are those of the lines so far
-abbrev pub invariant-loop-place : goal.invariant-loop-place
-invariant-loop-place g l = SaySoFar (texts l.yielded) l.nonces.items

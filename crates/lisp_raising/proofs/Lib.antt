@@ -1,2 +1,0 @@
-mod Saved
-mod Refused

@@ -1,5 +1,0 @@
-use Rattle.lisp_raising.proofs.Refused.{keeps_at_least}
-use Rattle.lisp_raising.proofs.laws.keeps_at_least_what_was_accepted.Goals as goal
-
-pub returns : goal.returns
-returns c = keeps_at_least

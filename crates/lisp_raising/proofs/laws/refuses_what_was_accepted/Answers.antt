@@ -1,5 +1,0 @@
-use Rattle.lisp_raising.proofs.Refused.{refuses}
-use Rattle.lisp_raising.proofs.laws.refuses_what_was_accepted.Goals as goal
-
-pub returns : goal.returns
-returns c = refuses

@@ -1,3 +1,0 @@
--- Examples: what the definitions make of a few Map-Requests and replies.
-pub mod Asked
-pub mod Sends

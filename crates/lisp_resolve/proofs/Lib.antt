@@ -1,4 +1,0 @@
-pub mod FaultLaws
-pub mod SendsLaws
-pub mod ListedLaws
-pub mod Examples

@@ -1,4 +1,0 @@
-pub mod Asked
-pub mod Unasked
-pub mod Sends
-pub mod Promises

@@ -1,0 +1,6 @@
+use Rattle.std.proofs.Common.{◌≡◌, length}
+use Rattle.lisp_service.proofs.network.database_stores.Given as goal
+
+-- a store for each folder so far
+abbrev pub invariant-loop-folder : goal.invariant-loop-folder
+invariant-loop-folder g l = length l.stores.items ≡ l.folder-index

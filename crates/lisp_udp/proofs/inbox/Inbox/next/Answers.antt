@@ -1,4 +1,0 @@
-use Rattle.lisp_udp.proofs.inbox.Inbox.next.Goals as goal
-
-pub returns-in-Some-clause-takes : goal.returns-in-Some-clause-takes
-returns-in-Some-clause-takes c = (c.in-Some.field-0.port, rw c.in-Some.is at c.next_into.ensures.next)

@@ -1,0 +1,9 @@
+pub mod AcceptedNonce
+pub mod Folder
+pub mod Laws
+pub mod Line
+pub mod List
+pub mod Printing
+pub mod Raising
+pub mod StoreLines
+pub mod Unheard

@@ -1,7 +1,0 @@
-use Rattle.std.proofs.Common.{◌≡◌, map}
-use Rattle.lispd_cli.proofs.Filled.{filled}
-use Rattle.lispd_cli.proofs.line_words.words_of.Given as goal
-
--- the words so far are those pieces so far that aren't empty
-abbrev pub invariant-loop-word : goal.invariant-loop-word
-invariant-loop-word g l = map (λ w. w.now) l.words.items ≡ filled (map (λ w. w.now) l.yielded)
