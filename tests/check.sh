@@ -16,6 +16,8 @@ stage() {
     echo "tests: $name $said, $(($(date +%s) - begun)) s"
 }
 
+# (beside stages that measure no time: the kit proves the library once more to build it)
+../tools/library --over-gate &
 stage 'what is stored' ./stored.sh "$program"
 stage 'changed messages' ./changed.py "$program"
 stage 'beside a list of rows' ./rows.py "$program"
@@ -27,6 +29,7 @@ stage 'messages by which others ask' ./requests.py ../crates/lisp_readings/out/l
 stage 'captures that are read' ./packets.py ../crates/lisp_readings/out/lisp_readings 1 300
 stage 'captures that are told' ./captures.py "$program"
 stage pictures ./draw.py "$program"
+stage 'the library is built' wait $!
 stage 'running nodes' ./running.py "$program"
 stage databases ./databases.py "$program"
 stage groups ./groups.py "$program"
@@ -49,7 +52,6 @@ stage addresses ./addresses.py "$program"
 stage output ./output.py "$program"
 stage 'a first answer' ./first_answer.py "$program"
 stage captures ./capture.py "$program"
-stage 'the library is built' ../tools/library --over-gate
 stage 'the library' ./library.py $library
 stage 'the library from Rust' ./library_rust.py ../out
 stage packages ./packaging.py "$program" $library

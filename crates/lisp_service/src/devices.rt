@@ -72,9 +72,11 @@ impl<'a, R: Net + std::time::Clock + AllocGlobal, T: SystemTable, P: Printer + D
         ensures counts { IfOk result (λ devices. Begins config.now.routers
             (moment_of devices.stopwatch.last) devices.statistics) }
     {
-        let paced = PacedMailbox::open(rt, config, number, places)?;
-        let stopwatch = Stopwatch::start(rt)?;
-        let statistics = Statistics::start(rt.alloc(), config.routers(), stopwatch.told())?;
+        let Begun {
+            paced,
+            stopwatch,
+            statistics,
+        } = Begun::open(rt, config, number, places)?;
         Ok(Devices {
             rt,
             paced,
@@ -92,6 +94,31 @@ impl<'a, R: Net + std::time::Clock + AllocGlobal, T: SystemTable, P: Printer + D
     /// Where the lines went.
     pub(crate) fn into_printer(self) -> P {
         self.printer
+    }
+}
+
+// What of a node's devices has to be opened: its socket and its clock, and what it counts from now on.
+#[derive(Drop)]
+struct Begun<'a, R> {
+    paced: PacedMailbox<'a, R>,
+    stopwatch: Stopwatch,
+    statistics: Statistics,
+}
+
+impl<'a, R: Net + std::time::Clock + AllocGlobal> Begun<'a, R> {
+    fn open(rt: &'a R, config: &Config, number: usize, places: u8) -> Result<Begun<'a, R>, RunFault>
+        requires { IsNode config.now number }
+        ensures { IfOk result (λ begun. Begins config.now.routers
+            (moment_of begun.stopwatch.last) begun.statistics) }
+    {
+        let paced = PacedMailbox::open(rt, config, number, places)?;
+        let stopwatch = Stopwatch::start(rt)?;
+        let statistics = Statistics::start(rt.alloc(), config.routers(), stopwatch.told())?;
+        Ok(Begun {
+            paced,
+            stopwatch,
+            statistics,
+        })
     }
 }
 

@@ -1,5 +1,6 @@
 //! A node of either kind that runs: a Map-Server or a site router, on its socket and over its folder.
 
+ghost use Rattle.std.specs.Prelude.{◌≤◌, length};
 ghost use Rattle.lisp_sites.specs.Numbers.{IsMapServer, IsNode};
 
 use crate::devices::Devices;
@@ -10,6 +11,7 @@ use lisp_files::Ending;
 use lisp_nonces::WorldStore;
 use lisp_script::RunFault;
 use lisp_sites::Config;
+use lisp_turns::{Clock, Commit, Control, Endpoint, Lines, Requests};
 use lisp_udp::{
     Journal, LineForm, LineWriter, Printer, SaveTimes, TimedStore, live, ms_since_1970,
     number_named, route_over, serve_over,
@@ -168,6 +170,32 @@ impl<'a> NodeRun<'a> {
     ) -> Result<P, RunFault>
         requires { IsNode self.config.now self.number }
     {
+        let devices = Devices::<_, T, _>::open(
+            self.rt,
+            self.config,
+            self.number,
+            1,
+            None,
+            control,
+            saves,
+            printer,
+        );
+        let store = TimedStore::over(store, saves);
+        let outside = if self.config.is_server(self.number) {
+            self.serve(store, turns, devices)?
+        } else {
+            self.route(store, turns, devices)?
+        };
+        Ok(outside.into_printer())
+    }
+
+    // Runs it, a Map-Server; what is outside is given back.
+    fn serve<
+        S: WorldStore + Drop,
+        O: Endpoint + Requests + Clock + Commit + Lines + Control + Drop,
+    >(self, store: S, turns: u64, outside: Result<O, RunFault>) -> Result<O, RunFault>
+        requires { IsMapServer self.config.now self.number }
+    {
         let NodeRun {
             rt,
             config,
@@ -175,22 +203,47 @@ impl<'a> NodeRun<'a> {
             start,
             ..
         } = self;
-        let answering = start.answering;
-        let devices = Devices::<_, T, _>::open(
-            rt, config, number, 1, None, control, saves, printer,
-        );
-        let store = TimedStore::over(store, saves);
-        let alloc = rt.alloc();
-        let outside = if config.is_server(number) {
-            let sites = config.sites().copy(alloc)?;
-            serve_over(
-                alloc, config, sites, number, store, 1, answering, turns, devices,
-            )?
-            .outside
-        } else {
-            route_over(alloc, config, number, store, 1, answering, turns, devices)?.outside
-        };
-        Ok(outside.into_printer())
+        let sites = config.sites().copy(rt.alloc())?;
+        let life = serve_over(
+            rt.alloc(),
+            config,
+            sites,
+            number,
+            store,
+            1,
+            start.answering,
+            turns,
+            outside,
+        )?;
+        Ok(life.outside)
+    }
+
+    // Runs it, a router; what is outside is given back.
+    fn route<
+        S: WorldStore + Drop,
+        O: Endpoint + Requests + Clock + Commit + Lines + Control + Drop,
+    >(self, store: S, turns: u64, outside: Result<O, RunFault>) -> Result<O, RunFault>
+        requires { (length self.config.now.servers ≤ self.number)
+            × (IsNode self.config.now self.number) }
+    {
+        let NodeRun {
+            rt,
+            config,
+            number,
+            start,
+            ..
+        } = self;
+        let life = route_over(
+            rt.alloc(),
+            config,
+            number,
+            store,
+            1,
+            start.answering,
+            turns,
+            outside,
+        )?;
+        Ok(life.outside)
     }
 
     // Runs it, a Map-Server, over a database, to which groups of so many datagrams are committed.
