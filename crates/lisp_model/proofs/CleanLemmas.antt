@@ -8,7 +8,7 @@ use Rattle.std.proofs.lemmas.List.{length-append, length-map}
 use Rattle.std.proofs.lemmas.List.Elements.{Contains-append_left, Contains-append_right}
 use Rattle.std.proofs.lemmas.List.Quantifiers.{position-Some}
 use Rattle.std.proofs.lemmas.Slice.Eq.{bytes_eq-Decides}
-use Rattle.std.proofs.lemmas.Option.{none-some}
+use Rattle.std.proofs.lemmas.Option.{none-some, slice_get_within, get_or_from_slice_get}
 use Rattle.std.proofs.lemmas.Nat.{from_be_bytes-to_be_bytes_8}
 use Rattle.lisp_records.specs.declared.address.Addr.{Addr}
 use Rattle.lisp_records.specs.declared.address.Addr.TheVariants.{V4, V6}
@@ -31,7 +31,7 @@ use Rattle.lisp_messages.specs.Reading.{after, require, records_at, notify_at, t
 use Rattle.lisp_messages.proofs.Fields.{bind_ok}
 use Rattle.lisp_model.specs.Trace.{addresses, address_at, node_at, is_server}
 use Rattle.lisp_model.specs.Bag.{Item, bytes_of}
-use Rattle.lisp_model.proofs.ListLemmas.{at_head, in_tail, head_or_tail, in_none}
+use Rattle.lisp_model.proofs.ListLemmas.{at_head, in_tail, head_or_tail, in_none, only}
 
 pub addr_same : (a b : Addr) → addr_eq a b ≡ true → a ≡ b
 addr_same (V4 a) (V4 b) t = ap V4 ((bytes_eq-Decides a b).0 t)
@@ -74,17 +74,11 @@ module _ {X : Type 0} where
   in_find p (y ∷ ys) x e = found_case y x ys (p y) (find p ys) e (in_find p ys x)
 
   pub in_get : (xs : List X) (k : ℕ) (x : X) → slice_get xs k ≡ Some x → Contains xs x
-  in_get [] k x e = absurd (none-some x e)
-  in_get (y ∷ ys) zero x e = let same : y ≡ x = cc in subst (λ (z : X). Contains (y ∷ ys) z) same (at_head y ys)
-  in_get (y ∷ ys) (suc k) x e = in_tail y ys x (in_get ys k x e)
+  in_get xs k x e = (k, slice_get_within xs k x e, get_or_from_slice_get xs k x x e)
 
   pub in_option : (o : Option X) (x : X) → Contains (option_to_list o) x → o ≡ Some x
   in_option None x has = absurd (in_none x has)
-  in_option (Some y) x has = at (head_or_tail y [] x has)
-    where
-      at : (x ≡ y) ⊎ Contains [] x → Some y ≡ Some x
-      at (inl e) = ap Some (sym e)
-      at (inr has) = absurd (in_none x has)
+  in_option (Some y) x has = ap Some (sym (only y x has))
 
 module _ {X Y : Type 0} (f : X → Y) where
   pub in_map : (xs : List X) (x : X) → Contains xs x → Contains (map f xs) (f x)

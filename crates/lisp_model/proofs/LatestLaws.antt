@@ -1,6 +1,6 @@
 -- Of some numbers, part by part, the least part that passes a test.
 use Rattle.std.proofs.Common.{◌≡◌, ℕ, zero, suc, ◌+◌, ◌<◌, Bool, true, List, length, map, get_or, Some, refl, sym, ap, subst, ◌∙◌, true≢false, arith, false, [], ◌∷◌, ◌++◌, inl, inr, ◌≤◌, None}
-use Rattle.std.specs.Prelude.{position, ◌⊎◌, ◌==◌, ◌&&◌, if◌then◌else◌}
+use Rattle.std.specs.Prelude.{position, ◌⊎◌, ◌≢◌, ◌==◌, ◌&&◌, if◌then◌else◌}
 use Rattle.std.specs.List.{position_or_len, Contains}
 use Rattle.std.proofs.lemmas.Bool.{lt-ltb, and_parts}
 use Rattle.std.proofs.lemmas.List.Quantifiers.{position-Some}
@@ -9,11 +9,11 @@ use Rattle.std.proofs.lemmas.Bool.Decides.{Decides-eqb}
 use Rattle.std.proofs.lemmas.List.Elements.{Contains-append_right}
 use Rattle.lisp_records.specs.Parts.{most_parts, part_count}
 use Rattle.lisp_etr.specs.Rounds.{is_latest, part_with}
+use Rattle.lisp_etr.specs.declared.start_fault.StartFault.{StartFault}
 use Rattle.lisp_records.specs.Record.{MapRecordValue}
 use Rattle.lisp_model.specs.Trace.{Step, EventValue, Opening, ShownStore, key as key_of, key_after, database, is_up, up_after, clock, database_after}
 use Rattle.lisp_model.specs.Counted.{latest_nonce, latest_nonces, latest_nonce_after}
 use Rattle.lisp_model.specs.Numbers.{numbers_from, numbers_below}
-use Rattle.lisp_model.specs.declared.event.Event.TheVariants as events
 use Rattle.lisp_model.specs.declared.line.Line.{Line}
 use Rattle.lisp_model.specs.declared.line.Line.TheVariants as lines
 use Rattle.lisp_model.specs.declared.refusal.Refusal.TheVariants as refusals
@@ -22,6 +22,8 @@ use Rattle.lisp_model.specs.Legal.{MayCome, LegalTrace, context_of}
 use Rattle.lisp_model.specs.Timers.{RoundTimes, with_renewal, round, round_after}
 use Rattle.lisp_model.specs.Promises.{AbsentPartsRest}
 use Rattle.lisp_model.proofs.ListLemmas.{at_head}
+use Rattle.lisp_model.proofs.Locality.{key_other, up_other, database_other}
+use Rattle.lisp_model.proofs.Rows.{GoesOn, Refusing, Tells, changes, goes_on, tells}
 
 module _ (f : ℕ → ℕ) where
   long : (first n : ℕ) → length (map f (numbers_from first n)) ≡ n
@@ -89,6 +91,9 @@ module _ (o : Opening) (T : List Step) (actor : ℕ) (after : ShownStore) (r k p
   Now e line = up_after e line r (is_up T r) ≡ true
       → IsLatest o (sent_registers_in o T line ++ history o T) r k p (key_after e line r (key_of o T r)) (latest_nonce_after line r k p (latest_nonce T r k p))
 
+  abbrev Telling : EventValue → Line → Type 0
+  Telling e line = Tells (context_of o T (record { event = e; line = line; actor = actor; shown = after })) e line
+
   -- an old entry is still one
   keeps : (more : List SentRegister) (key nonce : ℕ) → IsLatest o (history o T) r k p key nonce → IsLatest o (more ++ history o T) r k p key nonce
   keeps more key nonce (inl none) = inl none
@@ -115,58 +120,44 @@ module _ (o : Opening) (T : List Step) (actor : ℕ) (after : ShownStore) (r k p
           number = refl;
         })
 
-  -- a start, or another key: nothing is the latest any more
-  none_now : Was → (named router : ℕ) → named ≡ router → (up : Bool) (key : ℕ) → (if named == r then up else is_up T r) ≡ true
-      → IsLatest o (history o T) r k p (if router == r then key else key_of o T r) (if named == r then 0 else latest_nonce T r k p)
-  none_now was named router same up key on = at (named == r) refl (subst (λ (n : ℕ). (named == r) ≡ (n == r)) same refl) on
-    where
-      at : (b : Bool) → (named == r) ≡ b → (named == r) ≡ (router == r) → (if b then up else is_up T r) ≡ true → IsLatest o (history o T) r k p (if router == r then key else key_of o T r) (if b then 0 else latest_nonce T r k p)
-      at true is alike on = inl refl
-      at false is alike on = subst (λ b. IsLatest o (history o T) r k p (if b then key else key_of o T r) (latest_nonce T r k p)) (sym is ∙ alike) (was on)
+  -- the router doesn't act where the line names another one
+  not_named : (named : ℕ) → named ≡ actor → (named == r) ≡ false → r ≢ actor
+  not_named named by is same = true≢false (sym ((Decides-eqb named r).1 (by ∙ sym same)) ∙ is)
 
-  -- a start that is refused
-  down_now : Was → (named router : ℕ) → named ≡ router → (key : ℕ) → (if named == r then false else is_up T r) ≡ true → IsLatest o (history o T) r k p (if router == r then key else key_of o T r) (latest_nonce T r k p)
-  down_now was named router same key on = at (named == r) refl (subst (λ (n : ℕ). (named == r) ≡ (n == r)) same refl) on
+  -- the router is up, so that its start wasn't refused
+  not_refused : (e : EventValue) (named : ℕ) (fault : StartFault) → Telling e (lines.Refused named (refusals.Start fault)) → up_after e (lines.Refused named (refusals.Start fault)) r (is_up T r) ≡ true → r ≢ actor
+  not_refused e named fault told up same = true≢false (sym up ∙ down told.follows ∙ ap (λ (b : Bool). if b then false else is_up T r) ((Decides-eqb named r).1 (told.by ∙ sym same)))
     where
-      at : (b : Bool) → (named == r) ≡ b → (named == r) ≡ (router == r) → (if b then false else is_up T r) ≡ true → IsLatest o (history o T) r k p (if router == r then key else key_of o T r) (latest_nonce T r k p)
-      at true is alike on = absurd (true≢false (sym on))
-      at false is alike on = subst (λ b. IsLatest o (history o T) r k p (if b then key else key_of o T r) (latest_nonce T r k p)) (sym is ∙ alike) (was on)
+      down : Refusing (context_of o T (record { event = e; line = lines.Refused named (refusals.Start fault); actor = actor; shown = after })) e named (refusals.Start fault)
+          → up_after e (lines.Refused named (refusals.Start fault)) r (is_up T r) ≡ (if named == r then false else is_up T r)
+      down (inl f) = subst (λ (x : EventValue). up_after x (lines.Refused named (refusals.Start fault)) r (is_up T r) ≡ (if named == r then false else is_up T r)) f.2 refl
+      down (inr f) = subst (λ (x : EventValue). up_after x (lines.Refused named (refusals.Start fault)) r (is_up T r) ≡ (if named == r then false else is_up T r)) f.2 refl
 
-  stays_now : Was → (b : Bool) → (if b then false else is_up T r) ≡ true → IsLatest o (history o T) r k p (key_of o T r) (latest_nonce T r k p)
-  stays_now was true on = absurd (true≢false (sym on))
-  stays_now was false on = was on
+  module _ (was : Was) (e : EventValue) (line : Line) (told : Telling e line) (up : up_after e line r (is_up T r) ≡ true) where
+    -- another router's step
+    stays_latest : r ≢ actor → IsLatest o (history o T) r k p (key_after e line r (key_of o T r)) (latest_nonce T r k p)
+    stays_latest differ = subst (λ (key : ℕ). IsLatest o (history o T) r k p key (latest_nonce T r k p)) (sym (key_other actor r differ e line told.named (key_of o T r)))
+        (was (sym (up_other actor r differ e line told.by (is_up T r)) ∙ up))
+
+    -- a start, or another key: nothing is the latest any more
+    none_latest : (named : ℕ) → named ≡ actor → IsLatest o (history o T) r k p (key_after e line r (key_of o T r)) (if named == r then 0 else latest_nonce T r k p)
+    none_latest named by = at (named == r) refl
+      where
+        at : (b : Bool) → (named == r) ≡ b → IsLatest o (history o T) r k p (key_after e line r (key_of o T r)) (if b then 0 else latest_nonce T r k p)
+        at true is = inl refl
+        at false is = stays_latest (not_named named by is)
 
   -- any legal step
-  now : Was → (e : EventValue) (line : Line) → Row e line → Now e line
-  now was (events.Send router server part fate) (lines.Sent x y z key nonce datagram) row up = sent_now x y z key nonce was (row.3.under ∙ ap (key_of o T) (sym row.0)) up (x == r && y == k && z == p) refl
-  now was (events.Deliver _ _) (lines.Sent _ _ _ _ _ _) row up = absurd row.arrives
-  now was (events.Junk _ _ _) (lines.Sent _ _ _ _ _ _) row up = absurd row.arrives
-  now was _ (lines.Sent _ _ _ _ _ _) row up = absurd row
-  now was (events.Restart node pick db) (lines.Restarted named) row up = at (named == r) refl up
-    where
-      at : (b : Bool) → (named == r) ≡ b → (if b then true else is_up T r) ≡ true → IsLatest o (history o T) r k p (key_of o T r) (if b then 0 else latest_nonce T r k p)
-      at true is on = inl refl
-      at false is on = was on
-  now was (events.Deliver _ _) (lines.Restarted _) row up = absurd row.arrives
-  now was (events.Junk _ _ _) (lines.Restarted _) row up = absurd row.arrives
-  now was _ (lines.Restarted _) row up = absurd row
-  now was (events.Rotate router key fate) (lines.Rotated named under) row up = none_now was named router row.names (is_up T r) key (same_up (named == r) up)
-    where
-      same_up : (b : Bool) → is_up T r ≡ true → (if b then is_up T r else is_up T r) ≡ true
-      same_up true on = on
-      same_up false on = on
-  now was (events.Deliver _ _) (lines.Rotated _ _) row up = absurd row.arrives
-  now was (events.Junk _ _ _) (lines.Rotated _ _) row up = absurd row.arrives
-  now was _ (lines.Rotated _ _) row up = absurd row
-  now was (events.Lose router key db) (lines.Emptied named under) row up = none_now was named router row.names true key up
-  now was (events.Deliver _ _) (lines.Emptied _ _) row up = absurd row.arrives
-  now was (events.Junk _ _ _) (lines.Emptied _ _) row up = absurd row.arrives
-  now was _ (lines.Emptied _ _) row up = absurd row
-  now was (events.Lose router key db) (lines.Refused named (refusals.Start fault)) row up = down_now was named router row.names key up
-  now was (events.Lose router key db) _ row up = absurd row
-  now was (events.Restart node pick db) (lines.Refused named (refusals.Start fault)) row up = stays_now was (named == r) up
-  now was (events.Restart node pick db) _ row up = absurd row
-  now was _ _ row up = was up
+  now : Was → (e : EventValue) (line : Line) → Row e line → Telling e line → Now e line
+  now was e (lines.Sent x y z key nonce datagram) row told = subst (λ (f : EventValue). Now f (lines.Sent x y z key nonce datagram)) told.follows.1
+      (λ up. sent_now x y z key nonce was told.follows.2.under up (x == r && y == k && z == p) refl)
+  now was e (lines.Restarted named) row told = λ up. none_latest was e (lines.Restarted named) told up named told.by
+  now was e (lines.Rotated named under) row told = λ up. none_latest was e (lines.Rotated named under) told up named told.by
+  now was e (lines.Emptied named under) row told = λ up. none_latest was e (lines.Emptied named under) told up named told.by
+  now was e (lines.Refused named (refusals.Start fault)) row told = λ up. stays_latest was e (lines.Refused named (refusals.Start fault)) told up (not_refused e named fault told up)
+  now was e line row told = λ up.
+      let on = goes_on _ e line row refl in
+      subst (λ (key : ℕ). IsLatest o (history o T) r k p key (latest_nonce T r k p)) (sym (on.key r (key_of o T r))) (was (sym (on.up r (is_up T r)) ∙ up))
 
   -- A part that the database of a router that is up doesn't have has no sends in its round.
   abbrev Rests : RoundTimes → Type 0
@@ -181,43 +172,29 @@ module _ (o : Opening) (T : List Step) (actor : ℕ) (after : ShownStore) (r k p
   abbrev RestsNow : EventValue → Line → Type 0
   RestsNow e line = up_after e line r (is_up T r) ≡ true → Absent (database_after e line r (database o T r)) → Rests (round_after line (clock T) r k p (round T r k p))
 
-  abbrev begun : RoundTimes
-  begun = record { begin = clock T; moments = [] }
+  module _ (was : Rested) (e : EventValue) (line : Line) (up : up_after e line r (is_up T r) ≡ true) (none : Absent (database_after e line r (database o T r))) where
+    module _ (told : Telling e line) where
+      -- another router's step
+      stays : r ≢ actor → Rests (round T r k p)
+      stays differ = was (sym (up_other actor r differ e line told.by (is_up T r)) ∙ up) (subst Absent (database_other actor r differ e line told.named (database o T r)) none)
 
-  -- a number is that of the router where another one is that it equals
-  alike : (named router : ℕ) → named ≡ router → (named == r) ≡ (router == r)
-  alike named router same = ap (λ (n : ℕ). n == r) same
+      -- a new round begins
+      begins : (named : ℕ) → named ≡ actor → Rests (if named == r then record { begin = clock T; moments = [] } else round T r k p)
+      begins named by = at (named == r) refl
+        where
+          at : (b : Bool) → (named == r) ≡ b → Rests (if b then record { begin = clock T; moments = [] } else round T r k p)
+          at true is = refl
+          at false is = stays (not_named named by is)
 
-  -- it was up where it isn't the one that starts
-  was_up : (b up : Bool) → (if b then up else is_up T r) ≡ true → b ≡ false → is_up T r ≡ true
-  was_up true up on is = absurd (true≢false is)
-  was_up false up on is = on
-
-  -- a new round begins, at a start with a database or at a change; or with the database as it was
-  begins : Rested → (b c : Bool) → b ≡ c → (b ≡ false → is_up T r ≡ true) → (db : List MapRecordValue) → Absent (if c then db else database o T r) → Rests (if b then begun else round T r k p)
-  begins was true c same up db none = refl
-  begins was false true same up db none = absurd (true≢false (sym same))
-  begins was false false same up db none = was (up refl) none
-
-  begins_alone : Rested → (b : Bool) → (b ≡ false → is_up T r ≡ true) → Absent (database o T r) → Rests (if b then begun else round T r k p)
-  begins_alone was true up none = refl
-  begins_alone was false up none = was (up refl) none
-
-  -- a start that is refused
-  stays : Rested → (b c : Bool) → b ≡ c → (if b then false else is_up T r) ≡ true → (db : List MapRecordValue) → Absent (if c then db else database o T r) → Rests (round T r k p)
-  stays was true c same up db none = absurd (true≢false (sym up))
-  stays was false true same up db none = absurd (true≢false (sym same))
-  stays was false false same up db none = was up none
-
-  stays_alone : Rested → (b : Bool) → (if b then false else is_up T r) ≡ true → Absent (database o T r) → Rests (round T r k p)
-  stays_alone was true up none = absurd (true≢false (sym up))
-  stays_alone was false up none = was up none
+    -- the router goes on as it was
+    goes : GoesOn e line → changes line ≡ false → Rests (round T r k p)
+    goes on same = was (sym (on.up r (is_up T r)) ∙ up) (subst Absent (on.database same r (database o T r)) none)
 
   -- what is sent is there
-  sends : Rested → (x y z : ℕ) → z < part_count (database o T x) → is_up T r ≡ true → Absent (database o T r) → (b : Bool) → (x == r && y == k && z == p) ≡ b
+  sends : Rested → (x y z : ℕ) → z < part_count (database o T x) → (b : Bool) → (x == r && y == k && z == p) ≡ b → is_up T r ≡ true → Absent (database o T r)
       → Rests (if b then record (round T r k p) { moments = clock T ∷ (round T r k p).moments } else round T r k p)
-  sends was x y z there up none false is = was up none
-  sends was x y z there up none true is =
+  sends was x y z there false is up none = was up none
+  sends was x y z there true is up none =
       let all = and_parts (x == r && y == k) (z == p) is in
       let who : x ≡ r = (Decides-eqb x r).0 (and_parts (x == r) (y == k) all.0).0 in
       let of : z ≡ p = (Decides-eqb z p).0 all.1 in
@@ -229,45 +206,22 @@ module _ (o : Opening) (T : List Step) (actor : ℕ) (after : ShownStore) (r k p
   renewed old rest false = rest
 
   -- any legal step
-  rests_now : Rested → (e : EventValue) (line : Line) → Row e line → RestsNow e line
-  rests_now was (events.Send router server part fate) (lines.Sent x y z key nonce datagram) row up none =
-      sends was x y z (subst (λ (n : ℕ). n < part_count (database o T x)) (sym row.2) (subst (λ (n : ℕ). part < part_count (database o T n)) (sym row.0) row.3.there)) up none (x == r && y == k && z == p) refl
-  rests_now was (events.Deliver _ _) (lines.Sent _ _ _ _ _ _) row up none = absurd row.arrives
-  rests_now was (events.Junk _ _ _) (lines.Sent _ _ _ _ _ _) row up none = absurd row.arrives
-  rests_now was _ (lines.Sent _ _ _ _ _ _) row up none = absurd row
-  rests_now was (events.Deliver _ _) (lines.Counted x y z key nonce) row up none = renewed (round T r k p) (was up none) (x == r && y == k && z == p)
-  rests_now was (events.Junk _ _ _) (lines.Counted x y z key nonce) row up none = renewed (round T r k p) (was up none) (x == r && y == k && z == p)
-  rests_now was _ (lines.Counted _ _ _ _ _) row up none = absurd row
-  rests_now was (events.Change router db) (lines.Changed named records) row up none = begins was (named == r) (router == r) (alike named router row.names) (λ other. up) db none
-  rests_now was (events.Deliver _ _) (lines.Changed _ _) row up none = absurd row.arrives
-  rests_now was (events.Junk _ _ _) (lines.Changed _ _) row up none = absurd row.arrives
-  rests_now was _ (lines.Changed _ _) row up none = absurd row
-  rests_now was (events.Restart node pick (Some db)) (lines.Restarted named) row up none = begins was (named == r) (node == r) (alike named node row.names) (was_up (named == r) true up) db none
-  rests_now was (events.Restart node pick None) (lines.Restarted named) row up none = begins_alone was (named == r) (was_up (named == r) true up) none
-  rests_now was (events.Deliver _ _) (lines.Restarted _) row up none = absurd row.arrives
-  rests_now was (events.Junk _ _ _) (lines.Restarted _) row up none = absurd row.arrives
-  rests_now was _ (lines.Restarted _) row up none = absurd row
-  rests_now was (events.Rotate router key fate) (lines.Rotated named under) row up none = begins_alone was (named == r) (λ other. up) none
-  rests_now was (events.Deliver _ _) (lines.Rotated _ _) row up none = absurd row.arrives
-  rests_now was (events.Junk _ _ _) (lines.Rotated _ _) row up none = absurd row.arrives
-  rests_now was _ (lines.Rotated _ _) row up none = absurd row
-  rests_now was (events.Lose router key (Some db)) (lines.Emptied named under) row up none = begins was (named == r) (router == r) (alike named router row.names) (was_up (named == r) true up) db none
-  rests_now was (events.Lose router key None) (lines.Emptied named under) row up none = begins_alone was (named == r) (was_up (named == r) true up) none
-  rests_now was (events.Deliver _ _) (lines.Emptied _ _) row up none = absurd row.arrives
-  rests_now was (events.Junk _ _ _) (lines.Emptied _ _) row up none = absurd row.arrives
-  rests_now was _ (lines.Emptied _ _) row up none = absurd row
-  rests_now was (events.Restart node pick (Some db)) (lines.Refused named (refusals.Start fault)) row up none = stays was (named == r) (node == r) (alike named node row.names) up db none
-  rests_now was (events.Restart node pick None) (lines.Refused named (refusals.Start fault)) row up none = stays_alone was (named == r) up none
-  rests_now was (events.Restart _ _ _) _ row up none = absurd row
-  rests_now was (events.Lose router key (Some db)) (lines.Refused named (refusals.Start fault)) row up none = stays was (named == r) (router == r) (alike named router row.names) up db none
-  rests_now was (events.Lose router key None) (lines.Refused named (refusals.Start fault)) row up none = stays_alone was (named == r) up none
-  rests_now was (events.Lose _ _ _) _ row up none = absurd row
-  rests_now was _ _ row up none = was up none
+  rests_now : Rested → (e : EventValue) (line : Line) → Row e line → Telling e line → RestsNow e line
+  rests_now was e (lines.Sent x y z key nonce datagram) row told = subst (λ (f : EventValue). RestsNow f (lines.Sent x y z key nonce datagram)) told.follows.1
+      (sends was x y z told.follows.2.there (x == r && y == k && z == p) refl)
+  rests_now was e (lines.Counted x y z key nonce) row told = λ up none.
+      renewed (round T r k p) (goes was e (lines.Counted x y z key nonce) up none (goes_on _ e (lines.Counted x y z key nonce) row refl) refl) (x == r && y == k && z == p)
+  rests_now was e (lines.Changed named records) row told = λ up none. begins was e (lines.Changed named records) up none told named told.by
+  rests_now was e (lines.Restarted named) row told = λ up none. begins was e (lines.Restarted named) up none told named told.by
+  rests_now was e (lines.Rotated named under) row told = λ up none. begins was e (lines.Rotated named under) up none told named told.by
+  rests_now was e (lines.Emptied named under) row told = λ up none. begins was e (lines.Emptied named under) up none told named told.by
+  rests_now was e (lines.Refused named (refusals.Start fault)) row told = λ up none. stays was e (lines.Refused named (refusals.Start fault)) up none told (not_refused e named fault told up)
+  rests_now was e line row told = λ up none. goes was e line up none (goes_on _ e line row refl) refl
 
 pub latest_is_sent : (o : Opening) (T : List Step) → LegalTrace o T → (r k p : ℕ) → is_up T r ≡ true → IsLatest o (history o T) r k p (key_of o T r) (latest_nonce T r k p)
 latest_is_sent o [] legal r k p up = inl refl
-latest_is_sent o (s ∷ T) legal r k p up = now o T s.actor s.shown r k p (latest_is_sent o T legal.1 r k p) s.event s.line legal.0.row up
+latest_is_sent o (s ∷ T) legal r k p up = now o T s.actor s.shown r k p (latest_is_sent o T legal.1 r k p) s.event s.line legal.0.row (tells (context_of o T s) s.event s.line legal.0.row) up
 
 pub absent_parts_rest : (o : Opening) (T : List Step) → LegalTrace o T → AbsentPartsRest o T
 absent_parts_rest o [] legal r k p up none = refl
-absent_parts_rest o (s ∷ T) legal r k p up none = rests_now o T s.actor s.shown r k p (absent_parts_rest o T legal.1 r k p) s.event s.line legal.0.row up none
+absent_parts_rest o (s ∷ T) legal r k p up none = rests_now o T s.actor s.shown r k p (absent_parts_rest o T legal.1 r k p) s.event s.line legal.0.row (tells (context_of o T s) s.event s.line legal.0.row) up none

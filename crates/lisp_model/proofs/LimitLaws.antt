@@ -38,6 +38,7 @@ use Rattle.lisp_model.proofs.Locality.{same_number, unless}
 use Rattle.lisp_model.proofs.RisingLaws.{taken_one}
 use Rattle.lisp_model.proofs.Rows.{Arrived, tells}
 use Rattle.lisp_model.proofs.HeldLaws.{held_found}
+use Rattle.lisp_model.proofs.Origins.{one_taken}
 use Rattle.lisp_model.proofs.RowLaws.{held_other}
 use Rattle.lisp_model.proofs.HearingLemmas.{find_true}
 
@@ -90,15 +91,8 @@ module _ (o : Opening) (T : List Step) (s : Step) where
       its : IsAccepted (context_of o T s) a server row.0 row.1 row.2 row.3
       its = row.4
 
-      one : Contains (record { message = its.message; from = a.from; moment = clock T } ∷ []) x
-      one = subst (λ (xs : List Acceptance). Contains xs x) (taken_one a (clock T) its.message its.admits.read) has
-
       is : x ≡ record { message = its.message; from = a.from; moment = clock T }
-      is = only (head_or_tail (record { message = its.message; from = a.from; moment = clock T }) [] x one)
-        where
-          only : (x ≡ record { message = its.message; from = a.from; moment = clock T }) ⊎ Contains [] x → x ≡ record { message = its.message; from = a.from; moment = clock T }
-          only (inl same) = same
-          only (inr none) = absurd (in_none x none)
+      is = one_taken a (clock T) its.message its.admits.read x has
 
       signs : Signs (sites o T server) its.message.site its.message.key_id
       signs = (

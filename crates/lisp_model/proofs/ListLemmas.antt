@@ -14,5 +14,9 @@ module _ {X : Type 0} where
   head_or_tail x xs v (zero, lt, is) = inl (sym is)
   head_or_tail x xs v (suc k, lt, is) = inr (k, omega arith, is)
 
+  pub only : (x v : X) → Contains (x ∷ []) v → v ≡ x
+  only x v (zero, lt, is) = sym is
+  only x v (suc k, lt, is) = absurd (omega arith)
+
   pub in_none : (v : X) → Contains [] v → ⊥
   in_none v (k, lt, is) = absurd (omega arith)

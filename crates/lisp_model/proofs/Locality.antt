@@ -1,6 +1,7 @@
 -- A node's step leaves the parts of the other nodes.
-use Rattle.std.proofs.Common.{◌≡◌, ℕ, ◌+◌, Bool, true, false, List, [], ◌∷◌, ◌++◌, Option, Some, None, refl, sym, ap, ◌∙◌, true≢false, arith}
-use Rattle.std.specs.Prelude.{◌≢◌, ◌==◌, ◌&&◌, if◌then◌else◌}
+use Rattle.std.proofs.Common.{◌≡◌, ℕ, ◌+◌, Bool, true, false, List, [], ◌∷◌, ◌++◌, Option, Some, None, inl, inr, refl, subst, sym, ap, ◌∙◌, true≢false, arith}
+use Rattle.std.specs.Prelude.{◌≢◌, ◌⊎◌, ◌==◌, ◌&&◌, if◌then◌else◌}
+use Rattle.std.proofs.lemmas.Bool.{cases_eq}
 use Rattle.std.proofs.lemmas.Bool.Decides.{Decides-eqb}
 use Rattle.lisp_records.specs.Record.{MapRecordValue}
 use Rattle.lisp_policy.specs.Configuration.{ConfigValue}
@@ -41,6 +42,14 @@ unless a b x y differ = ap (λ t. if t then x else y) (other_number a b differ)
 
 pub unless_all : {X : Type 0} (a b : ℕ) (q r : Bool) (x y : X) → a ≢ b → (if a == b && q && r then x else y) ≡ y
 unless_all a b q r x y differ = ap (λ t. if t && q && r then x else y) (other_number a b differ)
+
+-- what holds of the node that acts, and of each other one, holds of each
+pub of_each : (P : ℕ → Type 0) (node : ℕ) → P node → ((k : ℕ) → k ≢ node → P k) → (k : ℕ) → P k
+of_each P node own others k = at (cases_eq node k)
+  where
+    at : (node ≡ k) ⊎ (node ≢ k) → P k
+    at (inl same) = subst P same own
+    at (inr differ) = others k (λ e. differ (sym e))
 
 module _ (node k : ℕ) (other : k ≢ node) where
   pub differs : (a : ℕ) → a ≡ node → a ≢ k

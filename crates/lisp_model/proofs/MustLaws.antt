@@ -46,7 +46,7 @@ use Rattle.lisp_model.specs.Receiving.{Admits, HasSpace, LacksSpace, rows_before
 use Rattle.lisp_model.specs.declared.refusal.Refusal.{Refusal}
 use Rattle.lisp_model.specs.Memory.{is_store_memory, MayTell}
 use Rattle.lisp_model.proofs.ListLemmas.{at_head}
-use Rattle.lisp_model.proofs.Locality.{same_number, other_number, key_other, up_other, last_sent_other, start_values_other}
+use Rattle.lisp_model.proofs.Locality.{same_number, other_number, key_other, up_other, last_sent_other, start_values_other, of_each}
 use Rattle.lisp_model.proofs.Sound.{pair_under, key_values_after, own_key, own_values, own_values_after, Doubts, same_keys, not_saved}
 use Rattle.lisp_model.proofs.Rows.{GoesOn, Refusing, Tells, tells, goes_on}
 use Rattle.lisp_model.proofs.HeardLines.{Passes, comes_to}
@@ -146,16 +146,9 @@ module _ (o : Opening) where
       (subst (λ (key : ℕ). Reached (kept_at (shown_store o (s ∷ T) r).kept (pair_under o r key)) (last_sent T r) (start_values o T r)) (sym (key_other s.actor r differ s.event s.line given (key_of o T r)))
       (subst (λ b. Reached (kept_at (if b then s.shown else shown_store o T r).kept (pair_at o T r)) (last_sent T r) (start_values o T r)) (sym (other_number s.actor r (λ e. differ (sym e)))) was)))
 
-  reached_step : (T : List Step) (s : Step) (r : ℕ) (b : Bool) → (s.actor == r) ≡ b → Legal o T s → ((n : ℕ) → ReachedAt T n) → ReachedAt (s ∷ T) r
-  reached_step T s r true e l old = subst (ReachedAt (s ∷ T)) ((Decides-eqb s.actor r).0 e) (reached_actor T s l (old s.actor))
-  reached_step T s r false e l old = reached_other T s r (λ same. not_same same) l (old r)
-    where
-      not_same : r ≡ s.actor → ⊥
-      not_same same = let clash : true ≡ false = sym (same_number s.actor) ∙ ap (λ n. s.actor == n) (sym same) ∙ e in absurd cc
-
   pub reached : (T : List Step) → LegalTrace o T → (r : ℕ) → ReachedAt T r
   reached [] legal r = λ up base has. (base, has, omega arith)
-  reached (s ∷ T) legal r = reached_step T s r (s.actor == r) refl legal.0 (reached T legal.1)
+  reached (s ∷ T) legal r = of_each (ReachedAt (s ∷ T)) s.actor (reached_actor T s legal.0 (reached T legal.1 s.actor)) (λ k differ. reached_other T s k differ legal.0 (reached T legal.1 k)) r
 
 -- What meets its conditions is sent, accepted or done.
 

@@ -21,10 +21,10 @@ use Rattle.lisp_model.specs.Timers.{last_notice, last_notice_after, Notice, noti
 use Rattle.lisp_model.specs.Context.{Context, values, values_after, IsBase}
 use Rattle.lisp_model.specs.Legal.{Legal, LegalTrace, context_of}
 use Rattle.lisp_model.specs.Promises.{Falls, notice_nonces, notice_nonces_after, NoticeNoncesRise, NoticesDiffer}
-use Rattle.lisp_model.proofs.ListLemmas.{head_or_tail, in_none, at_head, in_tail}
+use Rattle.lisp_model.proofs.ListLemmas.{head_or_tail, in_none, at_head, in_tail, only}
 use Rattle.lisp_model.proofs.HeardLines.{IsBy}
 use Rattle.lisp_model.proofs.HearingLemmas.{not_both}
-use Rattle.lisp_model.proofs.Locality.{unless, same_number, other_number, last_notice_other, no_notices}
+use Rattle.lisp_model.proofs.Locality.{unless, same_number, other_number, last_notice_other, no_notices, of_each}
 use Rattle.lisp_model.proofs.Rows.{Refusing, Tells, tells}
 use Rattle.lisp_model.proofs.CleanLemmas.{from_map}
 use Rattle.lisp_model.proofs.NoticeOrigins.{notices_left, of_others}
@@ -82,13 +82,9 @@ module _ (nonces : List ℕ) (last : Option ℕ) (kept : List (Option ℕ)) (saf
       top = safe.top;
     }
       where
-        own : (n : ℕ) → n < nonce_after base → (v : Option ℕ) → (v ≡ Some (nonce_after base)) ⊎ Contains [] v → n ≤ number v
-        own n up v (inl is) = subst (λ (w : Option ℕ). n ≤ number w) (sym is) (omega (arith, up))
-        own n up v (inr none) = absurd (in_none v none)
-
         floors : (n : ℕ) → Contains nonces n → (v : Option ℕ) → Contains kept v ⊎ Contains (Some (nonce_after base) ∷ []) v → n ≤ number v
         floors n has v (inl old) = safe.floor n has v old
-        floors n has v (inr new) = own n (below n has) v (head_or_tail (Some (nonce_after base)) [] v new)
+        floors n has v (inr new) = subst (λ (w : Option ℕ). n ≤ number w) (sym (only (Some (nonce_after base)) v new)) (omega (arith, below n has))
 
 -- a step of the server
 module _ (t : Context) (its : is_server t.opening.config t.node ≡ true) (nonces : List ℕ) (safe : NoticeSafe nonces (last_notice t.past t.node) (values t notice_pair)) where
@@ -155,19 +151,10 @@ module _ (o : Opening) where
       (subst (λ (last : Option ℕ). NoticeSafe (notice_nonces T k) last (kept_at (shown_store o (s ∷ T) k).kept notice_pair)) (sym (last_notice_other s.actor k differ s.line by (last_notice T k)))
       (subst (λ (b : Bool). NoticeSafe (notice_nonces T k) (last_notice T k) (kept_at (if b then s.shown else shown_store o T k).kept notice_pair)) (sym (other_number s.actor k (λ e. differ (sym e)))) safe))
 
-  safe_step : (T : List Step) (s : Step) (k : ℕ) (b : Bool) → (s.actor == k) ≡ b → Legal o T s → is_server o.config k ≡ true → ((n : ℕ) → is_server o.config n ≡ true → SafeAt T n) → SafeAt (s ∷ T) k
-  safe_step T s k true e l its safe =
-      let same : s.actor ≡ k = (Decides-eqb s.actor k).0 e in
-      let acts : is_server o.config s.actor ≡ true = ap (is_server o.config) same ∙ its in
-      subst (SafeAt (s ∷ T)) same (safe_actor T s l acts (safe s.actor acts))
-  safe_step T s k false e l its safe = safe_other T s k (λ same. not_same same) l (safe k its)
-    where
-      not_same : k ≡ s.actor → ⊥
-      not_same same = let clash : true ≡ false = sym (same_number s.actor) ∙ ap (λ n. s.actor == n) (sym same) ∙ e in absurd cc
-
   safe_trace : (T : List Step) → LegalTrace o T → (k : ℕ) → is_server o.config k ≡ true → SafeAt T k
-  safe_trace [] legal k its = safe_opening k
-  safe_trace (s ∷ T) legal k its = safe_step T s k (s.actor == k) refl legal.0 its (safe_trace T legal.1)
+  safe_trace [] legal = λ k its. safe_opening k
+  safe_trace (s ∷ T) legal = of_each (λ k. is_server o.config k ≡ true → SafeAt (s ∷ T) k) s.actor
+      (λ its. safe_actor T s legal.0 its (safe_trace T legal.1 s.actor its)) (λ k differ its. safe_other T s k differ legal.0 (safe_trace T legal.1 k its))
 
 pub notice_nonces_rise : (o : Opening) (T : List Step) → LegalTrace o T → NoticeNoncesRise T
 notice_nonces_rise o T legal server = at (is_server o.config server) refl

@@ -33,7 +33,7 @@ use Rattle.lisp_model.specs.Sending.{IsSent}
 use Rattle.lisp_model.specs.Accepted.{acceptances, acceptances_after}
 use Rattle.lisp_model.specs.Promises.{AcceptedWasSent}
 use Rattle.lisp_model.proofs.CleanLemmas.{node_of, server_of, in_get, in_option, from_map, Checked, checked, notifies_no_register, addr_same, SameHead, item_head}
-use Rattle.lisp_model.proofs.ListLemmas.{at_head, head_or_tail, in_none}
+use Rattle.lisp_model.proofs.ListLemmas.{at_head, head_or_tail, in_none, only}
 use Rattle.lisp_model.proofs.Rows.{tells}
 use Rattle.lisp_model.proofs.RisingLaws.{taken_one}
 use Rattle.lisp_model.proofs.HeardLines.{IsBy}
@@ -66,7 +66,7 @@ module _ (o : Opening) (T : List Step) where
   -- no other line posts a Map-Register that wasn't there
   posts : (node : ℕ) (after : ShownStore) (e : EventValue) (line : Line) → MayCome (context_of o T (record { event = e; line = line; actor = node; shown = after })) e line → AllFrom o (history o T) (bag o T)
       → (a : Option Arrival) → AllFrom o (sent_registers_in o T line ++ history o T) (items_added o T (past o T) a line)
-  posts node after e (lines.Sent r s p key nonce datagram) row old a i has m is = at (head_or_tail (register_item o T r s p nonce) [] i has)
+  posts node after e (lines.Sent r s p key nonce datagram) row old a i has m is = new i (only (register_item o T r s p nonce) i has) is
     where
       its : IsSent (context_of o T (record { event = e; line = lines.Sent r s p key nonce datagram; actor = node; shown = after })) r s p key nonce datagram
       its = (tells (context_of o T (record { event = e; line = lines.Sent r s p key nonce datagram; actor = node; shown = after })) e (lines.Sent r s p key nonce datagram) row).follows.2
@@ -86,10 +86,6 @@ module _ (o : Opening) (T : List Step) where
             message = sym keyed;
             fits = subst IsMapRegister message its.message;
           }
-
-      at : (i ≡ register_item o T r s p nonce) ⊎ Contains [] i → IsFrom o (sent_registers_in o T (lines.Sent r s p key nonce datagram) ++ history o T) i m
-      at (inl same) = new i same is
-      at (inr no_more) = absurd (in_none i no_more)
   posts node after e (lines.Accepted server router key nonce None) row old a i has m is = absurd (in_none i has)
   posts node after e (lines.Accepted server router key nonce (Some datagram)) row old a i has m is = let found = from_map (reply_item o.config (sites o T server) server) (acceptances_in a (clock T)) i has in absurd (said_clash (sym (ap (λ (x : Item). x.message) found.2) ∙ is))
   posts node after e (lines.Noticed router server nonce datagram) row old None i has m is = absurd (in_none i has)
@@ -135,11 +131,7 @@ pub record IsSentTo (o : Opening) (entries : List SentRegister) (server : ℕ) (
   pub from : a.from ≡ address_at o.config entry.router
 
 pub one_taken : (a : Arrival) (now : ℕ) (m : MapRegisterValue) → a.read ≡ Ok (Registers m) → (x : Acceptance) → Contains (acceptances_in (Some a) now) x → x ≡ record { message = m; from = a.from; moment = now }
-one_taken a now m read x has = at (head_or_tail _ [] x (subst (λ (xs : List Acceptance). Contains xs x) (taken_one a now m read) has))
-  where
-    at : (x ≡ record { message = m; from = a.from; moment = now }) ⊎ Contains [] x → x ≡ record { message = m; from = a.from; moment = now }
-    at (inl e) = e
-    at (inr no_more) = absurd (in_none x no_more)
+one_taken a now m read x has = only _ x (subst (λ (xs : List Acceptance). Contains xs x) (taken_one a now m read) has)
 
 module _ (o : Opening) (T : List Step) (distinct : AllPairs (λ a b. a ≢ b) (addresses o.config)) (reads : ReadsBack) (all : AllFrom o (history o T) (bag o T)) where
   module _ (server : ℕ) (router : RouterId) (key nonce : ℕ) (datagram : Option ℕ) where

@@ -28,7 +28,7 @@ use Rattle.lisp_model.proofs.ChangeLemmas.{IsNew, new_or_old, new_follows}
 use Rattle.lisp_model.proofs.CleanLemmas.{in_get, in_option, from_map, SameHead}
 use Rattle.lisp_model.proofs.HeardLines.{noticed_of}
 use Rattle.lisp_model.proofs.HearingLemmas.{is_heard, knows_own}
-use Rattle.lisp_model.proofs.ListLemmas.{head_or_tail, in_none, at_head, in_tail}
+use Rattle.lisp_model.proofs.ListLemmas.{head_or_tail, in_none, at_head, in_tail, only}
 use Rattle.lisp_model.proofs.Locality.{same_number}
 use Rattle.lisp_model.proofs.Rows.{tells}
 
@@ -128,11 +128,7 @@ module _ (o : Opening) (T : List Step) (reads : ReadsBack) (all : AllFrom o (his
   -- the step posts it
   posts : (node : ℕ) (after : ShownStore) (e : EventValue) (line : Line) → IsHarmless o T e → MayCome (context_of o T (record { event = e; line = line; actor = node; shown = after })) e line → IsLow (Kept e line)
       → AllKnown o (Kept e line) (items_added o T (past o T) (arrival_in (bag o T) e) line)
-  posts node after e (lines.Sent r s part key nonce datagram) harmless row low i has n is = at (head_or_tail (register_item o T r s part nonce) [] i has)
-    where
-      at : (i ≡ register_item o T r s part nonce) ⊎ Contains [] i → IsKnown o (acceptances o T) i n
-      at (inl same) = absurd (register_clash (sym (ap (λ (x : Item). x.message) same) ∙ is))
-      at (inr no_more) = absurd (in_none i no_more)
+  posts node after e (lines.Sent r s part key nonce datagram) harmless row low i has n is = absurd (register_clash (sym (ap (λ (x : Item). x.message) (only (register_item o T r s part nonce) i has)) ∙ is))
   posts node after e (lines.Accepted server router key nonce None) harmless row low i has n is = absurd (in_none i has)
   posts node after e (lines.Accepted server router key nonce (Some datagram)) harmless row low i has n is =
       let c = comes o T reads all below node e (lines.Accepted server router key nonce (Some datagram)) after tt harmless row in
@@ -243,11 +239,7 @@ module _ (o : Opening) (T : List Step) (reads : ReadsBack) (all : AllFrom o (his
       }
 
   posts_answers : (s : Step) (line : Line) → s.line ≡ line → IsHarmless o T s.event → MayCome (context_of o T s) s.event line → AllAnswers o (s ∷ T) (items_added o T (past o T) (arrival_in (bag o T) s.event) line)
-  posts_answers s (lines.Sent r k part key nonce datagram) line harmless row i has n is ack = at (head_or_tail (register_item o T r k part nonce) [] i has)
-    where
-      at : (i ≡ register_item o T r k part nonce) ⊎ Contains [] i → IsAnswer o (s ∷ T) i n
-      at (inl same) = absurd (register_clash (sym (ap (λ (x : Item). x.message) same) ∙ is))
-      at (inr no_more) = absurd (in_none i no_more)
+  posts_answers s (lines.Sent r k part key nonce datagram) line harmless row i has n is ack = absurd (register_clash (sym (ap (λ (x : Item). x.message) (only (register_item o T r k part nonce) i has)) ∙ is))
   posts_answers s (lines.Accepted server router key nonce None) line harmless row i has n is ack = absurd (in_none i has)
   posts_answers s (lines.Accepted server router key nonce (Some datagram)) line harmless row i has n is ack =
       let found = from_map (reply_item o.config (sites o T server) server) (acceptances_in (arrival_in (bag o T) s.event) (clock T)) i has in

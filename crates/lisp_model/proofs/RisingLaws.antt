@@ -30,9 +30,9 @@ use Rattle.lisp_model.specs.Receiving.{IsFresh, last_in}
 use Rattle.lisp_model.specs.declared.event.Event.TheVariants as events
 use Rattle.lisp_model.specs.Legal.{MayCome, Arrives, Legal, LegalTrace, context_of}
 use Rattle.lisp_model.proofs.KeptLemmas.{only_value, pair_itself, pair_same}
-use Rattle.lisp_model.proofs.ListLemmas.{at_head, in_tail, head_or_tail, in_none}
+use Rattle.lisp_model.proofs.ListLemmas.{at_head, in_tail, head_or_tail, in_none, only}
 use Rattle.lisp_model.proofs.HearingLemmas.{not_both}
-use Rattle.lisp_model.proofs.Locality.{same_number, other_number, since_other, accepted_other, tried_other, none_accepted}
+use Rattle.lisp_model.proofs.Locality.{same_number, other_number, since_other, accepted_other, tried_other, none_accepted, of_each}
 use Rattle.lisp_model.proofs.Rows.{Refusing, Tells, tells}
 
 -- a value is a number that isn't below
@@ -289,19 +289,10 @@ module _ (o : Opening) (q : Pair) (kind : q.kind ≡ kinds.Received) where
       (subst (λ (ns : List ℕ). Safe q (acceptances o T k) (since_start o T k) ns (kept_at (shown_store o (s ∷ T) k).kept q)) (sym (tried_other s.actor k differ s.line by (nonces_of q (acceptances_in_step o T s)) (tried_nonces o T k q)))
       (subst (λ b. Safe q (acceptances o T k) (since_start o T k) (tried_nonces o T k q) (kept_at (if b then s.shown else shown_store o T k).kept q)) (sym (other_number s.actor k (λ e. differ (sym e)))) safe)))
 
-  safe_step : (T : List Step) (s : Step) (k : ℕ) (b : Bool) → (s.actor == k) ≡ b → Legal o T s → is_server o.config k ≡ true → ((n : ℕ) → is_server o.config n ≡ true → SafeAt T n) → SafeAt (s ∷ T) k
-  safe_step T s k true e l its safe =
-      let same : s.actor ≡ k = (Decides-eqb s.actor k).0 e in
-      let acts : is_server o.config s.actor ≡ true = ap (is_server o.config) same ∙ its in
-      subst (SafeAt (s ∷ T)) same (safe_actor T s l acts (safe s.actor acts))
-  safe_step T s k false e l its safe = safe_other T s k (λ same. not_same same) l (safe k its)
-    where
-      not_same : k ≡ s.actor → ⊥
-      not_same same = let clash : true ≡ false = sym (same_number s.actor) ∙ ap (λ n. s.actor == n) (sym same) ∙ e in absurd cc
-
   pub safe_trace : (T : List Step) → LegalTrace o T → (k : ℕ) → is_server o.config k ≡ true → SafeAt T k
-  safe_trace [] legal k its = safe_opening k
-  safe_trace (s ∷ T) legal k its = safe_step T s k (s.actor == k) refl legal.0 its (safe_trace T legal.1)
+  safe_trace [] legal = λ k its. safe_opening k
+  safe_trace (s ∷ T) legal = of_each (λ k. is_server o.config k ≡ true → SafeAt (s ∷ T) k) s.actor
+      (λ its. safe_actor T s legal.0 its (safe_trace T legal.1 s.actor its)) (λ k differ its. safe_other T s k differ legal.0 (safe_trace T legal.1 k its))
 
 -- pairs of other kinds have no accepted nonces
 no_nonces : (q : Pair) → q.kind ≢ kinds.Received → (acc : List Acceptance) → nonces_of q acc ≡ []
@@ -338,20 +329,9 @@ module _ (t : Context) (server saved : ℕ) where
     base : IsBase (last_in t (pair_of x.message)) (values t (pair_of x.message)) (Some saved)
 
   has_base : (a : Arrival) (now : ℕ) → Arrives t a (lines.Refused server (refusals.Receive (Replay saved))) → (x : Acceptance) → Contains (acceptances_in (Some a) now) x → HasBase x
-  has_base a now row x has = record { kind = row.0.kind; acts = row.0.acts; base = subst (λ (y : Acceptance). IsBase (last_in t (pair_of y.message)) (values t (pair_of y.message)) (Some saved)) (sym only) row.1.counts }
-    where
-      one : Acceptance
-      one = record { message = row.1.message; from = a.from; moment = now }
-
-      in_one : Contains (record { message = row.1.message; from = a.from; moment = now } ∷ []) x
-      in_one = subst (λ (xs : List Acceptance). Contains xs x) (taken_one a now row.1.message row.1.admits.read) has
-
-      at : (x ≡ record { message = row.1.message; from = a.from; moment = now }) ⊎ Contains [] x → x ≡ record { message = row.1.message; from = a.from; moment = now }
-      at (inl e) = e
-      at (inr no_more) = absurd (in_none x no_more)
-
-      only : x ≡ record { message = row.1.message; from = a.from; moment = now }
-      only = at (head_or_tail _ [] x in_one)
+  has_base a now row x has =
+      let one = only _ x (subst (λ (xs : List Acceptance). Contains xs x) (taken_one a now row.1.message row.1.admits.read) has) in
+      record { kind = row.0.kind; acts = row.0.acts; base = subst (λ (y : Acceptance). IsBase (last_in t (pair_of y.message)) (values t (pair_of y.message)) (Some saved)) (sym one) row.1.counts }
 
   replay_base : (e : EventValue) → MayCome t e (lines.Refused server (refusals.Receive (Replay saved))) → (x : Acceptance) → Contains (acceptances_in (arrival_in (bag t.opening t.past) e) (clock t.past)) x → HasBase x
   replay_base (events.Deliver k fate) row x has = has_base (arrival_of row.item) (clock t.past) row.arrives x (subst (λ (a : Option Arrival). Contains (acceptances_in a (clock t.past)) x) (ap (option_map arrival_of) row.sent) has)

@@ -23,7 +23,7 @@ use Rattle.lisp_model.specs.declared.line.Line.{Line}
 use Rattle.lisp_model.specs.declared.line.Line.TheVariants as lines
 use Rattle.lisp_model.specs.declared.refusal.Refusal.{Refusal}
 use Rattle.lisp_model.specs.declared.refusal.Refusal.TheVariants as refusals
-use Rattle.lisp_model.specs.Trace.{EventValue, ShownStore, up_after, key_after}
+use Rattle.lisp_model.specs.Trace.{EventValue, ShownStore, up_after, key_after, database_after}
 use Rattle.lisp_model.specs.Bag.{Arrival, arrival_of, junk_arrival, arrival_in, bag}
 use Rattle.lisp_model.specs.Context.{Context, values, values_after, Same}
 use Rattle.lisp_model.specs.Keys.{keys_since_loss_after, keys_before_loss_after}
@@ -78,12 +78,18 @@ starts (lines.Emptied _ _) = true
 starts (lines.Refused _ (refusals.Start _)) = true
 starts _ = false
 
+-- a router's database may be another one, though it doesn't start
+abbrev pub changes : Line → Bool
+changes (lines.Changed _ _) = true
+changes _ = false
+
 -- they are as they were
 pub record GoesOn (e : EventValue) (line : Line) : Type 0 where
   pub up : (r : ℕ) (old : Bool) → up_after e line r old ≡ old
   pub key : (r old : ℕ) → key_after e line r old ≡ old
   pub since_loss : (r : ℕ) (old : List ℕ) → keys_since_loss_after e line r old ≡ old
   pub before_loss : (r : ℕ) (since old : List ℕ) → keys_before_loss_after e r since old ≡ old
+  pub database : changes line ≡ false → (r : ℕ) (old : List MapRecordValue) → database_after e line r old ≡ old
 
 -- a message arrived, with this row
 pub record Arrived (t : Context) (e : EventValue) (line : Line) : Type 0 where
@@ -227,4 +233,5 @@ module _ (t : Context) where
   goes_on (events.Lose _ _ _) (lines.Emptied _ _) row none = absurd (true≢false none)
   goes_on (events.Lose _ _ _) (lines.Refused _ (refusals.Start _)) row none = absurd (true≢false none)
   goes_on (events.Lose _ _ _) _ row none = absurd row
-  goes_on _ _ row none = record { up = λ r old. refl; key = λ r old. refl; since_loss = λ r old. refl; before_loss = λ r since old. refl }
+  goes_on (events.Change _ _) (lines.Changed _ _) row none = record { up = λ r old. refl; key = λ r old. refl; since_loss = λ r old. refl; before_loss = λ r since old. refl; database = λ not r old. absurd (true≢false not) }
+  goes_on _ _ row none = record { up = λ r old. refl; key = λ r old. refl; since_loss = λ r old. refl; before_loss = λ r since old. refl; database = λ not r old. refl }

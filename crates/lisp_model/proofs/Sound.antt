@@ -24,9 +24,9 @@ use Rattle.lisp_model.specs.Rotating.{IsRotated, IsLost}
 use Rattle.lisp_model.specs.Legal.{MayCome, Legal, LegalTrace, context_of}
 use Rattle.lisp_model.proofs.Rows.{touches, Untouched, GoesOn, Refusing, Following, Tells, tells, goes_on}
 use Rattle.lisp_model.proofs.KeptLemmas.{only_value}
-use Rattle.lisp_model.proofs.ListLemmas.{at_head, head_or_tail, in_none, in_tail}
+use Rattle.lisp_model.proofs.ListLemmas.{at_head, head_or_tail, in_none, in_tail, only}
 use Rattle.lisp_model.proofs.HeardLines.{IsBy}
-use Rattle.lisp_model.proofs.Locality.{same_number, other_number, key_other, since_loss_other, before_loss_other, last_sent_other, start_values_other}
+use Rattle.lisp_model.proofs.Locality.{same_number, other_number, key_other, since_loss_other, before_loss_other, last_sent_other, start_values_other, of_each}
 
 -- what the nonces of a router under a key are kept for
 abbrev pub pair_under : Opening → ℕ → ℕ → Pair
@@ -279,15 +279,11 @@ module _ (t : Context) (was : Sound t.opening t.node (history t.opening t.past) 
 
     loses_on : (last : Option ℕ) (start : List (Option ℕ)) → Then (lost (router == t.node) last start)
     loses_on last start = subst (λ (a : Bool). Then (lost a last start)) (sym (names_node router router refl row.acts)) (record {
-      floor = λ k is e has its of v in_it. absurd (none_under e has its (of ∙ only (head_or_tail key [] k is)));
+      floor = λ k is e has its of v in_it. absurd (none_under e has its (of ∙ only key k is));
       below = λ base counts e has its of. absurd (none_under e has its of);
       used = λ e has its. in_tail key (keys_since_loss t.opening t.past t.node ++ keys_before_loss t.opening t.past t.node) e.key (was.used e has its);
       here = at_head key [];
     })
-      where
-        only : {k : ℕ} → (k ≡ key) ⊎ Contains [] k → k ≡ key
-        only (inl same) = same
-        only {k} (inr none) = absurd (in_none k none)
 
   -- the router goes on as it was
   goes : (e : EventValue) (line : Line) → GoesOn e line → Still → Then (record (keyed t) {
@@ -360,16 +356,9 @@ module _ (o : Opening) where
       here = old.here;
     })
 
-  sound_step : (T : List Step) (s : Step) (r : ℕ) (b : Bool) → (s.actor == r) ≡ b → Legal o T s → ((n : ℕ) → SoundAt T n) → SoundAt (s ∷ T) r
-  sound_step T s r true e l old = subst (SoundAt (s ∷ T)) ((Decides-eqb s.actor r).0 e) (sound_actor T s l (old s.actor))
-  sound_step T s r false e l old = sound_other T s r (λ same. not_same same) l (old r)
-    where
-      not_same : r ≡ s.actor → ⊥
-      not_same same = let clash : true ≡ false = sym (same_number s.actor) ∙ ap (λ n. s.actor == n) (sym same) ∙ e in absurd cc
-
   sound : (T : List Step) → LegalTrace o T → (r : ℕ) → SoundAt T r
   sound [] legal r = record { floor = λ key is e has. absurd (in_none e has); below = λ base counts e has. absurd (in_none e has); used = λ e has. absurd (in_none e has); here = at_head _ [] }
-  sound (s ∷ T) legal r = sound_step T s r (s.actor == r) refl legal.0 (sound T legal.1)
+  sound (s ∷ T) legal r = of_each (SoundAt (s ∷ T)) s.actor (sound_actor T s legal.0 (sound T legal.1 s.actor)) (λ k differ. sound_other T s k differ legal.0 (sound T legal.1 k)) r
 
   -- entries of one router, key and nonce are one
   abbrev pub Unique : List SentRegister → Type 0

@@ -15,19 +15,16 @@ use Rattle.lisp_model.specs.Bag.{since_start}
 use Rattle.lisp_model.specs.Held.{rows}
 use Rattle.lisp_model.specs.Story.{local_at, mapping, one, one_taken, opening, two, wide}
 use Rattle.lisp_model.proofs.Examples.Samples.{row_of, both_heard, row_of_one, row_of_two}
-use Rattle.lisp_model.proofs.ListLemmas.{at_head, head_or_tail, in_none}
+use Rattle.lisp_model.proofs.ListLemmas.{at_head, in_none, only}
 
 -- who answers: no site has the address; a site has it, and nobody registered it
-empty_has : (h : RowValue) → Contains [] h → ⊥
-empty_has h (k, lt, is) = absurd (omega arith)
-
 nobody_has_it : IsAnswer {A = Unit {0}} opening [] 0 (V4 (11 ∷ 0 ∷ 0 ∷ 1 ∷ [])) NoSite
 unfolding masked
-nobody_has_it = (λ h has. absurd (empty_has h has), refl)
+nobody_has_it = (λ h has. absurd (in_none h has), refl)
 
 a_site_has_it : IsAnswer {A = Unit {0}} opening [] 0 (V4 (10 ∷ 1 ∷ 2 ∷ 3 ∷ [])) NotRegistered
 unfolding masked
-a_site_has_it = (λ h has. absurd (empty_has h has), refl)
+a_site_has_it = (λ h has. absurd (in_none h has), refl)
 
 two_rows : rows (since_start opening both_heard 0) 0 ≡ row_of_one ∷ row_of_two ∷ []
 unfolding cut cut_from written
@@ -59,11 +56,7 @@ the_server_answers answer is = (row_of_one, record { held = (0, omega arith, ref
 -- the router asked for proxy replies: the server replies with its record
 the_row : (h : RowValue) → Contains (rows (since_start opening one_taken 0) 0) h → h ≡ row_of (mapping wide 1440) 1 0
 unfolding cut cut_from written
-the_row h has = at (head_or_tail (row_of (mapping wide 1440) 1 0) [] h has)
-  where
-    at : (h ≡ row_of (mapping wide 1440) 1 0) ⊎ Contains [] h → h ≡ row_of (mapping wide 1440) 1 0
-    at (inl e) = e
-    at (inr no_more) = absurd (in_none h no_more)
+the_row h has = only (row_of (mapping wide 1440) 1 0) h has
 
 equal_is_not_greater : Equal ≢ Greater
 equal_is_not_greater e = absurd cc

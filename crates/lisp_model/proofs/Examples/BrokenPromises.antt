@@ -46,15 +46,8 @@ use Rattle.lisp_model.proofs.Examples.Samples.{acknowledged, answered, arrived, 
 use Rattle.lisp_model.proofs.Examples.Rotations.{loses, rotating, sends_under, started, takes_under}
 use Rattle.lisp_model.proofs.ItemLemmas.{item_authentic}
 use Rattle.lisp_model.proofs.KeptLemmas.{only_value, set_here}
-use Rattle.lisp_model.proofs.ListLemmas.{at_head, head_or_tail, in_none}
+use Rattle.lisp_model.proofs.ListLemmas.{at_head, head_or_tail, in_none, only}
 use Rattle.lisp_model.proofs.MustLaws.{must}
-
-only_first : (e : SentRegister) → Contains (first_entry ∷ []) e → e ≡ first_entry
-only_first e has = at (head_or_tail first_entry [] e has)
-  where
-    at : (e ≡ first_entry) ⊎ Contains [] e → e ≡ first_entry
-    at (inl same) = same
-    at (inr none) = absurd (in_none e none)
 
 -- the record of another time to live
 abbrev ttl_of : List MapRecordValue → ℕ
@@ -178,7 +171,7 @@ accepted_elsewhere : AcceptedWasSent opening taken_elsewhere → ⊥
 unfolding cut cut_from written
 accepted_elsewhere all =
     let of = all 1 (arrived (mapping wide 1440 ∷ []) 1) (at_head (arrived (mapping wide 1440 ∷ []) 1) []) in
-    let whom : ◌≡◌ {A = ℕ} 0 1 = sym (ap (λ (e : SentRegister). e.server) (only_first of.0 of.1.sent)) ∙ of.1.whom in
+    let whom : ◌≡◌ {A = ℕ} 0 1 = sym (ap (λ (e : SentRegister). e.server) (only first_entry of.0 of.1.sent)) ∙ of.1.whom in
     absurd (omega (arith, whom))
 
 -- from another address
@@ -191,7 +184,7 @@ accepted_from_elsewhere all = by (all 0 (record (arrived (mapping wide 1440 ∷ 
 
     by : (e : SentRegister) × IsOf opening answered_elsewhere 0 (record (arrived (mapping wide 1440 ∷ []) 1) { from = local_at 99 }) e → ⊥
     by (e, of) =
-        let from : local_at 99 ≡ local_at 21 = of.from ∙ ap (λ (x : SentRegister). address_at network x.router) (only_first e of.sent) in
+        let from : local_at 99 ≡ local_at 21 = of.from ∙ ap (λ (x : SentRegister). address_at network x.router) (only first_entry e of.sent) in
         let last : ◌≡◌ {A = ℕ} 99 21 = ap last_byte from in
         absurd (omega (arith, last))
 
@@ -212,7 +205,7 @@ accepted_forged : AcceptedWasSent opening forged_taken → ⊥
 unfolding cut cut_from written
 accepted_forged all =
     let of = all 0 (arrived short 1) (subst (λ (xs : List Acceptance). Contains (xs ++ []) (arrived short 1)) (sym (taken_of 0 1 (omega arith))) (at_head (arrived short 1) [])) in
-    other_records (ap (λ (m : MapRegisterValue). m.records) (of.1.message ∙ ap (message_of network) (only_first of.0 of.1.sent)))
+    other_records (ap (λ (m : MapRegisterValue). m.records) (of.1.message ∙ ap (message_of network) (only first_entry of.0 of.1.sent)))
 
 abbrev sent_again_alike : List Step
 sent_again_alike = sends one_sent 1 1 1 ∷ one_sent
@@ -239,7 +232,7 @@ nonce_sent_twice all = by (all 0 (arrived (mapping wide 1440 ∷ []) 1) (at_head
         at : (e ≡ second_alike) ⊎ Contains (first_entry ∷ []) e → ⊥
         at (inl is) = servers e of.only (ap (λ (x : SentRegister). x.router) is) (ap (λ (x : SentRegister). x.key) is) (ap (λ (x : SentRegister). x.nonce) is)
         at (inr later) =
-            let is = only_first e later in
+            let is = only first_entry e later in
             servers e of.only (ap (λ (x : SentRegister). x.router) is) (ap (λ (x : SentRegister). x.key) is) (ap (λ (x : SentRegister). x.nonce) is)
 
 -- once its store was lost, a router goes on under the key that it used, from the first nonce
@@ -268,7 +261,7 @@ nonce_sent_after_a_loss all = by (all 0 (arrived (mapping wide 1440 ∷ []) 1) (
         at : (e ≡ third_alike) ⊎ Contains (first_entry ∷ []) e → ⊥
         at (inl is) = positions e of.only (ap (λ (x : SentRegister). x.router) is) (ap (λ (x : SentRegister). x.key) is) (ap (λ (x : SentRegister). x.nonce) is)
         at (inr later) =
-            let is = only_first e later in
+            let is = only first_entry e later in
             positions e of.only (ap (λ (x : SentRegister). x.router) is) (ap (λ (x : SentRegister). x.key) is) (ap (λ (x : SentRegister). x.nonce) is)
 
 -- what is held was sent: to another Map-Server; with another record
@@ -276,7 +269,7 @@ held_elsewhere : HeldWasSent opening taken_elsewhere → ⊥
 unfolding cut cut_from written
 held_elsewhere all =
     let of = all 1 one wide (row_of (mapping wide 1440) 1 0) refl in
-    let whom : ◌≡◌ {A = ℕ} 0 1 = sym (ap (λ (e : SentRegister). e.server) (only_first of.0 of.1)) ∙ of.2 in
+    let whom : ◌≡◌ {A = ℕ} 0 1 = sym (ap (λ (e : SentRegister). e.server) (only first_entry of.0 of.1)) ∙ of.2 in
     absurd (omega (arith, whom))
 
 -- what a Map-Server holds that accepted one message
@@ -286,7 +279,7 @@ held_of since_start = held_row since_start one wide 0
 held_forged : HeldWasSent opening forged_taken → ⊥
 held_forged all =
     let of = all 0 one wide (row_of (mapping wide 60) 1 0) (ap (λ (xs : List Acceptance). held_of (xs ++ [])) (taken_of 0 1 (omega arith))) in
-    other_records (sym (ap option_to_list (sym (ap (λ (e : SentRegister). record_in e wide) (only_first of.0 of.1)) ∙ of.4)))
+    other_records (sym (ap option_to_list (sym (ap (λ (e : SentRegister). record_in e wide) (only first_entry of.0 of.1)) ∙ of.4)))
 
 -- two Map-Servers agree: one accepted another record than what was sent to it, with no change between
 abbrev unequal : List Step
@@ -311,11 +304,7 @@ counted_unaccepted all = let was = all 2 0 (acknowledged 0 1 1) (at_head _ []) i
 
 -- the nonce of the one message that was accepted
 only_nonce : (a x : Acceptance) (m : MapRegisterValue) (nonce : ℕ) → Contains (a ∷ []) x → x.message ≡ m → m.nonce ≡ nonce → a.message.nonce ≡ nonce
-only_nonce a x m nonce has is number = by (head_or_tail a [] x has)
-  where
-    by : (x ≡ a) ⊎ Contains [] x → a.message.nonce ≡ nonce
-    by (inl same) = sym (ap (λ (y : Acceptance). y.message.nonce) same) ∙ ap (λ (n : MapRegisterValue). n.nonce) is ∙ number
-    by (inr none) = absurd (in_none x none)
+only_nonce a x m nonce has is number = sym (ap (λ (y : Acceptance). y.message.nonce) (only a x has)) ∙ ap (λ (n : MapRegisterValue). n.nonce) is ∙ number
 
 abbrev counted_early : List Step
 counted_early = counts one_sent 0 0 1 ∷ one_sent
@@ -347,26 +336,26 @@ counted_of_another_server all = let was = all 2 0 (acknowledged 0 1 2) (at_head 
 counted_by_another : CountedWasAccepted opening (step (events.Deliver 1 fates.Done) (lines.Counted 3 0 0 1 1) 3 blank ∷ one_taken) → ⊥
 counted_by_another all =
     let was = all 3 0 (acknowledged 0 1 1) (at_head _ []) in
-    let who : ◌≡◌ {A = ℕ} 2 3 = sym (ap (λ (e : SentRegister). e.router) (only_first was.entry was.sent)) ∙ was.who in
+    let who : ◌≡◌ {A = ℕ} 2 3 = sym (ap (λ (e : SentRegister). e.router) (only first_entry was.entry was.sent)) ∙ was.who in
     absurd (omega (arith, who))
 
 counted_under_another_key : CountedWasAccepted opening (step (events.Deliver 1 fates.Done) (lines.Counted 2 0 0 7 1) 2 blank ∷ one_taken) → ⊥
 counted_under_another_key all =
     let was = all 2 0 (acknowledged 0 7 1) (at_head _ []) in
-    let under : ◌≡◌ {A = ℕ} 1 7 = sym (ap (λ (e : SentRegister). e.key) (only_first was.entry was.sent)) ∙ was.under in
+    let under : ◌≡◌ {A = ℕ} 1 7 = sym (ap (λ (e : SentRegister). e.key) (only first_entry was.entry was.sent)) ∙ was.under in
     absurd (omega (arith, under))
 
 counted_elsewhere : CountedWasAccepted opening (step (events.Deliver 1 fates.Done) (lines.Counted 2 1 0 1 1) 2 blank ∷ taken_elsewhere) → ⊥
 counted_elsewhere all =
     let was = all 2 1 (acknowledged 0 1 1) (at_head _ []) in
-    let whom : ◌≡◌ {A = ℕ} 0 1 = sym (ap (λ (e : SentRegister). e.server) (only_first was.entry was.sent)) ∙ was.whom in
+    let whom : ◌≡◌ {A = ℕ} 0 1 = sym (ap (λ (e : SentRegister). e.server) (only first_entry was.entry was.sent)) ∙ was.whom in
     absurd (omega (arith, whom))
 
 -- another part
 counted_of_another_part : CountedWasAccepted opening (counts_part one_taken 1 0 1 1 ∷ one_taken) → ⊥
 counted_of_another_part all =
     let was = all 2 0 (acknowledged 1 1 1) (at_head _ []) in
-    let of : ◌≡◌ {A = ℕ} 0 1 = sym (ap (λ (e : SentRegister). e.part) (only_first was.entry was.sent)) ∙ was.of in
+    let of : ◌≡◌ {A = ℕ} 0 1 = sym (ap (λ (e : SentRegister). e.part) (only first_entry was.entry was.sent)) ∙ was.of in
     absurd (omega (arith, of))
 
 -- absent parts rest: one was sent that the database doesn't have

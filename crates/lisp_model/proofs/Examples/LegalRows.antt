@@ -27,7 +27,7 @@ use Rattle.lisp_model.specs.Numbers.{numbers_below}
 use Rattle.lisp_model.specs.declared.event.Event.TheVariants as events
 use Rattle.lisp_model.specs.declared.line.Line.TheVariants as lines
 use Rattle.lisp_model.specs.declared.refusal.Refusal.TheVariants as refusals
-use Rattle.lisp_model.proofs.Examples.Steps.{hears, kinds_differ, registers_read, short_heard, short_message, strange_refused, changes_legal, counts_legal, counts_part_legal, doubts_send_legal, doubts_take_legal, ends_legal, fails_load_legal, notices_legal, refuses_record, repeats_legal, replays_legal, restarts_legal, restarts_to_legal, sends_legal, takes_legal, tells_legal, ticks_legal, foreign_whole, short_whole, wide_whole}
+use Rattle.lisp_model.proofs.Examples.Steps.{hears, kinds_differ, registers_read, short_heard, short_message, strange_refused, changes_legal, counts_legal, counts_part_legal, doubts_send_legal, doubts_take_legal, ends_legal, fails_load_legal, notices_legal, refuses_record, repeats_legal, replays_legal, restarts_legal, restarts_to_legal, sends_legal, takes_legal, tells_legal, ticks_legal, foreign_whole, short_whole, wide_whole, legal, send_legal}
 use Rattle.lisp_model.proofs.Examples.Samples.{answered, blocks, changes, counts_part, fails_load, refuses, spent, tells, ticks, told, aged, answered_elsewhere, both_sent, both_taken, doubted, ended, first_told, foreign, foreign_sent, forgot, held_at, is_down, kept_it, newer_taken, not_started, older_noticed, parts_sent_again, parts_taken, registered_again, restarted, second_counted, sent_after, sent_twice, short, spent_taken, told_again, told_and_gone, told_anew, two_sent, unsure, unsure_forgot, unsure_kept, vanished, waited, was_noticed}
 use Rattle.lisp_model.proofs.KeptLemmas.{empty_full, insert_full, only_value, set_full, set_here, set_others, stays}
 use Rattle.lisp_model.proofs.ContextLemmas.{doubted_end, doubted_new, doubted_old, fresh_value, other_value, set_value}
@@ -194,32 +194,24 @@ older_notice_ended = (
 pub stale : LegalTrace opening (refuses sent_twice (events.Deliver 1 fates.Done) 2 (refusals.Notify (notify_faults.Stale 2)) ∷ sent_twice)
 unfolding cut cut_from written numbers_below
 stale = (
-  record {
-    faults = λ other. omega arith;
-    obedient = refl;
-    row = record {
-      item = told (local_at 11) (local_at 21) 1 (mapping wide 1440 ∷ []);
-      sent = refl;
-      there = refl;
-      arrives = record { acts = record { kind = refl; acts = refl; state = refl }; same = refl; comes = inl (rw (hears (local_at 11) (local_at 21) 1 (mapping wide 1440 ∷ []) 0 refl sent_twice refl) refl) };
-    };
-  },
+  legal (omega arith) refl (record {
+    item = told (local_at 11) (local_at 21) 1 (mapping wide 1440 ∷ []);
+    sent = refl;
+    there = refl;
+    arrives = record { acts = record { kind = refl; acts = refl; state = refl }; same = refl; comes = inl (rw (hears (local_at 11) (local_at 21) 1 (mapping wide 1440 ∷ []) 0 refl sent_twice refl) refl) };
+  }),
   (sends_legal one_taken 0 2 2 (Some 1) refl refl refl refl refl refl (omega arith) wide_whole refl, one_taken_legal),
 )
 
 -- the greatest of the latest nonces is told
 pub stale_of_parts : Legal opening parts_sent_again (refuses parts_sent_again (events.Deliver 1 fates.Done) 2 (refusals.Notify (notify_faults.Stale 3)))
 unfolding cut cut_from written numbers_below
-stale_of_parts = record {
-  faults = λ other. omega arith;
-  obedient = refl;
-  row = record {
-    item = told (local_at 11) (local_at 21) 1 (mapping wide 1440 ∷ []);
-    sent = refl;
-    there = refl;
-    arrives = record { acts = record { kind = refl; acts = refl; state = refl }; same = refl; comes = inl (rw (hears (local_at 11) (local_at 21) 1 (mapping wide 1440 ∷ []) 0 refl parts_sent_again refl) refl) };
-  };
-}
+stale_of_parts = legal (omega arith) refl (record {
+  item = told (local_at 11) (local_at 21) 1 (mapping wide 1440 ∷ []);
+  sent = refl;
+  there = refl;
+  arrives = record { acts = record { kind = refl; acts = refl; state = refl }; same = refl; comes = inl (rw (hears (local_at 11) (local_at 21) 1 (mapping wide 1440 ∷ []) 0 refl parts_sent_again refl) refl) };
+})
 
 -- each part counts by its own nonce, also one that the database doesn't have any more
 pub second_part_counts : Legal opening parts_taken (counts_part parts_taken 3 0 1 2)
@@ -295,17 +287,13 @@ unfolding cut cut_from written
 lost_item = ap (λ (r : Result MessageValue ReadFault). register_item opening [] 2 0 0 1 ∷ map (reply_item network network.sites 0) (acceptances_in (Some (record { from = local_at 99; bytes = bytes_of (register_item opening [] 2 0 0 1); read = r })) 0)) (registers_read (register_item opening [] 2 0 0 1) 1440 1 refl (omega arith) (omega arith))
 
 pub lost : Legal opening answered_elsewhere (step (events.Deliver 1 fates.Done) (lines.Nowhere 1) 4 (at [] 4))
-lost = record {
-  faults = λ other. omega arith;
-  obedient = refl;
-  row = record {
-    item = told (local_at 11) (local_at 99) 1 (mapping wide 1440 ∷ []);
-    sent = ap (λ (items : List Item). slice_get items 1) lost_item;
-    nobody = refl;
-    names = refl;
-    idle = record { server = refl; router = refl; same = refl };
-  };
-}
+lost = legal (omega arith) refl (record {
+  item = told (local_at 11) (local_at 99) 1 (mapping wide 1440 ∷ []);
+  sent = ap (λ (items : List Item). slice_get items 1) lost_item;
+  nobody = refl;
+  names = refl;
+  idle = record { server = refl; router = refl; same = refl };
+})
 
 -- each Map-Server's reply counts, though a Map-Register went to the other one since
 pub counted_of_each : Legal opening both_taken (counts both_taken 2 0 1)
@@ -332,45 +320,32 @@ narrow_fits = refl
 
 pub notices_spent_told : Legal spent spent_taken (step (events.Notice 0 3 fates.Done) (lines.Refused 0 (refusals.Notice notice_faults.NonceSpent)) 0 (keeps (keeps blank notice_pair (2 ^ 64 - 1)) (got_from two) 1))
 unfolding cut cut_from written
-notices_spent_told = record {
-  faults = λ other. omega arith;
-  obedient = refl;
-  row = (
-    refl,
-    record { kind = refl; acts = refl },
-    refl,
-    (record { some = λ e. let clash : ◌≡◌ {A = List MapRecordValue} (mapping narrow 1440 ∷ []) [] = e in absurd cc; fits = narrow_fits }, Some (2 ^ 64 - 1), other_value _ (got_from two) notice_pair _ (Some (2 ^ 64 - 1)) (λ e. absurd (kinds_differ e)) (set_value _ _ _), λ none obeys clash. absurd cc, omega arith, refl),
-  );
-}
+notices_spent_told = legal (omega arith) refl (
+  refl,
+  record { kind = refl; acts = refl },
+  refl,
+  (record { some = λ e. let clash : ◌≡◌ {A = List MapRecordValue} (mapping narrow 1440 ∷ []) [] = e in absurd cc; fits = narrow_fits }, Some (2 ^ 64 - 1), other_value _ (got_from two) notice_pair _ (Some (2 ^ 64 - 1)) (λ e. absurd (kinds_differ e)) (set_value _ _ _), λ none obeys clash. absurd cc, omega arith, refl),
+)
 
 -- a router that saves ten nonces at once keeps the last of them
 pub saved_its_block : Legal blocks [] (step (events.Send 2 0 0 fates.Done) (lines.Sent 2 0 0 1 1 0) 2 (keeps blank (sent_by one) 10))
 unfolding cut cut_from written
-saved_its_block = record {
-  faults = λ other. omega arith;
-  obedient = refl;
-  row = (
-    refl,
-    refl,
-    refl,
-    record {
-      acts = record { kind = refl; acts = refl; state = refl };
-      kind = refl;
-      listed = refl;
-      fits = wide_whole.database;
-      there = wide_whole.there;
-      under = refl;
-      base = None;
-      counts = fresh_value (sent_by one);
-      next = refl;
-      within = omega arith;
-      message = record { nonce = omega arith; key = omega arith; records = wide_whole.records; xtr = refl; xtr_bytes = search rules; site = omega arith };
-      place = refl;
-      saves = record {
-        here = inr (set_here empty (sent_by one) (Some 10 ∷ []), λ obeys clash. absurd cc);
-        none_below = λ v has. subst (λ (w : Option ℕ). 1 ≤ number w) (sym (only_value (Some 10) v (subst (λ (vs : List (Option ℕ)). Contains vs v) (set_here empty (sent_by one) (Some 10 ∷ [])) has))) (omega arith);
-        others = set_others empty (sent_by one) (Some 10 ∷ []);
-      };
-    },
-  );
-}
+saved_its_block = send_legal (omega arith) refl (record {
+  acts = record { kind = refl; acts = refl; state = refl };
+  kind = refl;
+  listed = refl;
+  fits = wide_whole.database;
+  there = wide_whole.there;
+  under = refl;
+  base = None;
+  counts = fresh_value (sent_by one);
+  next = refl;
+  within = omega arith;
+  message = record { nonce = omega arith; key = omega arith; records = wide_whole.records; xtr = refl; xtr_bytes = search rules; site = omega arith };
+  place = refl;
+  saves = record {
+    here = inr (set_here empty (sent_by one) (Some 10 ∷ []), λ obeys clash. absurd cc);
+    none_below = λ v has. subst (λ (w : Option ℕ). 1 ≤ number w) (sym (only_value (Some 10) v (subst (λ (vs : List (Option ℕ)). Contains vs v) (set_here empty (sent_by one) (Some 10 ∷ [])) has))) (omega arith);
+    others = set_others empty (sent_by one) (Some 10 ∷ []);
+  };
+})

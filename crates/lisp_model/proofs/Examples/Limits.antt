@@ -40,7 +40,7 @@ use Rattle.lisp_model.specs.declared.refusal.Refusal.TheVariants as refusals
 use Rattle.lisp_model.proofs.ContextLemmas.{fresh_value, saved}
 use Rattle.lisp_model.proofs.Examples.NearMisses.Common.{first, first_item, item_is, nothing_is_no_number, only_set_of, register_is}
 use Rattle.lisp_model.proofs.Examples.Samples.{arrived, registers}
-use Rattle.lisp_model.proofs.Examples.Steps.{IsOnePart}
+use Rattle.lisp_model.proofs.Examples.Steps.{IsOnePart, legal, send_legal}
 use Rattle.lisp_model.proofs.ItemLemmas.{item_authentic}
 use Rattle.lisp_model.proofs.KeptLemmas.{set_here}
 
@@ -91,30 +91,21 @@ two_whole = record { database = refl; there = omega arith; alone = refl; records
 both_sent_legal : LegalTrace limited both_sent
 unfolding cut cut_from written
 both_sent_legal = (
-  record {
-    faults = λ other. omega arith;
-    obedient = refl;
-    row = (
-      refl,
-      refl,
-      refl,
-      record {
-        acts = record { kind = refl; acts = refl; state = refl };
-        kind = refl;
-        listed = refl;
-        fits = two_whole.database;
-        there = two_whole.there;
-        under = refl;
-        base = None;
-        counts = fresh_value (sent_by one);
-        next = refl;
-        within = omega arith;
-        message = record { nonce = omega arith; key = omega arith; records = two_whole.records; xtr = refl; xtr_bytes = search rules; site = omega arith };
-        place = refl;
-        saves = saved _ (sent_by one) 1 (λ obeys clash. absurd cc) refl;
-      },
-    );
-  },
+  send_legal (omega arith) refl (record {
+    acts = record { kind = refl; acts = refl; state = refl };
+    kind = refl;
+    listed = refl;
+    fits = two_whole.database;
+    there = two_whole.there;
+    under = refl;
+    base = None;
+    counts = fresh_value (sent_by one);
+    next = refl;
+    within = omega arith;
+    message = record { nonce = omega arith; key = omega arith; records = two_whole.records; xtr = refl; xtr_bytes = search rules; site = omega arith };
+    place = refl;
+    saves = saved _ (sent_by one) 1 (λ obeys clash. absurd cc) refl;
+  }),
   tt,
 )
 
@@ -141,26 +132,22 @@ both_are_too_many = (tt, ((one, narrow), (refl, refl), ((λ was. absurd cc), ((o
 refused_as_full : LegalTrace limited full_refused
 unfolding cut cut_from written
 refused_as_full = (
-  record {
-    faults = λ other. omega arith;
-    obedient = refl;
-    row = record {
-      item = both_item;
-      sent = refl;
-      there = refl;
-      arrives = (
-        record { kind = refl; acts = refl },
-        record {
-          message = registers two_records 1;
-          admits = record { read = refl; secret = secret; checks = both_admitted };
-          its = refl;
-          fresh = record { base = None; counts = fresh_value (got_from one); above = tt; near = tt; loads = λ none obeys clash. absurd cc };
-          lacks = both_are_too_many;
-          same = refl;
-        },
-      );
-    };
-  },
+  legal (omega arith) refl (record {
+    item = both_item;
+    sent = refl;
+    there = refl;
+    arrives = (
+      record { kind = refl; acts = refl },
+      record {
+        message = registers two_records 1;
+        admits = record { read = refl; secret = secret; checks = both_admitted };
+        its = refl;
+        fresh = record { base = None; counts = fresh_value (got_from one); above = tt; near = tt; loads = λ none obeys clash. absurd cc };
+        lacks = both_are_too_many;
+        same = refl;
+      },
+    );
+  }),
   both_sent_legal,
 )
 

@@ -25,7 +25,7 @@ use Rattle.lisp_model.specs.declared.refusal.Refusal.TheVariants as refusals
 use Rattle.lisp_model.proofs.Examples.Steps.{fits, item_reads, short_message, wide_record}
 use Rattle.lisp_model.proofs.Examples.Samples.{changes, refuses, registers, ticks, two_keys, both_sent, first_entry, restarted_changed, short, two_sent}
 use Rattle.lisp_model.proofs.ItemLemmas.{item_authentic}
-use Rattle.lisp_model.proofs.ListLemmas.{at_head, head_or_tail, in_none}
+use Rattle.lisp_model.proofs.ListLemmas.{at_head, in_none, only}
 
 -- clean: a datagram that was overheard and is thrown in again; bytes that are no message; bytes that aren't authentic under
 -- what the node holds, whatever other nodes hold
@@ -35,28 +35,14 @@ overheard = (inl (record { item = register_item opening [] 2 0 0 1; sent = at_he
 noise : Clean opening (step (events.Junk 0 (local_at 21) []) (lines.Down 0) 0 (at [] 0) ∷ [])
 noise = (inr (inl (reads.Short, short_message)), tt)
 
-only_secret : (x : List ℕ) → Contains (secret ∷ []) x → x ≡ secret
-only_secret x has = at (head_or_tail secret [] x has)
-  where
-    at : (x ≡ secret) ⊎ Contains [] x → x ≡ secret
-    at (inl same) = same
-    at (inr none) = absurd (in_none x none)
-
 forged_at_server : (bytes : List ℕ) → is_authentic bytes secret ≡ false → Clean opening (refuses [] (events.Junk 0 (local_at 21) bytes) 0 (refusals.Receive refuseds.BadAuth) ∷ [])
-forged_at_server bytes forged = (inr (inr (λ x has. subst (λ (s : List ℕ). is_authentic bytes s ≡ false) (sym (only_secret x has)) forged)), tt)
+forged_at_server bytes forged = (inr (inr (λ x has. subst (λ (s : List ℕ). is_authentic bytes s ≡ false) (sym (only secret x has)) forged)), tt)
 
 forged_at_router : (bytes : List ℕ) → is_authentic bytes secret ≡ false → Clean two_keys (refuses [] (events.Junk 2 (local_at 11) bytes) 2 (refusals.Notify notify_faults.BadAuth) ∷ [])
-forged_at_router bytes forged = (inr (inr (λ x has. subst (λ (s : List ℕ). is_authentic bytes s ≡ false) (sym (only_secret x has)) forged)), tt)
+forged_at_router bytes forged = (inr (inr (λ x has. subst (λ (s : List ℕ). is_authentic bytes s ≡ false) (sym (only secret x has)) forged)), tt)
 
 -- unclean: what nobody sent, and is authentic under the secret; a datagram that was overheard, from another source or at another
 -- Map-Server
-in_bag : (x y : Item) → Contains (x ∷ []) y → y ≡ x
-in_bag x y has = at (head_or_tail x [] y has)
-  where
-    at : (y ≡ x) ⊎ Contains [] y → y ≡ x
-    at (inl same) = same
-    at (inr none) = absurd (in_none y none)
-
 -- bytes of an item of the first router that are no echo aren't harmless
 no_echo : (T : List Step) (node : ℕ) (from : Addr) (i : Item) → i.secret ≡ secret → IsMessage i.message → secrets_of opening T node ≡ secret ∷ []
     → (IsEcho (bag opening T) from (address_at network node) (bytes_of i) → ⊥) → IsHarmless opening T (events.Junk node from (bytes_of i)) → ⊥
@@ -81,13 +67,13 @@ sent_by_nobody clean = by clean.0
 
 from_another : Clean opening (step (events.Junk 0 (local_at 22) (bytes_of first_item)) (lines.Down 0) 0 blank ∷ one_sent) → ⊥
 from_another clean = no_echo one_sent 0 (local_at 22) first_item refl first_said refl (λ echo.
-    let source : local_at 21 ≡ local_at 22 = sym (ap (λ (i : Item). i.from) (in_bag first_item echo.item echo.sent)) ∙ echo.source in
+    let source : local_at 21 ≡ local_at 22 = sym (ap (λ (i : Item). i.from) (only first_item echo.item echo.sent)) ∙ echo.source in
     let last : ◌≡◌ {A = ℕ} 21 22 = cc in
     absurd (omega (arith, last))) clean.0
 
 to_another : Clean opening (step (events.Junk 1 (local_at 21) (bytes_of first_item)) (lines.Down 0) 1 blank ∷ one_sent) → ⊥
 to_another clean = no_echo one_sent 1 (local_at 21) first_item refl first_said refl (λ echo.
-    let target : local_at 11 ≡ local_at 12 = sym (ap (λ (i : Item). i.to) (in_bag first_item echo.item echo.sent)) ∙ echo.target in
+    let target : local_at 11 ≡ local_at 12 = sym (ap (λ (i : Item). i.to) (only first_item echo.item echo.sent)) ∙ echo.target in
     let last : ◌≡◌ {A = ℕ} 11 12 = cc in
     absurd (omega (arith, last))) clean.0
 
@@ -166,7 +152,7 @@ other_said = fits short 9 (omega arith) (wide_record 60 (omega arith))
 other_bytes : Clean opening (step (events.Junk 0 (local_at 21) (bytes_of other_item)) (lines.Down 0) 0 blank ∷ one_sent) → ⊥
 unfolding cut cut_from written
 other_bytes clean = no_echo one_sent 0 (local_at 21) other_item refl other_said refl (λ echo.
-    let read : ◌≡◌ {A = Result MessageValue ReadFault} (Ok first_item.message) (Ok other_item.message) = sym (item_reads first_item first_said) ∙ ap (λ (i : Item). message_at (bytes_of i)) (sym (in_bag first_item echo.item echo.sent)) ∙ ap message_at echo.same ∙ item_reads other_item other_said in
+    let read : ◌≡◌ {A = Result MessageValue ReadFault} (Ok first_item.message) (Ok other_item.message) = sym (item_reads first_item first_said) ∙ ap (λ (i : Item). message_at (bytes_of i)) (sym (only first_item echo.item echo.sent)) ∙ ap message_at echo.same ∙ item_reads other_item other_said in
     let message : registers (mapping wide 1440 ∷ []) 1 ≡ registers short 9 = cc in
     let nonce : ◌≡◌ {A = ℕ} 1 9 = ap (λ (m : MapRegisterValue). m.nonce) message in
     absurd (omega (arith, nonce))) clean.0

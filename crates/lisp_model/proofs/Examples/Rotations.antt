@@ -36,7 +36,7 @@ use Rattle.lisp_model.specs.Numbers.{numbers_below}
 use Rattle.lisp_model.specs.declared.event.Event.TheVariants as events
 use Rattle.lisp_model.specs.declared.line.Line.TheVariants as lines
 use Rattle.lisp_model.specs.declared.refusal.Refusal.TheVariants as refusals
-use Rattle.lisp_model.proofs.Examples.Steps.{IsOnePart, wide_whole, block_of_one, fits_under}
+use Rattle.lisp_model.proofs.Examples.Steps.{IsOnePart, wide_whole, block_of_one, fits_under, legal, send_legal}
 use Rattle.lisp_model.proofs.Examples.Samples.{failed}
 use Rattle.lisp_model.proofs.ContextLemmas.{fresh_value, other_value, saved, set_value}
 use Rattle.lisp_model.proofs.ItemLemmas.{item_authentic, passes}
@@ -133,59 +133,46 @@ not_emptied = loses_and_fails started 3 ∷ started
 -- a Map-Register goes out under the router's key
 sends_under_legal : (T : List Step) (key nonce datagram : ℕ) (base : Option ℕ) → key_of rotating T 2 ≡ key → is_up T 2 ≡ true → CountsFrom rotating T 2 base → nonce ≡ number base + 1 → key < 256 → nonce < 2 ^ 63 → IsOnePart (database rotating T 2) → datagram ≡ length (bag rotating T)
     → Legal rotating T (sends_under T key nonce datagram)
-sends_under_legal T key nonce datagram base is up counted next small low whole place = record {
-  faults = λ other. omega arith;
-  obedient = refl;
-  row = (
-    refl,
-    refl,
-    refl,
-    record {
-      acts = record { kind = refl; acts = refl; state = up };
-      kind = refl;
-      listed = refl;
-      fits = whole.database;
-      there = whole.there;
-      under = sym is;
-      base = base;
-      counts = counted;
-      next = next;
-      within = omega (arith, low);
-      message = record { nonce = omega (arith, low); key = subst (λ (k : ℕ). k < 256) (sym is) small; records = subst AreRecords (sym whole.alone) whole.records; xtr = refl; xtr_bytes = search rules; site = omega arith };
-      place = place;
-      saves = subst (λ (k : ℕ). Saves (context_of rotating T (sends_under T key nonce datagram)) (under k (sent_by one)) nonce (block_end nonce 1)) (sym is)
-          (subst (Saves (context_of rotating T (sends_under T key nonce datagram)) (under key (sent_by one)) nonce) (sym (block_of_one nonce (omega (arith, low)))) (saved _ (under key (sent_by one)) nonce (λ obeys clash. absurd cc) refl));
-    },
-  );
-}
+sends_under_legal T key nonce datagram base is up counted next small low whole place = send_legal (omega arith) refl (record {
+  acts = record { kind = refl; acts = refl; state = up };
+  kind = refl;
+  listed = refl;
+  fits = whole.database;
+  there = whole.there;
+  under = sym is;
+  base = base;
+  counts = counted;
+  next = next;
+  within = omega (arith, low);
+  message = record { nonce = omega (arith, low); key = subst (λ (k : ℕ). k < 256) (sym is) small; records = subst AreRecords (sym whole.alone) whole.records; xtr = refl; xtr_bytes = search rules; site = omega arith };
+  place = place;
+  saves = subst (λ (k : ℕ). Saves (context_of rotating T (sends_under T key nonce datagram)) (under k (sent_by one)) nonce (block_end nonce 1)) (sym is)
+      (subst (Saves (context_of rotating T (sends_under T key nonce datagram)) (under key (sent_by one)) nonce) (sym (block_of_one nonce (omega (arith, low)))) (saved _ (under key (sent_by one)) nonce (λ obeys clash. absurd cc) refl));
+})
 
 -- it is accepted
 takes_under_legal : (T before : List Step) (k key nonce datagram : ℕ) (base : Option ℕ) → sites rotating T 0 ≡ rotating.config.sites → slice_get (bag rotating T) k ≡ Some (register_item rotating before 2 0 0 nonce) → key_of rotating before 2 ≡ key → secret_of three_keys key ≡ Some (etr_config rotating before 2).secret
     → first_not_allowed three_keys (part_at (database rotating before 2) 0) ≡ None → IsBase (last_of (under key (got_from one)) (since_start rotating T 0)) (kept_at (shows T 0).kept (under key (got_from one))) base → IsBelow base nonce → datagram ≡ length (bag rotating T)
     → Legal rotating T (takes_under T k key nonce datagram)
-takes_under_legal T before k key nonce datagram base has sent is known allowed counted below place = record {
-  faults = λ other. omega arith;
-  obedient = refl;
-  row = record {
-    item = register_item rotating before 2 0 0 nonce;
-    sent = sent;
-    there = refl;
-    arrives = record {
-      acts = record { kind = refl; acts = refl };
-      message = _;
-      admits = record { read = refl; secret = (etr_config rotating before 2).secret; checks = ap (λ (sites : List SiteValue). secret_under sites (register_item rotating before 2 0 0 nonce).from (bytes_of (register_item rotating before 2 0 0 nonce)) (map_register_of (etr_config rotating before 2) (part_at (database rotating before 2) 0) nonce)) has ∙ passes rotating.config.sites (register_item rotating before 2 0 0 nonce).from (bytes_of (register_item rotating before 2 0 0 nonce)) (map_register_of (etr_config rotating before 2) (part_at (database rotating before 2) 0) nonce) three_keys (etr_config rotating before 2).secret refl (ap (secret_of three_keys) is ∙ known) (item_authentic (register_item rotating before 2 0 0 nonce)) refl refl allowed };
-      who = refl;
-      under = sym is;
-      number = refl;
-      fresh = subst (λ (k : ℕ). IsFresh (context_of rotating T (takes_under T k key nonce datagram)) (map_register_of (etr_config_under rotating.config (router_at rotating.config 2) k) (part_at (database rotating before 2) 0) nonce)) (sym is) (record { base = base; counts = counted; above = below; near = subst (λ (sites : List SiteValue). IsNear (most_jump_at sites 1) base nonce) (sym has) tt; loads = λ none obeys clash. absurd cc });
-      space = fits_under rotating T 0 rotating.config.sites _ _ has (record { routers = tt; rows = tt });
-      may = λ obeys clash. absurd cc;
-      kept = subst (λ (k : ℕ). kept_at (keeps (shows T 0) (under key (got_from one)) nonce).kept (under k (got_from one)) ≡ Some nonce ∷ []) (sym is) (set_here (shows T 0).kept (under key (got_from one)) (Some nonce ∷ []));
-      others = subst (λ (k : ℕ). SameElsewhere (shows T 0).kept (keeps (shows T 0) (under key (got_from one)) nonce).kept (under k (got_from one))) (sym is) (set_others (shows T 0).kept (under key (got_from one)) (Some nonce ∷ []));
-      reply = ap Some place;
-    };
+takes_under_legal T before k key nonce datagram base has sent is known allowed counted below place = legal (omega arith) refl (record {
+  item = register_item rotating before 2 0 0 nonce;
+  sent = sent;
+  there = refl;
+  arrives = record {
+    acts = record { kind = refl; acts = refl };
+    message = _;
+    admits = record { read = refl; secret = (etr_config rotating before 2).secret; checks = ap (λ (sites : List SiteValue). secret_under sites (register_item rotating before 2 0 0 nonce).from (bytes_of (register_item rotating before 2 0 0 nonce)) (map_register_of (etr_config rotating before 2) (part_at (database rotating before 2) 0) nonce)) has ∙ passes rotating.config.sites (register_item rotating before 2 0 0 nonce).from (bytes_of (register_item rotating before 2 0 0 nonce)) (map_register_of (etr_config rotating before 2) (part_at (database rotating before 2) 0) nonce) three_keys (etr_config rotating before 2).secret refl (ap (secret_of three_keys) is ∙ known) (item_authentic (register_item rotating before 2 0 0 nonce)) refl refl allowed };
+    who = refl;
+    under = sym is;
+    number = refl;
+    fresh = subst (λ (k : ℕ). IsFresh (context_of rotating T (takes_under T k key nonce datagram)) (map_register_of (etr_config_under rotating.config (router_at rotating.config 2) k) (part_at (database rotating before 2) 0) nonce)) (sym is) (record { base = base; counts = counted; above = below; near = subst (λ (sites : List SiteValue). IsNear (most_jump_at sites 1) base nonce) (sym has) tt; loads = λ none obeys clash. absurd cc });
+    space = fits_under rotating T 0 rotating.config.sites _ _ has (record { routers = tt; rows = tt });
+    may = λ obeys clash. absurd cc;
+    kept = subst (λ (k : ℕ). kept_at (keeps (shows T 0) (under key (got_from one)) nonce).kept (under k (got_from one)) ≡ Some nonce ∷ []) (sym is) (set_here (shows T 0).kept (under key (got_from one)) (Some nonce ∷ []));
+    others = subst (λ (k : ℕ). SameElsewhere (shows T 0).kept (keeps (shows T 0) (under key (got_from one)) nonce).kept (under k (got_from one))) (sym is) (set_others (shows T 0).kept (under key (got_from one)) (Some nonce ∷ []));
+    reply = ap Some place;
   };
-}
+})
 
 -- the keys of the site
 pub second_known : KnowsKey rotating.config 2 2

@@ -19,7 +19,7 @@ use Rattle.lisp_model.specs.Timers.{due, due_part}
 use Rattle.lisp_model.specs.Trace.{Opening, router_at}
 use Rattle.lisp_model.specs.Story.{network, one, one_sent, opening, sent_by, mapping, narrow, wide, xtr_of}
 use Rattle.lisp_model.proofs.Examples.Samples.{refuses, registers, sends_part, parts_sent, strange}
-use Rattle.lisp_model.proofs.Examples.Steps.{block_of_one}
+use Rattle.lisp_model.proofs.Examples.Steps.{block_of_one, send_legal}
 use Rattle.lisp_model.proofs.ContextLemmas.{fresh_value, saved}
 use Rattle.lisp_nonces.specs.declared.fate.Fate.TheVariants as fates
 use Rattle.lisp_etr.specs.declared.send_fault.SendFault.TheVariants as send_faults
@@ -33,30 +33,21 @@ of_database db = record opening { config = record network { routers = record (ro
 module _ (db first second : List MapRecordValue) (cuts : cut db ≡ first ∷ second ∷ []) where
   -- the second part is sent, with its records alone; there is no third one
   pub second_sent : database_of db ≡ Ok db → AreRecords second → Legal (of_database db) [] (sends_part [] 1 1 0)
-  second_sent known records = record {
-    faults = λ other. omega arith;
-    obedient = refl;
-    row = (
-      refl,
-      refl,
-      refl,
-      record {
-        acts = record { kind = refl; acts = refl; state = refl };
-        kind = refl;
-        listed = refl;
-        fits = known;
-        there = subst (λ (parts : List (List MapRecordValue)). 1 < length parts) (sym cuts) (omega arith);
-        under = refl;
-        base = None;
-        counts = fresh_value (sent_by one);
-        next = refl;
-        within = omega arith;
-        message = record { nonce = omega arith; key = omega arith; records = subst (λ (parts : List (List MapRecordValue)). AreRecords (slice_index_or parts 1 [])) (sym cuts) records; xtr = refl; xtr_bytes = search rules; site = omega arith };
-        place = refl;
-        saves = subst (Saves (context_of (of_database db) [] (sends_part [] 1 1 0)) (sent_by one) 1) (sym (block_of_one 1 (omega arith))) (saved _ (sent_by one) 1 (λ obeys clash. absurd cc) refl);
-      },
-    );
-  }
+  second_sent known records = send_legal (omega arith) refl (record {
+    acts = record { kind = refl; acts = refl; state = refl };
+    kind = refl;
+    listed = refl;
+    fits = known;
+    there = subst (λ (parts : List (List MapRecordValue)). 1 < length parts) (sym cuts) (omega arith);
+    under = refl;
+    base = None;
+    counts = fresh_value (sent_by one);
+    next = refl;
+    within = omega arith;
+    message = record { nonce = omega arith; key = omega arith; records = subst (λ (parts : List (List MapRecordValue)). AreRecords (slice_index_or parts 1 [])) (sym cuts) records; xtr = refl; xtr_bytes = search rules; site = omega arith };
+    place = refl;
+    saves = subst (Saves (context_of (of_database db) [] (sends_part [] 1 1 0)) (sent_by one) 1) (sym (block_of_one 1 (omega arith))) (saved _ (sent_by one) 1 (λ obeys clash. absurd cc) refl);
+  })
 
   pub second_message : (register_item (of_database db) [] 2 0 1 1).message ≡ Registers (registers second 1)
   second_message = ap (λ (parts : List (List MapRecordValue)). Registers (registers (slice_index_or parts 1 []) 1)) cuts
