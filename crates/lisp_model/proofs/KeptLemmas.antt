@@ -1,5 +1,5 @@
 -- What lists of a store are after one was set, and steps that set one.
-use Rattle.std.proofs.Common.{◌≡◌, ℕ, zero, suc, true≢false, Bool, true, false, List, [], ◌∷◌, Option, Some, None, cond, refl, sym, ap, subst, ◌∙◌, arith}
+use Rattle.std.proofs.Common.{◌≡◌, ℕ, true≢false, Bool, true, false, List, [], ◌∷◌, Option, Some, None, cond, refl, sym, ap, subst, ◌∙◌, arith}
 use Rattle.std.specs.Prelude.{◌≢◌}
 use Rattle.std.specs.FinMap.{get, insert, empty, get-insert}
 use Rattle.std.specs.List.{Contains}

@@ -3,6 +3,11 @@ use Rattle.std.proofs.Common.{◌≡◌, zero, suc, List, [], ◌∷◌, refl, s
 use Rattle.std.specs.Prelude.{◌⊎◌}
 use Rattle.std.specs.List.{Contains}
 
+-- what follows from each of two facts
+pub cases : {A B C : Type 0} → A ⊎ B → (A → C) → (B → C) → C
+cases (inl a) f g = f a
+cases (inr b) f g = g b
+
 module _ {X : Type 0} where
   pub at_head : (x : X) (xs : List X) → Contains (x ∷ xs) x
   at_head x xs = (0, omega arith, refl)
