@@ -29,7 +29,7 @@ use Rattle.lisp_messages.specs.Reading.{after, require, records_at, notify_at, t
 use Rattle.lisp_messages.proofs.Fields.{bind_ok}
 use Rattle.lisp_model.specs.Trace.{addresses, address_at, node_at, is_server}
 use Rattle.lisp_model.specs.Bag.{Item, bytes_of, ReadFault}
-use Rattle.lisp_model.proofs.ListLemmas.{at_head, in_tail, head_or_tail, in_none, only, cases}
+use Rattle.lisp_model.proofs.ListLemmas.{at_head, in_tail, head_or_tail, in_none, only, cases, err_clash}
 
 pub addr_same : (a b : Addr) → addr_eq a b ≡ true → a ≡ b
 addr_same (V4 a) (V4 b) t = ap V4 ((bytes_eq-Decides a b).0 t)
@@ -122,9 +122,6 @@ checked sites from bytes m key e =
     }
 
 -- A Map-Notify is not read as a Map-Register.
-
-err_clash : {X : Type 0} {fault : ReadFault} {x : X} → ◌≡◌ {A = Result X ReadFault} (Err fault) (Ok x) → ⊥
-err_clash e = absurd cc
 
 -- the checks after the type keep it
 pub kept_kind : (kind other : Kind) (a : Result (List ℕ) ReadFault) (b c : Result Bool ReadFault) (d : Result (List ℕ) ReadFault)

@@ -19,11 +19,8 @@ use Rattle.lisp_model.specs.Bag.{Arrival, ReadFault}
 use Rattle.lisp_model.specs.Clean.{secrets_of}
 use Rattle.lisp_model.specs.Counted.{server_from, notify_at}
 use Rattle.lisp_model.proofs.CleanLemmas.{addr_same, one_node, in_find}
-use Rattle.lisp_model.proofs.ListLemmas.{at_head}
+use Rattle.lisp_model.proofs.ListLemmas.{at_head, err_clash}
 use Rattle.lisp_etr.specs.declared.notify_fault.NotifyFault.{NotifyFault}
-
-err_clash : {X : Type 0} {fault : NotifyFault} {x : X} → ◌≡◌ {A = Result X NotifyFault} (Err fault) (Ok x) → ⊥
-err_clash e = absurd cc
 
 -- the value of a step that did not fail
 bind_ok : {A B : Type 0} (r : Result A NotifyFault) (f : A → Result B NotifyFault) (y : B) → (r >>= f) ≡ Ok y → (x : A) × (r ≡ Ok x) × (f x ≡ Ok y)

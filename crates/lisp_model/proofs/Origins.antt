@@ -1,5 +1,5 @@
 -- Over a clean trace each Map-Register that is accepted was sent by a router of the network.
-use Rattle.std.proofs.Common.{◌≡◌, ℕ, true, List, [], ◌∷◌, ◌++◌, length, map, Option, Some, None, Ok, Err, refl, sym, ap, subst, inl, inr, ◌∙◌, true≢false, ◌^◌, ◌<◌, Bool, false}
+use Rattle.std.proofs.Common.{◌≡◌, ℕ, true, List, [], ◌∷◌, ◌++◌, length, map, Option, Some, None, Ok, refl, sym, ap, subst, inl, inr, ◌∙◌, true≢false, ◌^◌, ◌<◌, Bool, false}
 use Rattle.std.specs.Prelude.{◌≢◌, ◌⊎◌, if◌then◌else◌, slice_get, Result, ◌==◌}
 use Rattle.std.specs.List.{AllPairs, Contains, flat_map}
 use Rattle.std.specs.Option.{option_map, option_and_then}
@@ -29,7 +29,7 @@ use Rattle.lisp_model.specs.Sending.{IsSent}
 use Rattle.lisp_model.specs.Accepted.{acceptances, acceptances_after}
 use Rattle.lisp_model.specs.Promises.{AcceptedWasSent}
 use Rattle.lisp_model.proofs.CleanLemmas.{node_of, server_of, in_get, in_option, from_map, Checked, checked, notifies_no_register, addr_same, SameHead, item_head}
-use Rattle.lisp_model.proofs.ListLemmas.{at_head, in_none, only, cases}
+use Rattle.lisp_model.proofs.ListLemmas.{at_head, in_none, only, cases, err_clash}
 use Rattle.lisp_model.proofs.Rows.{tells}
 use Rattle.lisp_model.proofs.RisingLaws.{taken_one}
 use Rattle.lisp_model.proofs.HeardLines.{IsBy}
@@ -47,9 +47,6 @@ pub record IsFrom (o : Opening) (entries : List SentRegister) (i : Item) (m : Ma
 
 abbrev pub AllFrom : Opening → List SentRegister → List Item → Type 0
 AllFrom o entries items = (i : Item) → Contains items i → (m : MapRegisterValue) → i.message ≡ Registers m → IsFrom o entries i m
-
-pub noise_clash : {f : ReadFault} {said : MessageValue} → ◌≡◌ {A = Result MessageValue ReadFault} (Err f) (Ok said) → ⊥
-noise_clash e = absurd cc
 
 pub said_clash : {m : MapRegisterValue} {n : MapNotifyValue} → ◌≡◌ {A = MessageValue} (Notifies n) (Registers m) → ⊥
 said_clash e = absurd cc
@@ -175,7 +172,7 @@ module _ (o : Opening) (T : List Step) (distinct : AllPairs (λ a b. a ≢ b) (a
 
         at : (IsEcho (bag o T) from (address_at o.config to) bytes ⊎ (IsNoise bytes ⊎ IsForged (secrets_of o T to) bytes)) → IsSentTo o (history o T) server (record { message = row.arrives.message; from = from; moment = clock T })
         at (inl echo) = echoed echo.item echo.sent row.arrives.acts.kind (echo.target ∙ ap (address_at o.config) (sym row.acts)) from echo.source bytes echo.same row.arrives.message row.arrives.admits.read (clock T)
-        at (inr (inl noise)) = absurd (noise_clash (sym noise.1 ∙ row.arrives.admits.read))
+        at (inr (inl noise)) = absurd (err_clash (sym noise.1 ∙ row.arrives.admits.read))
         at (inr (inr forged)) = absurd (true≢false (sym known.authentic ∙ forged known.secret (subst (λ b. Contains (if b then flat_map (λ s. map (λ k. k.secret) s.keys) (sites o T to) else (etr_config o T to).secret ∷ []) known.secret) (sym at_server) known.known)))
     arrived _ after harmless row x has = absurd row
 
@@ -245,7 +242,7 @@ module _ (o : Opening) (T : List Step) (reads : ReadsBack) (all : AllFrom o (his
       at : (m : MapNotifyValue) → message_at bytes ≡ Ok (Notifies m) → (secret : List ℕ) → Contains (secrets_of o T node) secret → is_authentic bytes secret ≡ true
           → (IsEcho (bag o T) from (address_at o.config to) bytes ⊎ (IsNoise bytes ⊎ IsForged (secrets_of o T to) bytes)) → IsOfItem o (bag o T) node from m
       at m read secret known authentic (inl echo) = item_echoed from bytes (subst (λ (k : ℕ). IsEcho (bag o T) from (address_at o.config k) bytes) (sym row.acts) echo) m read
-      at m read secret known authentic (inr (inl noise)) = absurd (noise_clash (sym noise.1 ∙ read))
+      at m read secret known authentic (inr (inl noise)) = absurd (err_clash (sym noise.1 ∙ read))
       at m read secret known authentic (inr (inr forged)) = absurd (true≢false (sym authentic ∙ forged secret (subst (λ (k : ℕ). Contains (secrets_of o T k) secret) row.acts known)))
   comes _ (Line.Accepted _ _ _ _ _) after arriving harmless row = absurd row
   comes _ (Line.Done _ _ _) after arriving harmless row = absurd row

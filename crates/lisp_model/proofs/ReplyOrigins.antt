@@ -25,7 +25,7 @@ use Rattle.lisp_model.proofs.ChangeLemmas.{IsNew, new_or_old, new_follows}
 use Rattle.lisp_model.proofs.CleanLemmas.{in_get, in_option, from_map, SameHead}
 use Rattle.lisp_model.proofs.HeardLines.{noticed_of}
 use Rattle.lisp_model.proofs.HearingLemmas.{is_heard, knows_own}
-use Rattle.lisp_model.proofs.ListLemmas.{in_none, at_head, in_tail, only, cases}
+use Rattle.lisp_model.proofs.ListLemmas.{in_none, at_head, in_tail, only, cases, some_same}
 use Rattle.lisp_model.proofs.Locality.{same_number}
 use Rattle.lisp_model.proofs.Rows.{tells}
 
@@ -82,9 +82,6 @@ later_known o T s i n f = record {
 
 pub said_same : (m n : MapNotifyValue) → ◌≡◌ {A = MessageValue} (Notifies m) (Notifies n) → m ≡ n
 said_same m n e = cc
-
-some_same : (i j : Item) → ◌≡◌ {A = Option Item} (Some i) (Some j) → i ≡ j
-some_same i j e = cc
 
 -- nonces of notices are not those of routers
 nonce_high : (base : Option ℕ) → first_notice ≤ nonce_after base

@@ -1,5 +1,5 @@
 -- What a legal step leaves of the values that a router's store keeps for its own nonces, under each of its keys.
-use Rattle.std.proofs.Common.{arith, ◌≡◌, ℕ, ◌+◌, ◌<◌, false, List, Option, refl, sym, ap, subst, ◌∙◌, ◌≤◌, Bool, true, [], ◌∷◌, ◌++◌, length, Some, None, inl, inr, zero, suc, map, get_or, true≢false, Ok, Err}
+use Rattle.std.proofs.Common.{arith, ◌≡◌, ℕ, ◌+◌, ◌<◌, false, List, Option, refl, sym, ap, subst, ◌∙◌, ◌≤◌, Bool, true, [], ◌∷◌, ◌++◌, length, Some, None, inl, inr, zero, suc, map, get_or, true≢false, Ok}
 use Rattle.std.specs.Prelude.{◌≢◌, ◌⊎◌, ◌==◌, if◌then◌else◌, position, ◌&&◌, nat_lt, nat_le, slice_get, Result}
 use Rattle.std.specs.List.{Contains, position_or_len}
 use Rattle.std.proofs.lemmas.List.Elements.{Contains-append_cases, Contains-append_left, Contains-append_right}
@@ -18,7 +18,7 @@ use Rattle.lisp_model.specs.Rotating.{IsRotated, IsLost}
 use Rattle.lisp_model.specs.Legal.{MayCome, Legal, LegalTrace, context_of, Arrives}
 use Rattle.lisp_model.proofs.Rows.{touches, Untouched, GoesOn, Refusing, Following, Tells, tells, goes_on, changes}
 use Rattle.lisp_model.proofs.KeptLemmas.{only_value}
-use Rattle.lisp_model.proofs.ListLemmas.{at_head, head_or_tail, in_none, in_tail, only, cases}
+use Rattle.lisp_model.proofs.ListLemmas.{at_head, head_or_tail, in_none, in_tail, only, cases, err_clash}
 use Rattle.lisp_model.proofs.HeardLines.{IsBy, Passes, comes_to}
 use Rattle.lisp_model.proofs.Locality.{same_number, other_number, key_other, since_loss_other, before_loss_other, last_sent_other, start_values_other, of_each, up_other, database_other}
 use Rattle.std.proofs.lemmas.Bool.{lt-ltb, and_parts, ltb-true, leb-true, le-leb}
@@ -745,10 +745,7 @@ module _ (t : Context) (kind : is_server t.opening.config t.node ≡ true) (a : 
     not_far jump None kept nonce saved over base far = near_itself jump saved nonce (over (Some saved) base).1 far
 
     passes_no_check : (why : Refused) (read : Result MessageValue ReadFault) → read ≡ Ok (Registers m) → FailsCheck t a read why → ⊥
-    passes_no_check why read is fails = refused_clash (sym (subst (λ (r : Result MessageValue ReadFault). FailsCheck t a r why) is fails) ∙ admits.checks)
-      where
-        refused_clash : {key : List ℕ} → ◌≡◌ {A = Result (List ℕ) Refused} (Err why) (Ok key) → ⊥
-        refused_clash e = absurd cc
+    passes_no_check why read is fails = err_clash (sym (subst (λ (r : Result MessageValue ReadFault). FailsCheck t a r why) is fails) ∙ admits.checks)
 
     accept_or_excused : (named : ℕ) (why : Refused) → RefusesMessage t a why → IsExcused t (Line.Refused named (Refusal.Receive why))
     accept_or_excused named (Refused.StoreLoad fault) row = row.fails.cause

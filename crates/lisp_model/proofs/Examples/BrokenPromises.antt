@@ -29,10 +29,10 @@ use Rattle.lisp_model.specs.Timers.{Notice, RoundTimes}
 use Rattle.lisp_model.specs.Trace.{Step, address_at, router_at, addresses, Opening}
 use Rattle.lisp_model.specs.Story.{at, blank, counts, got_from, keeps, local_at, mapping, network, one, one_counted, one_sent, one_taken, opening, replays, secret, sends, sent_by, step, takes, two, wide, restarts, narrow, site}
 use Rattle.lisp_model.proofs.Examples.Steps.{admitted, hears, registers_read, wide_whole, acknowledged, answered, arrived, counts_part, ends, heard_of, notices, one_left, refuses, registers, row_of, tells, ticks, told_to, answered_elsewhere, both_heard, both_sent, both_taken, first_entry, first_told, foreign, foreign_sent, newer_taken, parts_sent, parts_taken, registered_again, restarted, sent_twice, short, was_noticed, item_authentic, fits, item_reads, short_message, wide_record, changes, two_keys, restarted_changed, two_sent, fresh_value, saved, IsOnePart, legal, send_legal, Event, Fate, Line, NotifyFault, ReadFault, Refusal, Refused, SendFault, StartFault, StoreFault}
-use Rattle.lisp_model.proofs.Examples.NearMisses.{never, unfailed, a_device, first_item, first, item_is, nothing_is_no_number, only_set_of, register_is}
+use Rattle.lisp_model.proofs.Examples.NearMisses.{never, unfailed, a_device, first_item, first, nothing_is_no_number, only_set_of, register_is}
 use Rattle.lisp_model.proofs.Examples.LegalRows.{loses, rotating, sends_under, started, takes_under}
 use Rattle.lisp_model.proofs.KeptLemmas.{only_value, set_here}
-use Rattle.lisp_model.proofs.ListLemmas.{at_head, head_or_tail, in_none, only, cases}
+use Rattle.lisp_model.proofs.ListLemmas.{at_head, head_or_tail, in_none, only, cases, some_same}
 use Rattle.lisp_model.proofs.Sound.{must}
 use Rattle.lisp_messages.specs.Authentic.{is_authentic}
 use Rattle.lisp_model.specs.Change.{Keeps, NoChange, gives_database}
@@ -507,13 +507,10 @@ third_entry db = record { router = 2; key = 1; nonce = 2; server = 0; database =
 unchanged_by : (T : List Step) (s : Step) → slice_get (reverse T) 1 ≡ Some s → gives_database s.event 2 ≡ false → NoChange T first_entry (third_entry (mapping wide 1440 ∷ []))
 unchanged_by T s there none = record { router = refl; later = between; earlier = λ place t low high is. absurd (omega (arith, low, high)) }
   where
-    some_same : (t : Step) → Some s ≡ Some t → s ≡ t
-    some_same t e = cc
-
     between : Keeps T 2 0 2
     between place t low high is =
         let at : place ≡ 1 = omega (arith, low, high) in
-        let same : s ≡ t = some_same t (sym there ∙ sym (ap (slice_get (reverse T)) at) ∙ is) in
+        let same : s ≡ t = some_same s t (sym there ∙ sym (ap (slice_get (reverse T)) at) ∙ is) in
         subst (λ (x : Step). gives_database x.event 2 ≡ false) same none
 
 -- the second of two sends, after a step between
@@ -733,7 +730,7 @@ refused_as_full = (
 accepted_though_full : Legal limited limited_sent takes_both → ⊥
 unfolding cut cut_from written
 accepted_though_full l =
-    let item : both_item ≡ l.row.item = item_is _ _ l.row.sent in
+    let item : both_item ≡ l.row.item = some_same _ _ l.row.sent in
     let message : registers two_records 1 ≡ l.row.arrives.message = register_is _ _ _ _ item refl l.row.arrives.admits.read in
     let t = context_of limited limited_sent takes_both in
     let space : HasSpace t (arrival_of both_item) (registers two_records 1) = subst (λ (i : Item). HasSpace t (arrival_of i) (registers two_records 1)) (sym item) (subst (HasSpace t (arrival_of l.row.item)) (sym message) l.row.arrives.space) in
@@ -747,7 +744,7 @@ kept_though_full l = nothing_is_no_number (sym (kept_at-empty (got_from one)) �
 told_of_routers : Legal limited limited_sent (refuses_both (Refusal.Receive (Refused.Full 1 Routers))) → ⊥
 unfolding cut cut_from written
 told_of_routers l =
-    let message : registers two_records 1 ≡ l.row.arrives.1.message = register_is both_item _ _ _ (item_is both_item _ l.row.sent) refl l.row.arrives.1.admits.read in
+    let message : registers two_records 1 ≡ l.row.arrives.1.message = register_is both_item _ _ _ (some_same both_item _ l.row.sent) refl l.row.arrives.1.admits.read in
     let t = context_of limited limited_sent (refuses_both (Refusal.Receive (Refused.Full 1 Routers))) in
     subst (λ (m : MapRegisterValue). LacksSpace t (arrival_of l.row.item) m Routers) (sym message) l.row.arrives.1.lacks
 
@@ -755,14 +752,14 @@ told_of_routers l =
 told_of_another_site : Legal limited limited_sent (refuses_both (Refusal.Receive (Refused.Full 2 Rows))) → ⊥
 unfolding cut cut_from written
 told_of_another_site l =
-    let message : registers two_records 1 ≡ l.row.arrives.1.message = register_is both_item _ _ _ (item_is both_item _ l.row.sent) refl l.row.arrives.1.admits.read in
+    let message : registers two_records 1 ≡ l.row.arrives.1.message = register_is both_item _ _ _ (some_same both_item _ l.row.sent) refl l.row.arrives.1.admits.read in
     absurd (omega (arith, l.row.arrives.1.its ∙ ap (λ (m : MapRegisterValue). m.site) (sym message)))
 
 -- a site without limits is called full
 full_though_unlimited : Legal opening one_sent (step (Event.Deliver 0 Fate.Done) (Line.Refused 0 (Refusal.Receive (Refused.Full 1 Rows))) 0 blank) → ⊥
 unfolding cut cut_from written
 full_though_unlimited l =
-    let message : first ≡ l.row.arrives.1.message = register_is first_item _ _ _ (item_is first_item _ l.row.sent) refl l.row.arrives.1.admits.read in
+    let message : first ≡ l.row.arrives.1.message = register_is first_item _ _ _ (some_same first_item _ l.row.sent) refl l.row.arrives.1.admits.read in
     let t = context_of opening one_sent (step (Event.Deliver 0 Fate.Done) (Line.Refused 0 (Refusal.Receive (Refused.Full 1 Rows))) 0 blank) in
     let lacks : LacksSpace t (arrival_of l.row.item) first Rows = subst (λ (m : MapRegisterValue). LacksSpace t (arrival_of l.row.item) m Rows) (sym message) l.row.arrives.1.lacks in
     lacks.1
@@ -771,7 +768,7 @@ full_though_unlimited l =
 saved_though_full : Legal limited limited_sent (record (refuses_both (Refusal.Receive (Refused.StoreSave StoreFault.Device))) { shown = record blank { faults = 1 } }) → ⊥
 unfolding cut cut_from written
 saved_though_full l =
-    let item : both_item ≡ l.row.item = item_is _ _ l.row.sent in
+    let item : both_item ≡ l.row.item = some_same _ _ l.row.sent in
     let message : registers two_records 1 ≡ l.row.arrives.1.message = register_is _ _ _ _ item refl l.row.arrives.1.admits.read in
     let t = context_of limited limited_sent (record (refuses_both (Refusal.Receive (Refused.StoreSave StoreFault.Device))) { shown = record blank { faults = 1 } }) in
     let space : HasSpace t (arrival_of both_item) (registers two_records 1) = subst (λ (i : Item). HasSpace t (arrival_of i) (registers two_records 1)) (sym item) (subst (HasSpace t (arrival_of l.row.item)) (sym message) l.row.arrives.1.space) in
@@ -784,7 +781,7 @@ remembers = record limited { stores = keeps blank (got_from one) 1 ∷ blank ∷
 full_though_replayed : Legal remembers limited_sent (record (refuses_both (Refusal.Receive (Refused.Full 1 Rows))) { shown = keeps blank (got_from one) 1 }) → ⊥
 unfolding cut cut_from written
 full_though_replayed l =
-    let message : registers two_records 1 ≡ l.row.arrives.1.message = register_is both_item _ _ _ (item_is both_item _ l.row.sent) refl l.row.arrives.1.admits.read in
+    let message : registers two_records 1 ≡ l.row.arrives.1.message = register_is both_item _ _ _ (some_same both_item _ l.row.sent) refl l.row.arrives.1.admits.read in
     let t = context_of remembers limited_sent (record (refuses_both (Refusal.Receive (Refused.Full 1 Rows))) { shown = keeps blank (got_from one) 1 }) in
     let fresh : IsFresh t (registers two_records 1) = subst (IsFresh t) (sym message) l.row.arrives.1.fresh in
     absurd (omega (arith, subst (λ (b : Option ℕ). IsBelow b 1) (only_set_of (got_from one) _ fresh.base (Some 1) fresh.counts) fresh.above))
@@ -792,14 +789,11 @@ full_though_replayed l =
 -- ---- what must be accepted, and what is promised
 
 -- it needn't be accepted
-arrival_is : (a b : Arrival) → ◌≡◌ {A = Option Arrival} (Some a) (Some b) → a ≡ b
-arrival_is a b e = cc
-
 full_need_not_be_accepted : MustAccept IsExcused (context_of limited limited_sent (refuses_both (Refusal.Receive (Refused.Full 1 Rows)))) (Event.Deliver 0 Fate.Done) (Line.Refused 0 (Refusal.Receive (Refused.Full 1 Rows)))
 unfolding cut cut_from written
 full_need_not_be_accepted a m arrives server admits follows space =
     let t = context_of limited limited_sent (refuses_both (Refusal.Receive (Refused.Full 1 Rows))) in
-    let same : arrival_of both_item ≡ a = arrival_is _ _ arrives in
+    let same : arrival_of both_item ≡ a = some_same _ _ arrives in
     let read : ◌≡◌ {A = Result MessageValue ReadFault} (Ok (Registers (registers two_records 1))) (Ok (Registers m)) = ap (λ (x : Arrival). x.read) same ∙ admits.read in
     let message : registers two_records 1 ≡ m = cc in
     absurd (full_or_fits None (Some 1) 1 (held_rows [] 0) (held_rows (both_arrived ∷ []) 0) Rows (subst (λ (x : Arrival). HasSpace t x (registers two_records 1)) (sym same) (subst (HasSpace t a) (sym message) space)) both_are_too_many)

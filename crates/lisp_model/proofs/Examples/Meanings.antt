@@ -115,10 +115,6 @@ resent_alone = refl
 done_alone : standing opening (step (Event.Deliver 0 Fate.Done) (Line.Done 0 one (2 ^ 63)) 0 (at [] 0) ∷ two_told) 0 ≡ told_to two (2 ^ 63 + 1) 8 (0 ∷ []) ∷ []
 done_alone = refl
 
--- a restart ends it
-ended_by_restart : standing opening (restarts first_told 0 ∷ first_told) 0 ≡ []
-ended_by_restart = refl
-
 -- of two rows of a router and a prefix the later one is listed
 abbrev older_taken : List Step
 older_taken = takes two_sent 0 0 1 2 ∷ two_sent
@@ -171,10 +167,10 @@ due_of_the_first : due second_counted 2 0 0 ≡ 1000
 unfolding due_after
 due_of_the_first = refl
 
--- the latest nonce of the second part, and what was counted of it, and ever
-of_the_second_part : (latest_nonce parts_sent 2 0 1 ≡ 2) × (acked second_counted 2 0 1 ≡ Some (1, 2)) × (counted_nonces second_counted 2 0 ≡ acknowledged 1 1 2 ∷ []) × (due second_counted 2 0 1 ≡ 60000)
+-- the latest nonce of the second part, and what was counted of it, and ever, also once it vanished
+of_the_second_part : (latest_nonce parts_sent 2 0 1 ≡ 2) × (acked second_counted 2 0 1 ≡ Some (1, 2)) × (counted_nonces second_counted 2 0 ≡ acknowledged 1 1 2 ∷ []) × (due second_counted 2 0 1 ≡ 60000) × (acked vanished_counted 2 0 1 ≡ Some (1, 2))
 unfolding due_after
-of_the_second_part = (refl, refl, refl, refl)
+of_the_second_part = (refl, refl, refl, refl, refl)
 
 due_of_a_part_that_rests : due second_counted 2 0 2 ≡ 0
 unfolding due_after
@@ -196,9 +192,6 @@ vanished_rests = refl
 vanished_moves_no_timer : due vanished_counted 2 0 1 ≡ due vanished 2 0 1
 unfolding due_after
 vanished_moves_no_timer = refl
-
-acked_of_a_vanished_part : acked vanished_counted 2 0 1 ≡ Some (1, 2)
-acked_of_a_vanished_part = refl
 
 -- a part that isn't there needn't be sent
 abbrev no_part : Step
@@ -298,9 +291,9 @@ notices_stay = refl
 latest_stays : latest_nonce others_restarted 2 0 0 ≡ 1
 latest_stays = refl
 
--- a restart forgets what was sent; what was told, sent and counted outlasts another node's
-beside_a_restart : (last_sent (restarts one_counted 2 ∷ one_counted) 2 ≡ None) × (last_notice others_restarted 0 ≡ Some (2 ^ 63)) × (last_sent others_restarted 2 ≡ Some 1) × (acked (step (Event.Restart 3 0 None) (Line.Restarted 3) 3 blank ∷ one_counted) 2 0 0 ≡ Some (1, 1))
-beside_a_restart = (refl, refl, refl, refl)
+-- a restart ends a notice, and forgets what was sent; what was told, sent and counted outlasts another node's
+beside_a_restart : (standing opening (restarts first_told 0 ∷ first_told) 0 ≡ []) × (last_sent (restarts one_counted 2 ∷ one_counted) 2 ≡ None) × (last_notice others_restarted 0 ≡ Some (2 ^ 63)) × (last_sent others_restarted 2 ≡ Some 1) × (acked (step (Event.Restart 3 0 None) (Line.Restarted 3) 3 blank ∷ one_counted) 2 0 0 ≡ Some (1, 1))
+beside_a_restart = (refl, refl, refl, refl, refl)
 
 -- a life begins at the moment of the node's last restart, and at 0 where there was none
 abbrev begun : List Step
@@ -415,9 +408,6 @@ replied_under_its_key = refl
 
 -- a router's key: the configured one; the one that it went over to, or was to start under once its store was lost; not where
 -- it keeps its key, or is down; and it stays over a restart
-first_key : key rotating [] 2 ≡ 1
-first_key = refl
-
 key_after_rotation : key rotating renewed 2 ≡ 2
 key_after_rotation = refl
 
@@ -439,8 +429,8 @@ key_after_refused_loss = refl
 abbrev restarted : List Step
 restarted = step (Event.Restart 2 0 None) (Line.Restarted 2) 2 (shows renewed 2) ∷ renewed
 
-key_after_restart : key rotating restarted 2 ≡ 2
-key_after_restart = refl
+key_at_first_and_after_restart : (key rotating [] 2 ≡ 1) × (key rotating restarted 2 ≡ 2)
+key_at_first_and_after_restart = (refl, refl)
 
 -- not another router's
 key_of_another : key rotating renewed 3 ≡ 1
@@ -459,9 +449,6 @@ secrets_after_rotation = refl
 -- the keys that it used since its store was lost, over a restart too, and those before
 used_since_start : keys_since_loss rotating kept_key 2 ≡ 1 ∷ 2 ∷ 1 ∷ []
 used_since_start = refl
-
-used_before_start : keys_before_loss rotating kept_key 2 ≡ []
-used_before_start = refl
 
 used_over_restart : keys_since_loss rotating restarted 2 ≡ 2 ∷ 1 ∷ []
 used_over_restart = refl
@@ -538,8 +525,8 @@ acked_after_rotation = refl
 acked_after_loss : acked (lost ∷ one_counted) 2 0 0 ≡ None
 acked_after_loss = refl
 
-counted_after_loss : counted_nonces (lost ∷ one_counted) 2 0 ≡ acknowledged 0 1 1 ∷ []
-counted_after_loss = refl
+counted_after_loss : (counted_nonces (lost ∷ one_counted) 2 0 ≡ acknowledged 0 1 1 ∷ []) × (database rotating emptied 2 ≡ mapping wide 1440 ∷ []) × (keys_before_loss rotating kept_key 2 ≡ [])
+counted_after_loss = (refl, refl, refl)
 
 -- not another router's
 abbrev over_another : Step
@@ -599,9 +586,6 @@ given_at_a_refused_loss = refl
 
 given_to_another_at_a_loss : database rotating (lost_changed ∷ started) 3 ≡ mapping narrow 1440 ∷ []
 given_to_another_at_a_loss = refl
-
-kept_at_a_loss : database rotating emptied 2 ≡ mapping wide 1440 ∷ []
-kept_at_a_loss = refl
 
 -- and that is a change; a loss without one isn't, nor is a change of the key
 changed_at_a_loss : gives_database lost_changed.event 2 ≡ true

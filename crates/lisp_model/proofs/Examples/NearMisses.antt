@@ -39,7 +39,7 @@ use Rattle.lisp_model.specs.Numbers.{numbers_below}
 use Rattle.lisp_model.proofs.HeardLines.{comes_to}
 use Rattle.lisp_records.specs.Moment.{max_moment}
 use Rattle.lisp_model.proofs.Examples.LegalRows.{back, emptied, keeps_its_key, loses, loses_and_fails, not_emptied, other_number, renewed, rotates, rotating, sends_under, sent_back, shows, started, under, keys_differ}
-use Rattle.lisp_model.proofs.ListLemmas.{at_head, in_none, cases}
+use Rattle.lisp_model.proofs.ListLemmas.{at_head, in_none, cases, some_same, err_clash}
 
 -- the one value that was set, and none before
 pub only_set_of : (pair : Pair) (kept : Kept) (base v : Option ℕ) → Contains (kept_at (insert kept pair (v ∷ [])) pair) base → base ≡ v
@@ -59,32 +59,20 @@ number_of v {base} one has = ap number (only_value v base (subst (λ (vs : List 
 pub nothing_is_no_number : {n : ℕ} → ◌≡◌ {A = List (Option ℕ)} (None ∷ []) (Some n ∷ []) → ⊥
 nothing_is_no_number e = absurd cc
 
-pub ok_is_no_refusal : {key : List ℕ} {why : Refused} → ◌≡◌ {A = Result (List ℕ) Refused} (Err why) (Ok key) → ⊥
-ok_is_no_refusal e = absurd cc
-
 -- what arrives is what stands in the bag; its Map-Register, its Map-Notify-Ack; the notice, the last Map-Register
-pub item_is : (i j : Item) → ◌≡◌ {A = Option Item} (Some i) (Some j) → i ≡ j
-item_is i j e = cc
-
 pub register_is : (i j : Item) (m n : MapRegisterValue) → i ≡ j → i.message ≡ Registers m → ◌≡◌ {A = Result MessageValue ReadFault} (Ok j.message) (Ok (Registers n)) → m ≡ n
 register_is i j m n same says read = let both : ◌≡◌ {A = Result MessageValue ReadFault} (Ok (Registers m)) (Ok (Registers n)) = ap Ok (sym says) ∙ ap (λ (x : Item). Ok x.message) same ∙ read in cc
 
 -- the message of what the first datagram is taken for
 pub is_first : {i : Item} {m : MapRegisterValue} → ◌≡◌ {A = Option Item} (Some first_item) (Some i) → ◌≡◌ {A = Result MessageValue ReadFault} (Ok i.message) (Ok (Registers m)) → first ≡ m
 unfolding cut cut_from written
-is_first sent read = register_is first_item _ _ _ (item_is first_item _ sent) refl read
+is_first sent read = register_is first_item _ _ _ (some_same first_item _ sent) refl read
 
 pub notify_is : (m n : MapNotifyValue) → ◌≡◌ {A = Result MessageValue ReadFault} (Ok (Notifies m)) (Ok (Notifies n)) → m ≡ n
 notify_is m n e = cc
 
 pub same_notify : {r : Result MessageValue ReadFault} {m n : MapNotifyValue} → r ≡ Ok (Notifies m) → r ≡ Ok (Notifies n) → m ≡ n
 same_notify one other = notify_is _ _ (sym one ∙ other)
-
-pub notice_is : (m n : Notice) → ◌≡◌ {A = Option Notice} (Some m) (Some n) → m ≡ n
-notice_is m n e = cc
-
-pub last_is : (a b : Acceptance) → ◌≡◌ {A = Option Acceptance} (Some a) (Some b) → a ≡ b
-last_is a b e = cc
 
 -- what can't be so
 pub never : false ≡ true → ⊥
@@ -162,7 +150,7 @@ accepted_with_another_nonce l = absurd (omega (arith, l.row.arrives.number ∙ s
 -- another server gets it
 delivered_elsewhere : Legal opening one_sent (takes one_sent 0 1 1 1) → ⊥
 delivered_elsewhere l =
-    let item : first_item ≡ l.row.item = item_is _ _ l.row.sent in
+    let item : first_item ≡ l.row.item = some_same _ _ l.row.sent in
     let there : ◌≡◌ {A = Option ℕ} (Some 0) (Some 1) = subst (λ (i : Item). node_at network i.to ≡ Some 1) (sym item) l.row.there in
     let number : ◌≡◌ {A = ℕ} 0 1 = cc in
     absurd (omega (arith, number))
@@ -173,9 +161,9 @@ foreign_item = record { from = local_at 21; to = local_at 11; secret = secret; m
 
 not_allowed : {i : Item} {m : MapRegisterValue} {key : List ℕ} → ◌≡◌ {A = Option Item} (Some foreign_item) (Some i) → ◌≡◌ {A = Result MessageValue ReadFault} (Ok i.message) (Ok (Registers m)) → secret_under network.sites i.from (bytes_of i) m ≡ Ok key → ⊥
 not_allowed {i} {m} {key} sent read checks =
-    let item = item_is _ _ sent in
+    let item = some_same _ _ sent in
     let message = register_is _ _ _ _ item refl read in
-    ok_is_no_refusal (sym (is_not_allowed network.sites foreign_item.from (bytes_of foreign_item) (registers foreign 1) site secret 1 refl refl (item_authentic foreign_item) refl refl strange_refused)
+    err_clash (sym (is_not_allowed network.sites foreign_item.from (bytes_of foreign_item) (registers foreign 1) site secret 1 refl refl (item_authentic foreign_item) refl refl strange_refused)
     ∙ subst (λ (x : Item). secret_under network.sites x.from (bytes_of x) (registers foreign 1) ≡ Ok key) (sym item) (subst (λ (x : MapRegisterValue). secret_under network.sites i.from (bytes_of i) x ≡ Ok key) (sym message) checks))
 
 foreign_accepted : Legal opening foreign_sent (takes foreign_sent 0 0 1 1) → ⊥
@@ -197,7 +185,7 @@ replay_with_another_number l =
 replay_of_a_fresh_nonce : Legal opening sent_twice (replays sent_twice 2 0 1) → ⊥
 unfolding cut cut_from written
 replay_of_a_fresh_nonce l =
-    let message : registers (mapping wide 1440 ∷ []) 2 ≡ l.row.arrives.1.message = register_is (register_item opening one_taken 2 0 0 2) _ _ _ (item_is (register_item opening one_taken 2 0 0 2) _ l.row.sent) refl l.row.arrives.1.admits.read in
+    let message : registers (mapping wide 1440 ∷ []) 2 ≡ l.row.arrives.1.message = register_is (register_item opening one_taken 2 0 0 2) _ _ _ (some_same (register_item opening one_taken 2 0 0 2) _ l.row.sent) refl l.row.arrives.1.admits.read in
     absurd (omega (arith, subst (λ (m : MapRegisterValue). m.nonce ≤ 1) (sym message) l.row.arrives.1.stale))
 
 -- a load fails though the last nonce is in memory
@@ -224,7 +212,7 @@ accepted_without_tag bytes read forged l =
     let both : ◌≡◌ {A = Result MessageValue ReadFault} (Ok (Registers first)) (Ok (Registers l.row.arrives.message)) = sym read ∙ l.row.arrives.admits.read in
     let message : first ≡ l.row.arrives.message = cc in
     let secret_is = l.row.arrives.admits.secret in
-    ok_is_no_refusal (sym (bad_tag network.sites (local_at 21) bytes first site secret refl refl forged) ∙ subst (λ (m : MapRegisterValue). secret_under network.sites (local_at 21) bytes m ≡ Ok secret_is) (sym message) l.row.arrives.admits.checks)
+    err_clash (sym (bad_tag network.sites (local_at 21) bytes first site secret refl refl forged) ∙ subst (λ (m : MapRegisterValue). secret_under network.sites (local_at 21) bytes m ≡ Ok secret_is) (sym message) l.row.arrives.admits.checks)
 
 -- a Map-Notify is taken for its acknowledgement
 abbrev notice_back : Item
@@ -243,7 +231,7 @@ done_without_tag : (bytes : List ℕ) → message_at bytes ≡ Ok (Notifies ackn
 done_without_tag bytes read forged l =
     let t = context_of opening was_noticed (step (Event.Junk 0 (local_at 21) bytes) (Line.Done 0 one (2 ^ 63)) 0 (at was_noticed 0)) in
     let stands : awaiting t (local_at 21) acknowledgement ≡ Some l.row.arrives.notice = ap (awaiting t (local_at 21)) (same_notify read l.row.arrives.read) ∙ l.row.arrives.stands in
-    true≢false (sym (subst (λ (n : Notice). has_tag_for t (junk_arrival (local_at 21) bytes) n ≡ true) (sym (notice_is (told_to one (2 ^ 63) 2 (3000 ∷ 0 ∷ [])) _ stands)) l.row.arrives.authentic) ∙ forged)
+    true≢false (sym (subst (λ (n : Notice). has_tag_for t (junk_arrival (local_at 21) bytes) n ≡ true) (sym (some_same (told_to one (2 ^ 63) 2 (3000 ∷ 0 ∷ [])) _ stands)) l.row.arrives.authentic) ∙ forged)
 
 -- an acknowledgement from another address ends it
 done_from_elsewhere : (bytes : List ℕ) → message_at bytes ≡ Ok (Notifies acknowledgement)
@@ -267,9 +255,9 @@ its_notice : (router : RouterId) (nonce : ℕ) (l : Legal opening was_noticed (s
 unfolding cut cut_from written
 its_notice router nonce l =
     let t = context_of opening was_noticed (step (Event.Deliver 4 Fate.Done) (Line.Done 0 router nonce) 0 (at was_noticed 0)) in
-    let item : answered (2 ^ 63) (mapping wide 1440 ∷ []) ≡ l.row.item = item_is _ _ l.row.sent in
+    let item : answered (2 ^ 63) (mapping wide 1440 ∷ []) ≡ l.row.item = some_same _ _ l.row.sent in
     let message : acknowledgement ≡ l.row.arrives.message = notify_is _ _ (ap (λ (i : Item). Ok i.message) item ∙ l.row.arrives.read) in
-    notice_is _ _ (ap (λ (i : Item). awaiting t i.from acknowledgement) item ∙ ap (awaiting t l.row.item.from) message ∙ l.row.arrives.stands)
+    some_same _ _ (ap (λ (i : Item). awaiting t i.from acknowledgement) item ∙ ap (awaiting t l.row.item.from) message ∙ l.row.arrives.stands)
 
 done_of_another_router : Legal opening was_noticed (step (Event.Deliver 4 Fate.Done) (Line.Done 0 two (2 ^ 63)) 0 (at was_noticed 0)) → ⊥
 done_of_another_router l = absurd (omega (arith, ap (λ (r : RouterId). slice_index_or r.xtr 15 0) (l.row.arrives.who ∙ sym (ap (λ (n : Notice). n.router) (its_notice two (2 ^ 63) l)))))
@@ -282,7 +270,7 @@ right_tag_refused : Legal opening was_noticed (refuses was_noticed (Event.Delive
 unfolding cut cut_from written
 right_tag_refused l =
     let t = context_of opening was_noticed (refuses was_noticed (Event.Deliver 4 Fate.Done) 0 (Refusal.Receive Refused.BadAuth)) in
-    let item : answered (2 ^ 63) (mapping wide 1440 ∷ []) ≡ l.row.item = item_is _ _ l.row.sent in
+    let item : answered (2 ^ 63) (mapping wide 1440 ∷ []) ≡ l.row.item = some_same _ _ l.row.sent in
     let fails : FailsCheck t (arrival_of (answered (2 ^ 63) (mapping wide 1440 ∷ []))) (Ok (Notifies acknowledgement)) Refused.BadAuth = subst (λ (i : Item). FailsCheck t (arrival_of i) (Ok i.message) Refused.BadAuth) (sym item) l.row.arrives.1.0 in
     true≢false (sym (item_authentic (answered (2 ^ 63) (mapping wide 1440 ∷ []))) ∙ fails.0)
 
@@ -318,7 +306,7 @@ told_under_another_key : Legal opening one_taken (step (Event.Notice 0 2 Fate.Do
 unfolding cut cut_from written
 told_under_another_key l =
     let n = l.row.2 in
-    let last : record { message = registers (mapping wide 1440 ∷ []) 1; from = local_at 21; moment = 0 } ≡ n.last = last_is _ _ n.heard in
+    let last : record { message = registers (mapping wide 1440 ∷ []) 1; from = local_at 21; moment = 0 } ≡ n.last = some_same _ _ n.heard in
     absurd (omega (arith, n.under ∙ sym (ap (λ (a : Acceptance). a.message.key_id) last)))
 
 -- a notice leaves out a nonce
@@ -478,7 +466,7 @@ comes_as : (T : List Step) (shown : ShownStore) (k nonce : ℕ) (records : List 
     → Hears (context_of opening T (step (Event.Deliver k Fate.Done) line 2 shown)) (arrival_of i) line
     → (line ≡ heard_line (context_of opening T (step (Event.Deliver k Fate.Done) line 2 shown)) (heard_of 0 nonce records)) ⊎ (line ≡ Line.Refused 2 (Refusal.Notify NotifyFault.OutOfMemory))
 comes_as T shown k nonce records line under is i sent row =
-    comes_to _ (arrival_of i) (heard_of 0 nonce records) (subst (λ (j : Item). notify_at opening T 2 (arrival_of j) ≡ Ok (heard_of 0 nonce records)) (item_is _ _ (sym is ∙ sent)) (hears (local_at 11) (local_at 21) nonce records 0 refl T under)) line row
+    comes_to _ (arrival_of i) (heard_of 0 nonce records) (subst (λ (j : Item). notify_at opening T 2 (arrival_of j) ≡ Ok (heard_of 0 nonce records)) (some_same _ _ (sym is ∙ sent)) (hears (local_at 11) (local_at 21) nonce records 0 refl T under)) line row
 
 -- a Map-Notify counts as another server's
 counted_from_other : Legal opening one_taken (counts one_taken 1 1 1) → ⊥
@@ -625,7 +613,7 @@ another_is_down_at_an_arrival l = let acts : ◌≡◌ {A = ℕ} 2 3 = l.row.arr
 -- a datagram is called lost, though a node has its address
 nowhere_though_there : Legal opening one_sent (step (Event.Deliver 0 Fate.Done) (Line.Nowhere 0) 4 (at [] 4)) → ⊥
 nowhere_though_there l =
-    none-some _ (sym (ap (λ (i : Item). node_at network i.to) (item_is first_item _ l.row.sent) ∙ l.row.nobody))
+    none-some _ (sym (ap (λ (i : Item). node_at network i.to) (some_same first_item _ l.row.sent) ∙ l.row.nobody))
 
 -- the line names another datagram than the event
 another_datagram_nowhere : Legal opening answered_elsewhere (step (Event.Deliver 1 Fate.Done) (Line.Nowhere 0) 4 (at [] 4)) → ⊥

@@ -64,12 +64,12 @@ pub use Rattle.lisp_etr.specs.declared.send_fault.SendFault.{SendFault}
 pub use Rattle.lisp_etr.specs.declared.start_fault.StartFault.{StartFault}
 pub use Rattle.lisp_nonces.specs.declared.fault.StoreFault.{StoreFault}
 
-pub authentic_test : (bytes secret : List ℕ) → IsAuthentic bytes secret → is_authentic bytes secret ≡ true
-authentic_test bytes secret is = and_from _ _ (le-leb _ _ is.0) ((bytes_eq-Decides _ _).1 is.1)
+pub authentic_test : (bytes own : List ℕ) → IsAuthentic bytes own → is_authentic bytes own ≡ true
+authentic_test bytes own is = and_from _ _ (le-leb _ _ is.0) ((bytes_eq-Decides _ _).1 is.1)
 
-signed_said : (secret : List ℕ) (x : MessageValue) → IsAuthentic (signed secret (message_written x)) secret
-signed_said secret (Registers m) = signed_register_is_authentic secret m
-signed_said secret (Notifies m) = signed_is_authentic secret m
+signed_said : (own : List ℕ) (x : MessageValue) → IsAuthentic (signed own (message_written x)) own
+signed_said own (Registers m) = signed_register_is_authentic own m
+signed_said own (Notifies m) = signed_is_authentic own m
 
 -- an item is authentic under its secret
 pub item_authentic : (i : Item) → is_authentic (bytes_of i) i.secret ≡ true
@@ -77,20 +77,20 @@ unfolding bytes_of
 item_authentic i = authentic_test _ _ (signed_said i.secret i.message)
 
 -- of a site without limits: a Map-Register that passes all checks, and one with a record that isn't allowed
-pub passes : (sites : List SiteValue) (from : Addr) (bytes : List ℕ) (m : MapRegisterValue) (site : SiteValue) (secret : List ℕ) → site_of sites m.site ≡ Some site → secret_of site m.key_id ≡ Some secret
-    → is_authentic bytes secret ≡ true → site.limits ≡ no_limits → m.merge ≡ false → first_not_allowed site m.records ≡ None → secret_under sites from bytes m ≡ Ok secret
+pub passes : (sites : List SiteValue) (from : Addr) (bytes : List ℕ) (m : MapRegisterValue) (site : SiteValue) (own : List ℕ) → site_of sites m.site ≡ Some site → secret_of site m.key_id ≡ Some own
+    → is_authentic bytes own ≡ true → site.limits ≡ no_limits → m.merge ≡ false → first_not_allowed site m.records ≡ None → secret_under sites from bytes m ≡ Ok own
 unfolding secret_under
-passes sites from bytes m site secret known key authentic none merge allowed = rw (known, key, authentic) (unlimited from m site secret none ∙ rw (merge, allowed) refl)
+passes sites from bytes m site own known key authentic none merge allowed = rw (known, key, authentic) (unlimited from m site own none ∙ rw (merge, allowed) refl)
 
-pub is_not_allowed : (sites : List SiteValue) (from : Addr) (bytes : List ℕ) (m : MapRegisterValue) (site : SiteValue) (secret : List ℕ) (place : ℕ) → site_of sites m.site ≡ Some site → secret_of site m.key_id ≡ Some secret
-    → is_authentic bytes secret ≡ true → site.limits ≡ no_limits → m.merge ≡ false → first_not_allowed site m.records ≡ Some place → secret_under sites from bytes m ≡ Err (Refused.NotAllowed place)
+pub is_not_allowed : (sites : List SiteValue) (from : Addr) (bytes : List ℕ) (m : MapRegisterValue) (site : SiteValue) (own : List ℕ) (place : ℕ) → site_of sites m.site ≡ Some site → secret_of site m.key_id ≡ Some own
+    → is_authentic bytes own ≡ true → site.limits ≡ no_limits → m.merge ≡ false → first_not_allowed site m.records ≡ Some place → secret_under sites from bytes m ≡ Err (Refused.NotAllowed place)
 unfolding secret_under
-is_not_allowed sites from bytes m site secret place known key authentic none merge allowed = rw (known, key, authentic) (unlimited from m site secret none ∙ rw (merge, allowed) refl)
+is_not_allowed sites from bytes m site own place known key authentic none merge allowed = rw (known, key, authentic) (unlimited from m site own none ∙ rw (merge, allowed) refl)
 
-pub bad_tag : (sites : List SiteValue) (from : Addr) (bytes : List ℕ) (m : MapRegisterValue) (site : SiteValue) (secret : List ℕ) → site_of sites m.site ≡ Some site → secret_of site m.key_id ≡ Some secret
-    → is_authentic bytes secret ≡ false → secret_under sites from bytes m ≡ Err Refused.BadAuth
+pub bad_tag : (sites : List SiteValue) (from : Addr) (bytes : List ℕ) (m : MapRegisterValue) (site : SiteValue) (own : List ℕ) → site_of sites m.site ≡ Some site → secret_of site m.key_id ≡ Some own
+    → is_authentic bytes own ≡ false → secret_under sites from bytes m ≡ Err Refused.BadAuth
 unfolding secret_under
-bad_tag sites from bytes m site secret known key authentic = rw (known, key, authentic) refl
+bad_tag sites from bytes m site own known key authentic = rw (known, key, authentic) refl
 
 -- ---- Turns whose store was set at one pair.
 
