@@ -34,6 +34,10 @@ other_number a b differ = other_case a b differ (a == b) refl
 pub same_number : (a : ℕ) → (a == a) ≡ true
 same_number a = (Decides-eqb a a).1 refl
 
+-- and by two that are equal
+pub here : (P : Bool → Type 0) (a b : ℕ) → a ≡ b → P true → P (a == b)
+here P a b same holds = subst P (sym (ap (λ n. n == b) same ∙ same_number b)) holds
+
 pub unless : {X : Type 0} (a b : ℕ) (x y : X) → a ≢ b → (if a == b then x else y) ≡ y
 unless a b x y differ = ap (λ t. if t then x else y) (other_number a b differ)
 

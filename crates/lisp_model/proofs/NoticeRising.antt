@@ -15,10 +15,10 @@ use Rattle.lisp_model.specs.Timers.{last_notice, last_notice_after, Notice, noti
 use Rattle.lisp_model.specs.Context.{Context, values, values_after, IsBase}
 use Rattle.lisp_model.specs.Legal.{Legal, LegalTrace, context_of}
 use Rattle.lisp_model.specs.Promises.{Falls, notice_nonces, notice_nonces_after, NoticeNoncesRise, NoticesDiffer}
-use Rattle.lisp_model.proofs.ListLemmas.{head_or_tail, in_none, at_head, in_tail, only, cases}
+use Rattle.lisp_model.proofs.ListLemmas.{head_or_tail, in_none, at_head, in_tail, only, cases, some_same}
 use Rattle.lisp_model.proofs.HeardLines.{IsBy}
 use Rattle.lisp_model.proofs.HearingLemmas.{not_both}
-use Rattle.lisp_model.proofs.Locality.{unless, same_number, other_number, last_notice_other, no_notices, of_each}
+use Rattle.lisp_model.proofs.Locality.{unless, same_number, other_number, last_notice_other, no_notices, of_each, here}
 use Rattle.lisp_model.proofs.Rows.{Tells, tells}
 use Rattle.lisp_model.proofs.CleanLemmas.{from_map}
 use Rattle.lisp_model.proofs.NoticeOrigins.{notices_left, of_others}
@@ -58,29 +58,18 @@ module _ (nonces : List ℕ) (last : Option ℕ) (kept : List (Option ℕ)) (saf
     tells_next : (new : List (Option ℕ)) → NoneBelow (nonce_after base) new → NoticeSafe (nonce_after base ∷ nonces) (Some (nonce_after base)) new
     tells_next new none_below = record {
       falls = (below, safe.falls);
-      floor = λ n has v in_it. floors n (head_or_tail (nonce_after base) nonces n has) v in_it;
-      top = λ l e n has. tops l e n (head_or_tail (nonce_after base) nonces n has);
+      floor = λ n has v in_it. let low : nonce_after base ≤ number v = none_below v in_it in cases (head_or_tail (nonce_after base) nonces n has) (λ is. omega (arith, low, is)) (λ old. omega (arith, low, below n old));
+      top = λ l e n has. let same = some_same (nonce_after base) l e in cases (head_or_tail (nonce_after base) nonces n has) (λ is. omega (arith, same, is)) (λ old. omega (arith, same, below n old));
     }
-      where
-        floors : (n : ℕ) → (n ≡ nonce_after base) ⊎ Contains nonces n → (v : Option ℕ) → Contains new v → n ≤ number v
-        floors n (inl is) v in_it = (let low : nonce_after base ≤ number v = none_below v in_it in omega (arith, low, is))
-        floors n (inr has) v in_it = (let low : nonce_after base ≤ number v = none_below v in_it in let up = below n has in omega (arith, low, up))
-
-        tops : (l : ℕ) → ◌≡◌ {A = Option ℕ} (Some (nonce_after base)) (Some l) → (n : ℕ) → (n ≡ nonce_after base) ⊎ Contains nonces n → n ≤ l
-        tops l e n (inl is) = (let same : nonce_after base ≡ l = cc in omega (arith, same, is))
-        tops l e n (inr has) = (let same : nonce_after base ≡ l = cc in let up = below n has in omega (arith, same, up))
 
     doubts : (new : List (Option ℕ)) → InDoubt kept new (nonce_after base) → NoticeSafe nonces last new
     doubts new (inl same) = narrows new (λ v has. subst (λ (vs : List (Option ℕ)). Contains vs v) same has)
     doubts new (inr more) = record {
       falls = safe.falls;
-      floor = λ n has v in_it. floors n has v (Contains-append_cases kept (Some (nonce_after base) ∷ []) v (subst (λ (vs : List (Option ℕ)). Contains vs v) more in_it));
+      floor = λ n has v in_it. cases (Contains-append_cases kept (Some (nonce_after base) ∷ []) v (subst (λ (vs : List (Option ℕ)). Contains vs v) more in_it)) (λ old. safe.floor n has v old)
+          (λ new. subst (λ (w : Option ℕ). n ≤ number w) (sym (only (Some (nonce_after base)) v new)) (omega (arith, below n has)));
       top = safe.top;
     }
-      where
-        floors : (n : ℕ) → Contains nonces n → (v : Option ℕ) → Contains kept v ⊎ Contains (Some (nonce_after base) ∷ []) v → n ≤ number v
-        floors n has v (inl old) = safe.floor n has v old
-        floors n has v (inr new) = subst (λ (w : Option ℕ). n ≤ number w) (sym (only (Some (nonce_after base)) v new)) (omega (arith, below n has))
 
 -- a step of the server
 module _ (t : Context) (its : is_server t.opening.config t.node ≡ true) (nonces : List ℕ) (safe : NoticeSafe nonces (last_notice t.past t.node) (values t notice_pair)) where
@@ -93,13 +82,6 @@ module _ (t : Context) (its : is_server t.opening.config t.node ≡ true) (nonce
   stays : values_after t notice_pair ≡ values t notice_pair → Stays
   stays e = narrows nonces (last_notice t.past t.node) (values t notice_pair) safe (values_after t notice_pair) (λ v has. subst (λ (vs : List (Option ℕ)). Contains vs v) e has)
 
-  restart_line : (named : ℕ) → named ≡ t.node → NoticeSafe nonces None (values_after t notice_pair) → NoticeSafe nonces (if named == t.node then None else last_notice t.past t.node) (values_after t notice_pair)
-  restart_line named is next = subst (λ (b : Bool). NoticeSafe nonces (if b then None else last_notice t.past t.node) (values_after t notice_pair)) (sym (ap (λ s. s == t.node) is ∙ same_number t.node)) next
-
-  notice_line : (server nonce : ℕ) → server ≡ t.node → NoticeSafe (nonce ∷ nonces) (Some nonce) (values_after t notice_pair)
-      → NoticeSafe (if server == t.node then nonce ∷ nonces else nonces) (if server == t.node then Some nonce else last_notice t.past t.node) (values_after t notice_pair)
-  notice_line server nonce is next = subst (λ (b : Bool). NoticeSafe (if b then nonce ∷ nonces else nonces) (if b then Some nonce else last_notice t.past t.node) (values_after t notice_pair)) (sym (ap (λ s. s == t.node) is ∙ same_number t.node)) next
-
   -- a router's store isn't the server's
   no_router : {X : Type 0} (node : ℕ) → is_router t.opening.config node ≡ true → t.node ≡ node → X
   no_router node kind acts = absurd (not_both t.opening.config node kind (ap (is_server t.opening.config) (sym acts) ∙ its))
@@ -108,12 +90,12 @@ module _ (t : Context) (its : is_server t.opening.config t.node ≡ true) (nonce
   row_safe e (Line.Notice server router key nonce datagram) told =
       let row = told.follows.2 in
       let new : NoticeSafe (nonce_after row.base ∷ nonces) (Some (nonce_after row.base)) (values_after t notice_pair) = tells_next nonces (last_notice t.past t.node) (values t notice_pair) safe row.base row.counts (values_after t notice_pair) (subst (λ (n : ℕ). NoneBelow n (values_after t notice_pair)) row.next row.saves.none_below) in
-      notice_line server nonce told.by (subst (λ (n : ℕ). NoticeSafe (n ∷ nonces) (Some n) (values_after t notice_pair)) (sym row.next) new)
+      here (λ (b : Bool). NoticeSafe (if b then nonce ∷ nonces else nonces) (if b then Some nonce else last_notice t.past t.node) (values_after t notice_pair)) server t.node told.by (subst (λ (n : ℕ). NoticeSafe (n ∷ nonces) (Some n) (values_after t notice_pair)) (sym row.next) new)
   row_safe e (Line.Refused named (Refusal.Notice (NoticeFault.StoreSave fault))) told = cases told.follows
       (λ f. let row = f.3 in doubts nonces (last_notice t.past t.node) (values t notice_pair) safe row.0 row.1.counts (values_after t notice_pair) row.2.here)
       (λ f. absurd f.2)
-  row_safe e (Line.Restarted named) told = restart_line named told.by (forgets nonces (last_notice t.past t.node) (values t notice_pair) safe (values_after t notice_pair) (told.follows.3.narrows notice_pair).each)
-  row_safe e (Line.Renewed named count) told = restart_line named told.by (forgets nonces (last_notice t.past t.node) (values t notice_pair) safe (values_after t notice_pair) (λ v has. subst (λ (vs : List (Option ℕ)). Contains vs v) (told.stays.kept PairKind.Notice refl notice_pair refl) has))
+  row_safe e (Line.Restarted named) told = here (λ (b : Bool). NoticeSafe nonces (if b then None else last_notice t.past t.node) (values_after t notice_pair)) named t.node told.by (forgets nonces (last_notice t.past t.node) (values t notice_pair) safe (values_after t notice_pair) (told.follows.3.narrows notice_pair).each)
+  row_safe e (Line.Renewed named count) told = here (λ (b : Bool). NoticeSafe nonces (if b then None else last_notice t.past t.node) (values_after t notice_pair)) named t.node told.by (forgets nonces (last_notice t.past t.node) (values t notice_pair) safe (values_after t notice_pair) (λ v has. subst (λ (vs : List (Option ℕ)). Contains vs v) (told.stays.kept PairKind.Notice refl notice_pair refl) has))
   row_safe e (Line.Emptied named under) told = no_router named told.follows.2.lost.kind told.follows.2.lost.acts
   row_safe e (Line.Refused named (Refusal.Start fault)) told = cases told.follows
       (λ f. no_router named f.3.kind f.3.acts)

@@ -22,9 +22,9 @@ use Rattle.lisp_model.specs.Bag.{Arrival, arrival_in, as_register, acceptances_i
 use Rattle.lisp_model.specs.Receiving.{IsFresh, last_in, Refused}
 use Rattle.lisp_model.specs.Legal.{MayCome, Arrives, Legal, LegalTrace, context_of}
 use Rattle.lisp_model.proofs.KeptLemmas.{only_value, pair_itself, pair_same}
-use Rattle.lisp_model.proofs.ListLemmas.{at_head, in_tail, head_or_tail, in_none, only, cases}
+use Rattle.lisp_model.proofs.ListLemmas.{at_head, in_tail, head_or_tail, in_none, only, cases, some_same}
 use Rattle.lisp_model.proofs.HearingLemmas.{not_both}
-use Rattle.lisp_model.proofs.Locality.{same_number, other_number, since_other, accepted_other, tried_other, none_accepted, of_each}
+use Rattle.lisp_model.proofs.Locality.{same_number, other_number, since_other, accepted_other, tried_other, none_accepted, of_each, here}
 use Rattle.lisp_model.proofs.Rows.{Tells, tells}
 use Rattle.lisp_nonces.specs.declared.pair.PairKind.{PairKind}
 
@@ -102,31 +102,21 @@ module _ (q : Pair) (acc since : List Acceptance) (tried : List ℕ) (kept : Lis
     falls = subst Falls (sym list) (newest, safe.falls);
     floor = λ n has v in_it. subst (λ (w : Option ℕ). AtLeast n w) (sym (only_value (Some a.message.nonce) v (subst (λ (vs : List (Option ℕ)). Contains vs v) one in_it))) (at_most n has);
     last = λ l e n has. subst (λ (x : ℕ). n ≤ x) (is_nonce l e) (at_most n has);
-    tried_kept = λ m has. is_tried m (some_same m (only_value (Some a.message.nonce) (Some m) (subst (λ (vs : List (Option ℕ)). Contains vs (Some m)) one has)));
+    tried_kept = λ m has. is_tried m (some_same m a.message.nonce (only_value (Some a.message.nonce) (Some m) (subst (λ (vs : List (Option ℕ)). Contains vs (Some m)) one has)));
     tried_last = λ l e. is_tried l (sym (is_nonce l e));
   }
     where
-      nonce : ℕ
-      nonce = a.message.nonce
-
       list : nonces_of q (a ∷ acc) ≡ a.message.nonce ∷ nonces_of q acc
       list = nonces_of-same q a acc is
 
       newest : (n : ℕ) → Contains (nonces_of q acc) n → n < a.message.nonce
       newest = fresh q acc since tried kept safe base counts a.message.nonce below
 
-      at_most_of : (n : ℕ) → (n ≡ a.message.nonce) ⊎ Contains (nonces_of q acc) n → n ≤ a.message.nonce
-      at_most_of n (inl e) = omega (arith, e)
-      at_most_of n (inr has) = let low = newest n has in omega (arith, low)
-
       at_most : (n : ℕ) → Contains (nonces_of q (a ∷ acc)) n → n ≤ a.message.nonce
-      at_most n has = at_most_of n (head_or_tail a.message.nonce (nonces_of q acc) n (subst (λ (ns : List ℕ). Contains ns n) list has))
-
-      some_same : (m : ℕ) → ◌≡◌ {A = Option ℕ} (Some m) (Some a.message.nonce) → m ≡ a.message.nonce
-      some_same m e = cc
+      at_most n has = cases (head_or_tail a.message.nonce (nonces_of q acc) n (subst (λ (ns : List ℕ). Contains ns n) list has)) (λ e. omega (arith, e)) (λ old. omega (arith, newest n old))
 
       is_nonce : (l : ℕ) → last_of q (a ∷ since) ≡ Some l → a.message.nonce ≡ l
-      is_nonce l e = sym (some_same l (sym e ∙ last_of-same q a since is))
+      is_nonce l e = sym (some_same l a.message.nonce (sym e ∙ last_of-same q a since is))
 
       is_tried : (m : ℕ) → m ≡ a.message.nonce → Contains (nonces_of q (a ∷ []) ++ tried) m
       is_tried m e = subst (λ (ns : List ℕ). Contains (ns ++ tried) m) (sym (nonces_of-same q a [] is)) (subst (λ (x : ℕ). Contains (a.message.nonce ∷ tried) x) (sym e) (at_head a.message.nonce tried))
@@ -160,18 +150,12 @@ pub taken_one : (a : Arrival) (now : ℕ) (m : MapRegisterValue) → a.read ≡ 
 taken_one a now m read = ap (λ r. option_to_list (option_map (λ x. record { message = x; from = a.from; moment = now }) (as_register r))) read
 
 module _ (t : Context) (its : is_server t.opening.config t.node ≡ true) (q : Pair) (kind : q.kind ≡ PairKind.Received) (acc : List Acceptance) (old : List ℕ) (safe : Safe q acc (since_start t.opening t.past t.node) old (values t q)) where
-  before : List Acceptance
-  before = since_start t.opening t.past t.node
-
   -- the list of the pair is as it was
   stays : values_after t q ≡ values t q → Safe q acc (since_start t.opening t.past t.node) old (values_after t q)
   stays e = safe_narrows q acc (since_start t.opening t.past t.node) old (values t q) safe (values_after t q) (λ v has. subst (λ (vs : List (Option ℕ)). Contains vs v) e has)
 
   -- a Map-Register is accepted
   module _ (a : Arrival) (m : MapRegisterValue) (read : a.read ≡ Ok (Registers m)) (fresh : IsFresh t m) (now : ℕ) where
-    one : Acceptance
-    one = record { message = m; from = a.from; moment = now }
-
     base_at : q ≡ pair_of m → IsBase (last_of q (since_start t.opening t.past t.node)) (values t q) fresh.base
     base_at e = subst (λ (p : Pair). IsBase (last_of p (since_start t.opening t.past t.node)) (values t p) fresh.base) (sym e) fresh.counts
 
@@ -192,15 +176,7 @@ module _ (t : Context) (its : is_server t.opening.config t.node ≡ true) (q : P
 
   accept_line : (server : ℕ) (new : List Acceptance) → t.node ≡ server → Safe q (new ++ acc) (new ++ since_start t.opening t.past t.node) (nonces_of q new ++ old) (values_after t q)
       → Safe q (if server == t.node then new ++ acc else acc) (if server == t.node then new ++ since_start t.opening t.past t.node else since_start t.opening t.past t.node) (if server == t.node then nonces_of q new ++ old else old) (values_after t q)
-  accept_line server new is next = subst (λ b. Safe q (if b then new ++ acc else acc) (if b then new ++ since_start t.opening t.past t.node else since_start t.opening t.past t.node) (if b then nonces_of q new ++ old else old) (values_after t q))
-      (sym (ap (λ s. s == t.node) (sym is) ∙ same_number t.node)) next
-
-  tried_line : (server : ℕ) (new : List Acceptance) → t.node ≡ server → Safe q acc (since_start t.opening t.past t.node) (nonces_of q new ++ old) (values_after t q)
-      → Safe q acc (since_start t.opening t.past t.node) (if server == t.node then nonces_of q new ++ old else old) (values_after t q)
-  tried_line server new is next = subst (λ b. Safe q acc (since_start t.opening t.past t.node) (if b then nonces_of q new ++ old else old) (values_after t q)) (sym (ap (λ s. s == t.node) (sym is) ∙ same_number t.node)) next
-
-  restart_line : (named : ℕ) → named ≡ t.node → Safe q acc [] old (values_after t q) → Safe q acc (if named == t.node then [] else since_start t.opening t.past t.node) old (values_after t q)
-  restart_line named is next = subst (λ b. Safe q acc (if b then [] else since_start t.opening t.past t.node) old (values_after t q)) (sym (ap (λ s. s == t.node) is ∙ same_number t.node)) next
+  accept_line server new is = here (λ b. Safe q (if b then new ++ acc else acc) (if b then new ++ since_start t.opening t.past t.node else since_start t.opening t.past t.node) (if b then nonces_of q new ++ old else old) (values_after t q)) server t.node (sym is)
 
   -- a router's store isn't the server's
   no_router : {X : Type 0} (node : ℕ) → is_router t.opening.config node ≡ true → t.node ≡ node → X
@@ -217,10 +193,10 @@ module _ (t : Context) (its : is_server t.opening.config t.node ≡ true) (q : P
       let f = told.follows in
       let row = f.row.1 in
       subst (λ (a : Option Arrival). After (acceptances_in a (clock t.past)) (Line.Refused named (Refusal.Receive (Refused.StoreSave fault)))) (sym f.is)
-      (tried_line named (acceptances_in (Some f.arrival) (clock t.past)) (sym told.by) (subst (λ (new : List Acceptance). Safe q acc (since_start t.opening t.past t.node) (nonces_of q new ++ old) (values_after t q)) (sym (taken_one f.arrival (clock t.past) row.message row.admits.read))
+      (here (λ (b : Bool). Safe q acc (since_start t.opening t.past t.node) (if b then nonces_of q (acceptances_in (Some f.arrival) (clock t.past)) ++ old else old) (values_after t q)) named t.node told.by (subst (λ (new : List Acceptance). Safe q acc (since_start t.opening t.past t.node) (nonces_of q new ++ old) (values_after t q)) (sym (taken_one f.arrival (clock t.past) row.message row.admits.read))
       (doubts_safe f.arrival row.message row.admits.read row.fresh (clock t.past) row.fails.here row.fails.others (eq_by_cmp pair_cmp q (pair_of row.message)) refl)))
-  row_safe e (Line.Restarted named) told = restart_line named told.by (safe_restarts q acc (since_start t.opening t.past t.node) old (values t q) safe (values_after t q) (told.follows.3.narrows q).each)
-  row_safe e (Line.Renewed named count) told = restart_line named told.by (safe_restarts q acc (since_start t.opening t.past t.node) old (values t q) safe (values_after t q) (λ v has. subst (λ (vs : List (Option ℕ)). Contains vs v) (told.stays.kept PairKind.Received refl q kind) has))
+  row_safe e (Line.Restarted named) told = here (λ (b : Bool). Safe q acc (if b then [] else since_start t.opening t.past t.node) old (values_after t q)) named t.node told.by (safe_restarts q acc (since_start t.opening t.past t.node) old (values t q) safe (values_after t q) (told.follows.3.narrows q).each)
+  row_safe e (Line.Renewed named count) told = here (λ (b : Bool). Safe q acc (if b then [] else since_start t.opening t.past t.node) old (values_after t q)) named t.node told.by (safe_restarts q acc (since_start t.opening t.past t.node) old (values t q) safe (values_after t q) (λ v has. subst (λ (vs : List (Option ℕ)). Contains vs v) (told.stays.kept PairKind.Received refl q kind) has))
   row_safe e (Line.Emptied named under) told = no_router named told.follows.2.lost.kind told.follows.2.lost.acts
   row_safe e (Line.Refused named (Refusal.Start fault)) told = cases told.follows
       (λ f. no_router named f.3.kind f.3.acts)
@@ -231,21 +207,14 @@ module _ (t : Context) (its : is_server t.opening.config t.node ≡ true) (q : P
 
 -- a number among values is among their numbers
 some_number : (v : Option ℕ) (m : ℕ) (ms : List ℕ) → (Some m ≡ v) ⊎ Contains ms m → Contains (option_to_list v ++ ms) m
-some_number None m ms (inl e) = absurd (clash e)
-  where
-    clash : ◌≡◌ {A = Option ℕ} (Some m) None → ⊥
-    clash e = absurd cc
+some_number None m ms (inl e) = absurd (none-some _ (sym e))
 some_number None m ms (inr has) = has
 some_number (Some n) m ms (inl e) = let same : m ≡ n = cc in subst (λ (x : ℕ). Contains (n ∷ ms) x) (sym same) (at_head n ms)
 some_number (Some n) m ms (inr has) = in_tail n ms m has
 
 in_numbers : (vs : List (Option ℕ)) (m : ℕ) → Contains vs (Some m) → Contains (flat_map option_to_list vs) m
 in_numbers [] m has = absurd (in_none (Some m) has)
-in_numbers (v ∷ vs) m has = some_number v m (flat_map option_to_list vs) (at (head_or_tail v vs (Some m) has) (λ later. in_numbers vs m later))
-  where
-    at : (Some m ≡ v) ⊎ Contains vs (Some m) → (Contains vs (Some m) → Contains (flat_map option_to_list vs) m) → (Some m ≡ v) ⊎ Contains (flat_map option_to_list vs) m
-    at (inl e) go = inl e
-    at (inr later) go = inr (go later)
+in_numbers (v ∷ vs) m has = some_number v m (flat_map option_to_list vs) (cases (head_or_tail v vs (Some m) has) (λ e. inl e) (λ later. inr (in_numbers vs m later)))
 
 -- at each server, for each pair of received nonces
 module _ (o : Opening) (q : Pair) (kind : q.kind ≡ PairKind.Received) where
@@ -256,13 +225,10 @@ module _ (o : Opening) (q : Pair) (kind : q.kind ≡ PairKind.Received) where
   safe_opening k = record {
     falls = tt;
     floor = λ n has. absurd (in_none n has);
-    last = λ l e. absurd (clash e);
+    last = λ l e. absurd (none-some _ e);
     tried_kept = in_numbers (kept_at (shown_store o [] k).kept q);
-    tried_last = λ l e. absurd (clash e);
+    tried_last = λ l e. absurd (none-some _ e);
   }
-    where
-      clash : {l : ℕ} → ◌≡◌ {A = Option ℕ} None (Some l) → ⊥
-      clash e = absurd cc
 
   safe_actor : (T : List Step) (s : Step) → Legal o T s → is_server o.config s.actor ≡ true → SafeAt T s.actor → SafeAt (s ∷ T) s.actor
   safe_actor T s l its safe = subst (λ b. Safe q (acceptances o (s ∷ T) s.actor) (since_start o (s ∷ T) s.actor) (tried_nonces o (s ∷ T) s.actor q) (kept_at (if b then s.shown else shown_store o T s.actor).kept q)) (sym (same_number s.actor))
@@ -299,14 +265,8 @@ nonces_rise o T legal server q = at q.kind refl
         received : (b : Bool) → is_server o.config server ≡ b → Falls (nonces_of q (acceptances o T server))
         received true its = (safe_trace o q e T legal server its).falls
         received false other = subst (λ (acc : List Acceptance). Falls (nonces_of q acc)) (sym (none_accepted o server other T legal)) tt
-    at PairKind.Sent e = subst Falls (sym (no_nonces q (λ is. sent_clash (sym e ∙ is)) (acceptances o T server))) tt
-      where
-        sent_clash : PairKind.Sent ≢ PairKind.Received
-        sent_clash is = absurd cc
-    at PairKind.Notice e = subst Falls (sym (no_nonces q (λ is. notice_clash (sym e ∙ is)) (acceptances o T server))) tt
-      where
-        notice_clash : PairKind.Notice ≢ PairKind.Received
-        notice_clash is = absurd cc
+    at PairKind.Sent e = subst Falls (sym (no_nonces q (λ is. let clash : PairKind.Sent ≡ PairKind.Received = sym e ∙ is in absurd cc) (acceptances o T server))) tt
+    at PairKind.Notice e = subst Falls (sym (no_nonces q (λ is. let clash : PairKind.Notice ≡ PairKind.Received = sym e ∙ is in absurd cc) (acceptances o T server))) tt
 
 -- a replay has a base
 module _ (t : Context) (server saved : ℕ) where
