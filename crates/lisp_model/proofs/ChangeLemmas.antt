@@ -4,21 +4,18 @@ use Rattle.std.specs.Prelude.{◌⊎◌, if◌then◌else◌, reverse, slice_get
 use Rattle.std.specs.List.{Contains}
 use Rattle.std.proofs.lemmas.List.{length-reverse, reverse-append}
 use Rattle.lisp_records.specs.Record.{MapRecordValue}
-use Rattle.lisp_model.specs.declared.event.Event.TheVariants as events
-use Rattle.lisp_model.specs.declared.line.Line.{Line}
-use Rattle.lisp_model.specs.declared.line.Line.TheVariants as lines
-use Rattle.lisp_model.specs.Trace.{EventValue, Step, Opening, database, database_after}
+use Rattle.lisp_model.specs.Trace.{EventValue, Step, Opening, database, database_after, Event, Line}
 use Rattle.lisp_model.specs.History.{SentRegister, sent_registers_in, history}
 use Rattle.lisp_model.specs.Change.{gives_database, Keeps}
 use Rattle.lisp_model.specs.Legal.{Legal, LegalTrace, context_of}
-use Rattle.lisp_model.proofs.ListLemmas.{head_or_tail, in_none}
+use Rattle.lisp_model.proofs.ListLemmas.{head_or_tail, in_none, cases}
 use Rattle.lisp_model.proofs.Rows.{Following, tells}
 
 -- an event that gives nothing
 given_none : (e : EventValue) (line : Line) (r : ℕ) (old : List MapRecordValue) → gives_database e r ≡ false → database_after e line r old ≡ old
-given_none (events.Change router db) (lines.Changed _ _) r old none = ap (λ b. if b then db else old) none
-given_none (events.Restart node pick (Some db)) line r old none = ap (λ b. if b then db else old) none
-given_none (events.Lose node key (Some db)) line r old none = ap (λ b. if b then db else old) none
+given_none (Event.Change router db) (Line.Changed _ _) r old none = ap (λ b. if b then db else old) none
+given_none (Event.Restart node pick (Some db)) line r old none = ap (λ b. if b then db else old) none
+given_none (Event.Lose node key (Some db)) line r old none = ap (λ b. if b then db else old) none
 given_none e line r old none = refl
 
 -- places in a list with one more element at its end
@@ -50,25 +47,21 @@ pub record IsNew (o : Opening) (T : List Step) (line : Line) (d : SentRegister) 
   pub key : ℕ
   pub nonce : ℕ
   pub datagram : ℕ
-  pub sent : line ≡ lines.Sent router server part key nonce datagram
+  pub sent : line ≡ Line.Sent router server part key nonce datagram
   pub is : d ≡ record { router = router; key = key; nonce = nonce; server = server; database = database o T router; part = part; position = length T }
 
 pub new_or_old : (o : Opening) (T : List Step) (line : Line) (d : SentRegister) → Contains (sent_registers_in o T line ++ history o T) d → IsNew o T line d ⊎ Contains (history o T) d
-new_or_old o T (lines.Sent router server part key nonce datagram) d has = at (head_or_tail _ (history o T) d has)
-  where
-    at : (d ≡ record { router = router; key = key; nonce = nonce; server = server; database = database o T router; part = part; position = length T }) ⊎ Contains (history o T) d → IsNew o T (lines.Sent router server part key nonce datagram) d ⊎ Contains (history o T) d
-    at (inl e) = inl (record { router = router; server = server; part = part; key = key; nonce = nonce; datagram = datagram; sent = refl; is = e })
-    at (inr old) = inr old
+new_or_old o T (Line.Sent router server part key nonce datagram) d has = cases (head_or_tail _ (history o T) d has)
+    (λ e. inl (record { router = router; server = server; part = part; key = key; nonce = nonce; datagram = datagram; sent = refl; is = e }))
+    (λ old. inr old)
 new_or_old o T _ d has = inr has
 
 module _ (o : Opening) where
   below_length : (T : List Step) (d : SentRegister) → Contains (history o T) d → d.position < length T
   below_length [] d has = absurd (in_none d has)
-  below_length (s ∷ T) d has = at (new_or_old o T s.line d has) (below_length T d)
-    where
-      at : IsNew o T s.line d ⊎ Contains (history o T) d → (Contains (history o T) d → d.position < length T) → d.position < length (s ∷ T)
-      at (inl new) later = let e = ap (λ (x : SentRegister). x.position) new.is in omega (arith, e)
-      at (inr old) later = let low = later old in omega (arith, low)
+  below_length (s ∷ T) d has = cases (new_or_old o T s.line d has)
+      (λ new. let e = ap (λ (x : SentRegister). x.position) new.is in omega (arith, e))
+      (λ old. let low = (below_length T d) old in omega (arith, low))
 
   -- nothing was given to a router after a place
   abbrev NothingAfter : List Step → ℕ → ℕ → Type 0
@@ -78,7 +71,7 @@ module _ (o : Opening) where
   nothing_before s T r p none place x low high is = none place x low (omega (arith, high)) (earlier_place s T place high ∙ is)
 
   -- its event is a send, which gives nothing
-  pub new_follows : (T : List Step) (s : Step) → Legal o T s → (d : SentRegister) → (new : IsNew o T s.line d) → Following (context_of o T s) s.event (lines.Sent new.router new.server new.part new.key new.nonce new.datagram)
+  pub new_follows : (T : List Step) (s : Step) → Legal o T s → (d : SentRegister) → (new : IsNew o T s.line d) → Following (context_of o T s) s.event (Line.Sent new.router new.server new.part new.key new.nonce new.datagram)
   new_follows T s l d new = subst (λ (line : Line). Following (context_of o T s) s.event line) new.sent (tells (context_of o T s) s.event s.line l.row).follows
 
   new_sent : (T : List Step) (s : Step) → Legal o T s → (d : SentRegister) → (new : IsNew o T s.line d) → gives_database s.event d.router ≡ false
@@ -115,7 +108,7 @@ module _ (o : Opening) where
     where
       both : (x : IsNew o T s.line d) (y : IsNew o T s.line e) → d ≡ e
       both x y =
-          let line : lines.Sent x.router x.server x.part x.key x.nonce x.datagram ≡ lines.Sent y.router y.server y.part y.key y.nonce y.datagram = sym x.sent ∙ y.sent in
+          let line : Line.Sent x.router x.server x.part x.key x.nonce x.datagram ≡ Line.Sent y.router y.server y.part y.key y.nonce y.datagram = sym x.sent ∙ y.sent in
           let r : x.router ≡ y.router = cc in
           let k : x.key ≡ y.key = cc in
           let n : x.nonce ≡ y.nonce = cc in

@@ -21,7 +21,7 @@ use Rattle.lisp_policy.specs.Site.{SiteValue}
 use Rattle.lisp_messages.specs.Authentic.{is_authentic}
 use Rattle.lisp_hmac.proofs.TagLemmas.{length-tag}
 use Rattle.lisp_messages.proofs.WrittenLaws.{reads_back}
-use Rattle.lisp_model.specs.Trace.{Step, Opening, is_router, router_at, clock, EventValue, ShownStore, addresses, address_at, is_server, is_up, key as key_of, secret_at, sites, etr_config}
+use Rattle.lisp_model.specs.Trace.{Step, Opening, is_router, router_at, clock, EventValue, ShownStore, addresses, address_at, is_server, is_up, key as key_of, secret_at, sites, etr_config, Line}
 use Rattle.lisp_model.specs.History.{SentRegister, record_in, history, sent_registers_in}
 use Rattle.lisp_model.specs.Held.{held_row}
 use Rattle.lisp_model.specs.Bag.{since_start, Item, Arrival, bag, bytes_of}
@@ -30,26 +30,20 @@ use Rattle.lisp_model.specs.Clean.{Clean, IsHarmless, secrets_of}
 use Rattle.lisp_model.specs.Legal.{LegalTrace, MayCome, context_of}
 use Rattle.lisp_model.specs.Promises.{HeldAgree, IsRowOf, WasAccepted, CountedWasAccepted, DoneWasNoticed, AcceptedWasSent, HeldWasSent}
 use Rattle.lisp_model.specs.Network.{IsNetwork, NamesServers}
-use Rattle.lisp_model.specs.declared.line.Line.{Line}
-use Rattle.lisp_model.specs.declared.line.Line.TheVariants as lines
 use Rattle.lisp_model.specs.Accepted.{acceptances, acceptances_in_step}
 use Rattle.lisp_model.specs.Counted.{latest_nonce, Acknowledged, counted_nonces, counted_nonces_after}
 use Rattle.lisp_model.specs.Timers.{Notice, notices}
 use Rattle.lisp_model.specs.Receiving.{went_to, awaits}
 use Rattle.lisp_model.proofs.ChangeLemmas.{same_database, one_place}
-use Rattle.lisp_model.proofs.HeldLaws.{held_was_sent as rows_were_sent}
-use Rattle.lisp_model.proofs.Origins.{ReadsBack, IsOfItem, comes, were_sent, all_from}
+use Rattle.lisp_model.proofs.LimitLaws.{held_was_sent as rows_were_sent, Signs, signs_in}
+use Rattle.lisp_model.proofs.Origins.{ReadsBack, IsOfItem, comes, were_sent, all_from, accepted_was_sent as messages_were_sent}
 use Rattle.lisp_model.proofs.ReplyOrigins.{entry_is, said_same, IsEntry, IsReply, stays_accepted, all_known, IsAnswer, all_answers}
-use Rattle.lisp_model.proofs.Sound.{unique}
+use Rattle.lisp_model.proofs.Sound.{unique, IsEntryOf, latest_is_sent, counted_part}
 use Rattle.lisp_model.proofs.CleanLemmas.{server_of, addr_same, in_find}
 use Rattle.lisp_model.proofs.HeardLines.{IsCounted, counted_of}
 use Rattle.lisp_model.proofs.HearingLemmas.{IsHeard, is_heard, knows_own, router_of, find_true}
-use Rattle.lisp_model.proofs.LatestLaws.{IsEntryOf, latest_is_sent, counted_part}
-use Rattle.lisp_model.proofs.ListLemmas.{head_or_tail, in_none}
+use Rattle.lisp_model.proofs.ListLemmas.{head_or_tail, in_none, cases}
 use Rattle.lisp_model.proofs.NoticeOrigins.{WentOut, all_went_out}
-use Rattle.lisp_model.proofs.LimitLaws.{Signs, signs_in}
-use Rattle.lisp_model.proofs.Origins as origins
-use Rattle.lisp_model.proofs.HeldLaws as holdings
 
 -- one identity is one router's
 pub one_router : (c : ConfigValue) → AllPairs (λ a b. a.me ≢ b.me) c.routers → (i j : ℕ) → is_router c i ≡ true → is_router c j ≡ true → (router_at c i).me ≡ (router_at c j).me → i ≡ j
@@ -98,14 +92,12 @@ not_zero nonce false e = true≢false (sym e)
 
 -- the nonce that counts is that of an entry of the part, under the router's key
 latest_entry : (o : Opening) (T : List Step) → LegalTrace o T → (r k p nonce : ℕ) → is_up T r ≡ true → is_latest nonce (latest_nonce T r k p) ≡ true → IsEntryOf (history o T) r k p (key_of o T r) nonce
-latest_entry o T legal r k p nonce up is = at (latest_is_sent o T legal r k p up)
+latest_entry o T legal r k p nonce up is = cases (latest_is_sent o T legal r k p up)
+    (λ none. absurd (not_zero nonce (nonce == 0) (ap (is_latest nonce) (sym none) ∙ is)))
+    (λ e. subst (IsEntryOf (history o T) r k p (key_of o T r)) (sym same) e)
   where
     same : nonce ≡ latest_nonce T r k p
     same = (Decides-eqb nonce (latest_nonce T r k p)).0 (and_parts (not (nonce == 0)) (nonce == latest_nonce T r k p) is).1
-
-    at : (latest_nonce T r k p ≡ 0) ⊎ IsEntryOf (history o T) r k p (key_of o T r) (latest_nonce T r k p) → IsEntryOf (history o T) r k p (key_of o T r) nonce
-    at (inl none) = absurd (not_zero nonce (nonce == 0) (ap (is_latest nonce) (sym none) ∙ is))
-    at (inr e) = subst (IsEntryOf (history o T) r k p (key_of o T r)) (sym same) e
 
 -- later steps leave it
 later_accepted : (o : Opening) (T : List Step) (s : Step) (router server part key nonce : ℕ) → WasAccepted o T router server part key nonce → WasAccepted o (s ∷ T) router server part key nonce
@@ -166,12 +158,12 @@ module _ (o : Opening) (distinct : AllPairs (λ a b. a ≢ b) (addresses o.confi
         (entry_counted s a what up) its
 
     -- what is counted was accepted
-    counted : (node : ℕ) (after : ShownStore) (e : EventValue) → IsHarmless o T e → MayCome (context_of o T (record { event = e; line = lines.Counted router server part key nonce; actor = node; shown = after })) e (lines.Counted router server part key nonce) → WasAccepted o T router server part key nonce
+    counted : (node : ℕ) (after : ShownStore) (e : EventValue) → IsHarmless o T e → MayCome (context_of o T (record { event = e; line = Line.Counted router server part key nonce; actor = node; shown = after })) e (Line.Counted router server part key nonce) → WasAccepted o T router server part key nonce
     counted node after e harmless row =
-        let c = comes o T reads (all_from o T legal) (λ i has n is. (all_known o distinct reads T legal clean i has n is).below) node e (lines.Counted router server part key nonce) after tt harmless row in
+        let c = comes o T reads (all_from o T legal) (λ i has n is. (all_known o distinct reads T legal clean i has n is).below) node e (Line.Counted router server part key nonce) after tt harmless row in
         let what = counted_of _ c.arrival router server part key nonce c.row in
         let h = is_heard o T node c.arrival what.what what.hears in
-        counted_at (record { event = e; line = lines.Counted router server part key nonce; actor = node; shown = after }) c.arrival what (subst (λ (k : ℕ). is_router o.config k ≡ true) what.acts c.row.acts.kind)
+        counted_at (record { event = e; line = Line.Counted router server part key nonce; actor = node; shown = after }) c.arrival what (subst (λ (k : ℕ). is_router o.config k ≡ true) what.acts c.row.acts.kind)
         (subst (λ (k : ℕ). is_up T k ≡ true) what.acts c.row.acts.state) h (c.origin what.what.message h.read.is _ (knows_own o T node c.row.acts.kind) h.authentic)
 
   abbrev Took : List Step → ℕ → ℕ → Acknowledged → Type 0
@@ -179,7 +171,7 @@ module _ (o : Opening) (distinct : AllPairs (λ a b. a ≢ b) (addresses o.confi
 
   acknowledged_case : (T : List Step) (s : Step) → LegalTrace o T → Clean o T → IsHarmless o T s.event → (line : Line) → MayCome (context_of o T s) s.event line → (router server : ℕ) (x : Acknowledged)
       → Contains (counted_nonces_after line router server (counted_nonces T router server)) x → Took T router server x ⊎ Contains (counted_nonces T router server) x
-  acknowledged_case T s legal clean harmless (lines.Counted r k part its number) row router server x has = at (r == router && k == server) refl has
+  acknowledged_case T s legal clean harmless (Line.Counted r k part its number) row router server x has = at (r == router && k == server) refl has
     where
       here : WasAccepted o T r k part its number
       here = counted T legal clean r k part its number s.actor s.shown s.event harmless row
@@ -192,11 +184,9 @@ module _ (o : Opening) (distinct : AllPairs (λ a b. a ≢ b) (addresses o.confi
 
       at : (b : Bool) → (r == router && k == server) ≡ b → Contains (if b then record { part = part; key = its; nonce = number } ∷ counted_nonces T router server else counted_nonces T router server) x → Took T router server x ⊎ Contains (counted_nonces T router server) x
       at false is has = inr has
-      at true is has = both (head_or_tail (record { part = part; key = its; nonce = number }) (counted_nonces T router server) x has)
-        where
-          both : (x ≡ record { part = part; key = its; nonce = number }) ⊎ Contains (counted_nonces T router server) x → Took T router server x ⊎ Contains (counted_nonces T router server) x
-          both (inl same) = inl (new is same)
-          both (inr old) = inr old
+      at true is has = cases (head_or_tail (record { part = part; key = its; nonce = number }) (counted_nonces T router server) x has)
+          (λ same. inl (new is same))
+          (λ old. inr old)
   acknowledged_case T s legal clean harmless _ row router server x has = inr has
 
   pub nonces_were_accepted : (T : List Step) → LegalTrace o T → Clean o T → CountedWasAccepted o T
@@ -247,13 +237,8 @@ module _ (o : Opening) (distinct : AllPairs (λ a b. a ≢ b) (addresses o.confi
   holds_secret node kind site key signs = subst (λ b. Contains (if b then flat_map (λ s. map (λ k. k.secret) s.keys) (sites o T node) else (etr_config o T node).secret ∷ []) (secret_at (sites o T node) site key)) (sym kind) (signs_in (sites o T node) site key signs)
 
   -- a notice that was noticed before
-  pub record WasNoticed (server nonce : ℕ) (router : RouterId) : Type 0 where
-    pub before : Step
-    pub node : ℕ
-    pub datagram : ℕ
-    pub earlier : Contains T before
-    pub line : before.line ≡ lines.Noticed node server nonce datagram
-    pub me : (router_at o.config node).me ≡ router
+  abbrev WasNoticed : ℕ → ℕ → RouterId → Type 0
+  WasNoticed server nonce router = (before : Step) × (node : ℕ) × (datagram : ℕ) × Contains T before × (before.line ≡ Line.Noticed node server nonce datagram) × ((router_at o.config node).me ≡ router)
 
   ended : (from : Addr) (m what : MapNotifyValue) (x : Notice) (item : Item) (server nonce : ℕ) (router : RouterId) (has : List SiteValue) → IsAnswer o T item what → WentOut o has (bag o T) x → IsAwaited o T from m x
       → item.from ≡ from → item.to ≡ address_at o.config server → is_server o.config server ≡ true → m.nonce ≡ what.nonce → nonce ≡ x.nonce → router ≡ x.router → WasNoticed server nonce router
@@ -264,21 +249,14 @@ module _ (o : Opening) (distinct : AllPairs (λ a b. a ≢ b) (addresses o.confi
       let whom : ans.server ≡ server = server_of o.config distinct server ans.server (sym ans.to ∙ target) kind (lists_server o.config names ans.node ans.server ans.kind ans.listed) in
       let told : x.nonce ≡ m.nonce = a.nonce in
       let nonces : what.nonce ≡ nonce = sym read ∙ sym told ∙ sym number in
-      record {
-        before = ans.before;
-        node = ans.node;
-        datagram = ans.datagram;
-        earlier = ans.earlier;
-        line = ans.line ∙ (λ i. lines.Noticed ans.node (whom i) (nonces i) ans.datagram);
-        me = ap (λ (k : ℕ). (router_at o.config k).me) who ∙ w.same ∙ sym its;
-      }
+      (ans.before, ans.node, ans.datagram, ans.earlier, ans.line ∙ (λ i. Line.Noticed ans.node (whom i) (nonces i) ans.datagram), ap (λ (k : ℕ). (router_at o.config k).me) who ∙ w.same ∙ sym its)
 
   done : (actor : ℕ) (after : ShownStore) (e : EventValue) (server nonce : ℕ) (router : RouterId) → IsHarmless o T e
-      → MayCome (context_of o T (record { event = e; line = lines.Done server router nonce; actor = actor; shown = after })) e (lines.Done server router nonce) → WasNoticed server nonce router
+      → MayCome (context_of o T (record { event = e; line = Line.Done server router nonce; actor = actor; shown = after })) e (Line.Done server router nonce) → WasNoticed server nonce router
   done actor after e server nonce router harmless row =
       let all = all_known o distinct reads T legal clean in
-      let c = comes o T reads (all_from o T legal) (λ i has n is. (all i has n is).below) actor e (lines.Done server router nonce) after tt harmless row in
-      let t = context_of o T (record { event = e; line = lines.Done server router nonce; actor = actor; shown = after }) in
+      let c = comes o T reads (all_from o T legal) (λ i has n is. (all i has n is).below) actor e (Line.Done server router nonce) after tt harmless row in
+      let t = context_of o T (record { event = e; line = Line.Done server router nonce; actor = actor; shown = after }) in
       let x : Notice = c.row.notice in
       let w = all_went_out o distinct reads T legal clean actor x (in_find (awaits t c.arrival.from c.row.message) (notices o T actor) x c.row.stands) in
       let a = awaited o T c.arrival.from c.row.message x (find_true (awaits t c.arrival.from c.row.message) (notices o T actor) x c.row.stands) in
@@ -287,12 +265,6 @@ module _ (o : Opening) (distinct : AllPairs (λ a b. a ≢ b) (addresses o.confi
       let ans = all_answers o distinct reads T legal clean origin.item origin.sent origin.what origin.says (◌∙◌ {a = origin.what.ack} {b = c.row.message.ack} {c = true} (sym origin.head.ack) c.row.ack) in
       ended c.arrival.from c.row.message origin.what x origin.item server nonce router (sites o T actor) ans w a origin.source (subst (λ (k : ℕ). origin.item.to ≡ address_at o.config k) acts origin.target) c.row.acts.kind origin.head.nonce c.row.number c.row.who
 
--- what is done was noticed
-pub ends_were_noticed : (o : Opening) (T : List Step) → AllPairs (λ a b. a ≢ b) (addresses o.config) → NamesServers o.config → ReadsBack → (s : Step) → LegalTrace o (s ∷ T) → Clean o (s ∷ T) → DoneWasNoticed o T s
-ends_were_noticed o T distinct names reads s legal clean server nonce router is =
-    let w = done o distinct names reads T legal.1 clean.1 s.actor s.shown s.event server nonce router clean.0 (subst (λ (line : Line). MayCome (context_of o T s) s.event line) is legal.0.row) in
-    (w.before, w.node, w.datagram, w.earlier, w.line, w.me)
-
 -- What clean traces promise too.
 
 item_reads_back : ReadsBack
@@ -300,16 +272,17 @@ unfolding bytes_of
 item_reads_back i said = reads_back i.message _ said (length-tag i.secret _ 16)
 
 pub accepted_was_sent : (o : Opening) (T : List Step) → IsNetwork o.config → LegalTrace o T → Clean o T → AcceptedWasSent o T
-accepted_was_sent o T distinct legal clean = origins.accepted_was_sent o distinct.addresses item_reads_back T legal clean
+accepted_was_sent o T distinct legal clean = messages_were_sent o distinct.addresses item_reads_back T legal clean
 
 pub held_agree : (o : Opening) (T : List Step) → IsNetwork o.config → LegalTrace o T → Clean o T → HeldAgree o T
 held_agree o T distinct legal clean = rows_agree o distinct item_reads_back T legal clean
 
 pub held_was_sent : (o : Opening) (T : List Step) → IsNetwork o.config → LegalTrace o T → Clean o T → HeldWasSent o T
-held_was_sent o T distinct legal clean = holdings.held_was_sent o distinct item_reads_back T legal clean
+held_was_sent o T distinct legal clean = rows_were_sent o distinct item_reads_back T legal clean
 
 pub counted_was_accepted : (o : Opening) (T : List Step) → IsNetwork o.config → LegalTrace o T → Clean o T → CountedWasAccepted o T
 counted_was_accepted o T distinct legal clean = nonces_were_accepted o distinct.addresses item_reads_back T legal clean
 
 pub done_was_noticed : (o : Opening) (T : List Step) (s : Step) → IsNetwork o.config → LegalTrace o (s ∷ T) → Clean o (s ∷ T) → DoneWasNoticed o T s
-done_was_noticed o T s distinct legal clean = ends_were_noticed o T distinct.addresses distinct.servers item_reads_back s legal clean
+done_was_noticed o T s distinct legal clean server nonce router is =
+    done o distinct.addresses distinct.servers item_reads_back T legal.1 clean.1 s.actor s.shown s.event server nonce router clean.0 (subst (λ (line : Line). MayCome (context_of o T s) s.event line) is legal.0.row)

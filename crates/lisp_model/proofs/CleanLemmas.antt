@@ -1,5 +1,5 @@
 -- Addresses, secrets and spellings, for what a clean trace promises.
-use Rattle.std.proofs.Common.{◌≡◌, ℕ, zero, suc, ◌<◌, ◌≤◌, Bool, true, false, cond, List, [], ◌∷◌, ◌++◌, length, map, Option, Some, None, Ok, refl, sym, ap, subst, inl, inr, ◌∙◌, true≢false, arith, Err, ◌^◌}
+use Rattle.std.proofs.Common.{◌≡◌, ℕ, ◌<◌, ◌≤◌, Bool, true, false, cond, List, [], ◌∷◌, ◌++◌, length, map, Option, Some, None, Ok, refl, sym, ap, subst, inl, inr, ◌∙◌, true≢false, arith, Err, ◌^◌}
 use Rattle.std.specs.Prelude.{◌≢◌, ◌⊎◌, ◌==◌, slice_get, Result, drop, slice_index, ◌||◌}
 use Rattle.std.specs.List.{AllPairs, Contains, find, flat_map}
 use Rattle.std.specs.Option.{option_map, option_to_list}
@@ -8,7 +8,7 @@ use Rattle.std.proofs.lemmas.List.{length-append, length-map}
 use Rattle.std.proofs.lemmas.List.Elements.{Contains-append_left, Contains-append_right}
 use Rattle.std.proofs.lemmas.List.Quantifiers.{position-Some}
 use Rattle.std.proofs.lemmas.Slice.Eq.{bytes_eq-Decides}
-use Rattle.std.proofs.lemmas.Option.{none-some}
+use Rattle.std.proofs.lemmas.Option.{none-some, slice_get_within, get_or_from_slice_get}
 use Rattle.std.proofs.lemmas.Nat.{from_be_bytes-to_be_bytes_8}
 use Rattle.lisp_records.specs.declared.address.Addr.{Addr}
 use Rattle.lisp_records.specs.declared.address.Addr.TheVariants.{V4, V6}
@@ -23,15 +23,13 @@ use Rattle.lisp_records.specs.Record.{MapRecordValue}
 use Rattle.lisp_records.specs.Reading.{number_at}
 use Rattle.lisp_messages.specs.declared.kind.Kind.{Kind}
 use Rattle.lisp_messages.specs.declared.kind.Kind.TheVariants as kinds
-use Rattle.lisp_messages.specs.declared.fault.ReadFault.{ReadFault}
-use Rattle.lisp_messages.specs.declared.fault.ReadFault.TheVariants as faults
 use Rattle.lisp_messages.specs.Written.{written, written_notify}
 use Rattle.lisp_records.specs.Result.{◌>>=◌}
 use Rattle.lisp_messages.specs.Reading.{after, require, records_at, notify_at, tail_at, kind_at, message_at, nonce_of, map_notify_of}
 use Rattle.lisp_messages.proofs.Fields.{bind_ok}
 use Rattle.lisp_model.specs.Trace.{addresses, address_at, node_at, is_server}
-use Rattle.lisp_model.specs.Bag.{Item, bytes_of}
-use Rattle.lisp_model.proofs.ListLemmas.{at_head, in_tail, head_or_tail, in_none}
+use Rattle.lisp_model.specs.Bag.{Item, bytes_of, ReadFault}
+use Rattle.lisp_model.proofs.ListLemmas.{at_head, in_tail, head_or_tail, in_none, only, cases, err_clash}
 
 pub addr_same : (a b : Addr) → addr_eq a b ≡ true → a ≡ b
 addr_same (V4 a) (V4 b) t = ap V4 ((bytes_eq-Decides a b).0 t)
@@ -74,34 +72,24 @@ module _ {X : Type 0} where
   in_find p (y ∷ ys) x e = found_case y x ys (p y) (find p ys) e (in_find p ys x)
 
   pub in_get : (xs : List X) (k : ℕ) (x : X) → slice_get xs k ≡ Some x → Contains xs x
-  in_get [] k x e = absurd (none-some x e)
-  in_get (y ∷ ys) zero x e = let same : y ≡ x = cc in subst (λ (z : X). Contains (y ∷ ys) z) same (at_head y ys)
-  in_get (y ∷ ys) (suc k) x e = in_tail y ys x (in_get ys k x e)
+  in_get xs k x e = (k, slice_get_within xs k x e, get_or_from_slice_get xs k x x e)
 
   pub in_option : (o : Option X) (x : X) → Contains (option_to_list o) x → o ≡ Some x
   in_option None x has = absurd (in_none x has)
-  in_option (Some y) x has = at (head_or_tail y [] x has)
-    where
-      at : (x ≡ y) ⊎ Contains [] x → Some y ≡ Some x
-      at (inl e) = ap Some (sym e)
-      at (inr has) = absurd (in_none x has)
+  in_option (Some y) x has = ap Some (sym (only y x has))
 
 module _ {X Y : Type 0} (f : X → Y) where
   pub in_map : (xs : List X) (x : X) → Contains xs x → Contains (map f xs) (f x)
   in_map [] x has = absurd (in_none x has)
-  in_map (y ∷ ys) x has = at (head_or_tail y ys x has) (in_map ys x)
-    where
-      at : (x ≡ y) ⊎ Contains ys x → (Contains ys x → Contains (map f ys) (f x)) → Contains (map f (y ∷ ys)) (f x)
-      at (inl e) later = subst (λ (z : X). Contains (map f (y ∷ ys)) (f z)) (sym e) (at_head (f y) (map f ys))
-      at (inr has) later = in_tail (f y) (map f ys) (f x) (later has)
+  in_map (y ∷ ys) x has = cases (head_or_tail y ys x has)
+      (λ e. subst (λ (z : X). Contains (map f (y ∷ ys)) (f z)) (sym e) (at_head (f y) (map f ys)))
+      (λ has. in_tail (f y) (map f ys) (f x) ((in_map ys x) has))
 
   pub from_map : (xs : List X) (y : Y) → Contains (map f xs) y → (x : X) × Contains xs x × (y ≡ f x)
   from_map [] y has = absurd (in_none y has)
-  from_map (x ∷ xs) y has = at (head_or_tail (f x) (map f xs) y has) (from_map xs y)
-    where
-      at : (y ≡ f x) ⊎ Contains (map f xs) y → (Contains (map f xs) y → (z : X) × Contains xs z × (y ≡ f z)) → (z : X) × Contains (x ∷ xs) z × (y ≡ f z)
-      at (inl e) later = (x, at_head x xs, e)
-      at (inr has) later = let found = later has in (found.0, in_tail x xs found.0 found.1, found.2)
+  from_map (x ∷ xs) y has = cases (head_or_tail (f x) (map f xs) y has)
+      (λ e. (x, at_head x xs, e))
+      (λ has. let found = (from_map xs y) has in (found.0, in_tail x xs found.0 found.1, found.2))
 
 pub in_flat_map : {X Y : Type 0} (f : X → List Y) (xs : List X) (x : X) (y : Y) → Contains xs x → Contains (f x) y → Contains (flat_map f xs) y
 in_flat_map f [] x y has its = absurd (in_none x has)
@@ -135,9 +123,6 @@ checked sites from bytes m key e =
 
 -- A Map-Notify is not read as a Map-Register.
 
-err_clash : {X : Type 0} {fault : ReadFault} {x : X} → ◌≡◌ {A = Result X ReadFault} (Err fault) (Ok x) → ⊥
-err_clash e = absurd cc
-
 -- the checks after the type keep it
 pub kept_kind : (kind other : Kind) (a : Result (List ℕ) ReadFault) (b c : Result Bool ReadFault) (d : Result (List ℕ) ReadFault)
     → (a >>= λ _. Ok kind >>= λ k. b >>= λ _. c >>= λ _. d >>= λ _. Ok k) ≡ Ok other → kind ≡ other
@@ -156,7 +141,7 @@ tail_case n m (Err f) e = err_clash e
 
 notify_tail : (ack : Bool) (bytes : List ℕ) (records : List MapRecordValue) (tail : List ℕ) (m : MapRegisterValue) → notify_at ack bytes records tail ≡ Ok (Registers m) → ⊥
 unfolding notify_at
-notify_tail ack bytes records tail m e = tail_case _ m (require faults.Trailing (length tail == 0 || length tail == 24)) e
+notify_tail ack bytes records tail m e = tail_case _ m (require ReadFault.Trailing (length tail == 0 || length tail == 24)) e
 
 records_case : (kind : Kind) (bytes : List ℕ) (m : MapRegisterValue) → ((rs : List MapRecordValue × List ℕ) → tail_at kind bytes rs.0 rs.1 ≡ Ok (Registers m) → ⊥) → (r : Result (List MapRecordValue × List ℕ) ReadFault) → (r >>= λ rs. tail_at kind bytes rs.0 rs.1) ≡ Ok (Registers m) → ⊥
 records_case kind bytes m none (Ok rs) e = none rs e
@@ -181,9 +166,9 @@ notification ack nonce key records = record { ack = ack; nonce = nonce; key_id =
 no_register_kind : (ack : Bool) (nonce key : ℕ) (records : List MapRecordValue) (auth : List ℕ) → kind_at (written_notify (notification ack nonce key records) auth) ≡ Ok kinds.Register → ⊥
 unfolding written_notify kind_at
 no_register_kind false nonce key records auth e = let bytes = written_notify (notification false nonce key records) auth in
-    notify_clash (kept_kind kinds.Notify kinds.Register (after 16 bytes) (require faults.Algorithm (slice_index bytes 13 == 2)) (require faults.AuthLength (number_at bytes 14 == 16)) (after 32 bytes) e)
+    notify_clash (kept_kind kinds.Notify kinds.Register (after 16 bytes) (require ReadFault.Algorithm (slice_index bytes 13 == 2)) (require ReadFault.AuthLength (number_at bytes 14 == 16)) (after 32 bytes) e)
 no_register_kind true nonce key records auth e = let bytes = written_notify (notification true nonce key records) auth in
-    ack_clash (kept_kind kinds.NotifyAck kinds.Register (after 16 bytes) (require faults.Algorithm (slice_index bytes 13 == 2)) (require faults.AuthLength (number_at bytes 14 == 16)) (after 32 bytes) e)
+    ack_clash (kept_kind kinds.NotifyAck kinds.Register (after 16 bytes) (require ReadFault.Algorithm (slice_index bytes 13 == 2)) (require ReadFault.AuthLength (number_at bytes 14 == 16)) (after 32 bytes) e)
 
 pub no_register : (n : MapNotifyValue) (auth : List ℕ) (m : MapRegisterValue) → message_at (written_notify n auth) ≡ Ok (Registers m) → ⊥
 unfolding message_at
@@ -202,9 +187,9 @@ notify_kind true = kinds.NotifyAck
 kind_is : (ack : Bool) (nonce key : ℕ) (records : List MapRecordValue) (auth : List ℕ) (k : Kind) → kind_at (written_notify (notification ack nonce key records) auth) ≡ Ok k → notify_kind ack ≡ k
 unfolding written_notify kind_at
 kind_is false nonce key records auth k e = let bytes = written_notify (notification false nonce key records) auth in
-    kept_kind kinds.Notify k (after 16 bytes) (require faults.Algorithm (slice_index bytes 13 == 2)) (require faults.AuthLength (number_at bytes 14 == 16)) (after 32 bytes) e
+    kept_kind kinds.Notify k (after 16 bytes) (require ReadFault.Algorithm (slice_index bytes 13 == 2)) (require ReadFault.AuthLength (number_at bytes 14 == 16)) (after 32 bytes) e
 kind_is true nonce key records auth k e = let bytes = written_notify (notification true nonce key records) auth in
-    kept_kind kinds.NotifyAck k (after 16 bytes) (require faults.Algorithm (slice_index bytes 13 == 2)) (require faults.AuthLength (number_at bytes 14 == 16)) (after 32 bytes) e
+    kept_kind kinds.NotifyAck k (after 16 bytes) (require ReadFault.Algorithm (slice_index bytes 13 == 2)) (require ReadFault.AuthLength (number_at bytes 14 == 16)) (after 32 bytes) e
 
 nonce_again : (n : MapNotifyValue) (auth : List ℕ) → n.nonce < 2 ^ 64 → nonce_of (written_notify n auth) ≡ n.nonce
 unfolding written_notify
@@ -225,8 +210,8 @@ same_said m n e = cc
 
 tail_is : (ack : Bool) (bytes : List ℕ) (records : List MapRecordValue) (tail : List ℕ) (m : MapNotifyValue) → tail_at (notify_kind ack) bytes records tail ≡ Ok (Notifies m) → map_notify_of ack bytes records ≡ m
 unfolding notify_at
-tail_is false bytes records tail m e = same_said m _ (bind_ok (require faults.Trailing (length tail == 0 || length tail == 24)) (λ _. Ok (Notifies (map_notify_of false bytes records))) (Notifies m) e).2
-tail_is true bytes records tail m e = same_said m _ (bind_ok (require faults.Trailing (length tail == 0 || length tail == 24)) (λ _. Ok (Notifies (map_notify_of true bytes records))) (Notifies m) e).2
+tail_is false bytes records tail m e = same_said m _ (bind_ok (require ReadFault.Trailing (length tail == 0 || length tail == 24)) (λ _. Ok (Notifies (map_notify_of false bytes records))) (Notifies m) e).2
+tail_is true bytes records tail m e = same_said m _ (bind_ok (require ReadFault.Trailing (length tail == 0 || length tail == 24)) (λ _. Ok (Notifies (map_notify_of true bytes records))) (Notifies m) e).2
 
 pub same_head : (n : MapNotifyValue) (auth : List ℕ) (m : MapNotifyValue) → n.nonce < 2 ^ 64 → message_at (written_notify n auth) ≡ Ok (Notifies m) → SameHead m n
 unfolding message_at

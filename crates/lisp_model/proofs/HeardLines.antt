@@ -2,18 +2,15 @@
 use Rattle.std.proofs.Common.{◌≡◌, ℕ, ◌<◌, ◌≤◌, Bool, true, false, length, Option, Some, None, Ok, Err, refl, sym, ap, inl, inr, ◌∙◌, subst, true≢false, arith}
 use Rattle.std.specs.Prelude.{◌⊎◌, nat_le, Result, if◌then◌else◌}
 use Rattle.std.proofs.lemmas.Bool.{leb-true, le-leb}
-use Rattle.lisp_etr.specs.declared.notify_fault.NotifyFault.{NotifyFault}
 use Rattle.lisp_etr.specs.declared.notify_fault.NotifyFault.TheVariants.{OutOfMemory}
 use Rattle.lisp_etr.specs.Hearing.{ServerNotify, first_notice}
 use Rattle.lisp_etr.specs.Rounds.{part_with}
-use Rattle.lisp_messages.specs.Reading.{HasHead, HasRecords}
-use Rattle.lisp_model.specs.declared.line.Line.{Line}
-use Rattle.lisp_model.specs.declared.line.Line.TheVariants as lines
-use Rattle.lisp_model.specs.Trace.{etr_config}
+use Rattle.lisp_model.specs.Trace.{etr_config, Line}
 use Rattle.lisp_model.specs.Bag.{Arrival, bag}
 use Rattle.lisp_model.specs.Counted.{notify_at, latest_nonces}
-use Rattle.lisp_model.specs.Hearing.{Hears, IsToAnswer, refused_with, counted_line, heard_line, line_of}
+use Rattle.lisp_model.specs.Hearing.{Hears, refused_with, counted_line, heard_line, line_of, NotifyFault}
 use Rattle.lisp_model.specs.Context.{Context}
+use Rattle.lisp_model.proofs.ListLemmas.{cases}
 
 -- a Map-Notify that passes all checks
 abbrev pub Passes : Context → Arrival → ServerNotify → Type 0
@@ -45,27 +42,27 @@ below n is = let not_above : ¬ (first_notice ≤ n) = λ above. true≢false (s
 
 -- the line tells of that node, if of any
 abbrev pub IsBy : Line → ℕ → Type 0
-IsBy (lines.Changed router _) node = router ≡ node
-IsBy (lines.Sent router _ _ _ _ _) node = router ≡ node
-IsBy (lines.Accepted server _ _ _ _) node = server ≡ node
-IsBy (lines.Done server _ _) node = server ≡ node
-IsBy (lines.Counted router _ _ _ _) node = router ≡ node
-IsBy (lines.Noticed router _ _ _) node = router ≡ node
-IsBy (lines.Restarted named) node = named ≡ node
-IsBy (lines.Rotated router _) node = router ≡ node
-IsBy (lines.Emptied router _) node = router ≡ node
-IsBy (lines.Notice server _ _ _ _) node = server ≡ node
-IsBy (lines.Resent server _ _) node = server ≡ node
-IsBy (lines.Reloaded server _) node = server ≡ node
-IsBy (lines.Renewed server _) node = server ≡ node
-IsBy (lines.Down router) node = router ≡ node
-IsBy (lines.Refused named _) node = named ≡ node
+IsBy (Line.Changed router _) node = router ≡ node
+IsBy (Line.Sent router _ _ _ _ _) node = router ≡ node
+IsBy (Line.Accepted server _ _ _ _) node = server ≡ node
+IsBy (Line.Done server _ _) node = server ≡ node
+IsBy (Line.Counted router _ _ _ _) node = router ≡ node
+IsBy (Line.Noticed router _ _ _) node = router ≡ node
+IsBy (Line.Restarted named) node = named ≡ node
+IsBy (Line.Rotated router _) node = router ≡ node
+IsBy (Line.Emptied router _) node = router ≡ node
+IsBy (Line.Notice server _ _ _ _) node = server ≡ node
+IsBy (Line.Resent server _ _) node = server ≡ node
+IsBy (Line.Reloaded server _) node = server ≡ node
+IsBy (Line.Renewed server _) node = server ≡ node
+IsBy (Line.Down router) node = router ≡ node
+IsBy (Line.Refused named _) node = named ≡ node
 IsBy _ node = Unit {0}
 
 module _ (t : Context) (a : Arrival) where
   module _ (router server part key nonce : ℕ) where
     counted_by : (h : ServerNotify) → Passes t a h → (b : Bool) (x : Option ℕ) → nat_le first_notice h.message.nonce ≡ b → part_with h.message.nonce (latest_nonces t.past t.node h.server) ≡ x
-        → lines.Counted router server part key nonce ≡ (if b then lines.Noticed t.node h.server h.message.nonce (length (bag t.opening t.past)) else counted_line t h (latest_nonces t.past t.node h.server) x) → IsCounted t a router server part key nonce
+        → Line.Counted router server part key nonce ≡ (if b then Line.Noticed t.node h.server h.message.nonce (length (bag t.opening t.past)) else counted_line t h (latest_nonces t.past t.node h.server) x) → IsCounted t a router server part key nonce
     counted_by h hears true x high last is = absurd cc
     counted_by h hears false None low last is = absurd cc
     counted_by h hears false (Some p) low last is =
@@ -85,20 +82,18 @@ module _ (t : Context) (a : Arrival) where
           latest = (λ i. part_with (number i) (latest_nonces t.past (who i) (whose i))) ∙ last ∙ ap Some (sym of);
         }
 
-    pub counted_of : Hears t a (lines.Counted router server part key nonce) → IsCounted t a router server part key nonce
-    counted_of hears = at hears.comes
+    pub counted_of : Hears t a (Line.Counted router server part key nonce) → IsCounted t a router server part key nonce
+    counted_of hears = cases hears.comes
+        (λ is. by (notify_at t.opening t.past t.node a) refl is)
+        (λ out. absurd (let is : Line.Counted router server part key nonce ≡ refused_with t OutOfMemory = out.2 in cc))
       where
-        by : (r : Result ServerNotify NotifyFault) → notify_at t.opening t.past t.node a ≡ r → lines.Counted router server part key nonce ≡ line_of t r → IsCounted t a router server part key nonce
+        by : (r : Result ServerNotify NotifyFault) → notify_at t.opening t.past t.node a ≡ r → Line.Counted router server part key nonce ≡ line_of t r → IsCounted t a router server part key nonce
         by (Err fault) e is = absurd cc
         by (Ok h) e is = counted_by h e (nat_le first_notice h.message.nonce) (part_with h.message.nonce (latest_nonces t.past t.node h.server)) refl refl is
 
-        at : (lines.Counted router server part key nonce ≡ line_of t (notify_at t.opening t.past t.node a)) ⊎ (HasHead a.bytes × (HasRecords a.bytes ⊎ IsToAnswer t a) × (lines.Counted router server part key nonce ≡ refused_with t OutOfMemory)) → IsCounted t a router server part key nonce
-        at (inl is) = by (notify_at t.opening t.past t.node a) refl is
-        at (inr out) = absurd (let is : lines.Counted router server part key nonce ≡ refused_with t OutOfMemory = out.2 in cc)
-
   module _ (router server nonce datagram : ℕ) where
     noticed_by : (h : ServerNotify) → Passes t a h → (b : Bool) (x : Option ℕ) → nat_le first_notice h.message.nonce ≡ b
-        → lines.Noticed router server nonce datagram ≡ (if b then lines.Noticed t.node h.server h.message.nonce (length (bag t.opening t.past)) else counted_line t h (latest_nonces t.past t.node h.server) x) → IsNoticed t a router server nonce datagram
+        → Line.Noticed router server nonce datagram ≡ (if b then Line.Noticed t.node h.server h.message.nonce (length (bag t.opening t.past)) else counted_line t h (latest_nonces t.past t.node h.server) x) → IsNoticed t a router server nonce datagram
     noticed_by h hears false None low is = absurd cc
     noticed_by h hears false (Some p) low is = absurd cc
     noticed_by h hears true x high is =
@@ -116,30 +111,27 @@ module _ (t : Context) (a : Arrival) where
           place = place;
         }
 
-    pub noticed_of : Hears t a (lines.Noticed router server nonce datagram) → IsNoticed t a router server nonce datagram
-    noticed_of hears = at hears.comes
+    pub noticed_of : Hears t a (Line.Noticed router server nonce datagram) → IsNoticed t a router server nonce datagram
+    noticed_of hears = cases hears.comes
+        (λ is. by (notify_at t.opening t.past t.node a) refl is)
+        (λ out. absurd (let is : Line.Noticed router server nonce datagram ≡ refused_with t OutOfMemory = out.2 in cc))
       where
-        by : (r : Result ServerNotify NotifyFault) → notify_at t.opening t.past t.node a ≡ r → lines.Noticed router server nonce datagram ≡ line_of t r → IsNoticed t a router server nonce datagram
+        by : (r : Result ServerNotify NotifyFault) → notify_at t.opening t.past t.node a ≡ r → Line.Noticed router server nonce datagram ≡ line_of t r → IsNoticed t a router server nonce datagram
         by (Err fault) e is = absurd cc
         by (Ok h) e is = noticed_by h e (nat_le first_notice h.message.nonce) (part_with h.message.nonce (latest_nonces t.past t.node h.server)) refl is
 
-        at : (lines.Noticed router server nonce datagram ≡ line_of t (notify_at t.opening t.past t.node a)) ⊎ (HasHead a.bytes × (HasRecords a.bytes ⊎ IsToAnswer t a) × (lines.Noticed router server nonce datagram ≡ refused_with t OutOfMemory)) → IsNoticed t a router server nonce datagram
-        at (inl is) = by (notify_at t.opening t.past t.node a) refl is
-        at (inr out) = absurd (let is : lines.Noticed router server nonce datagram ≡ refused_with t OutOfMemory = out.2 in cc)
-
   -- what passes all checks comes to its line, or to out of memory
   pub comes_to : (h : ServerNotify) → Passes t a h → (line : Line) → Hears t a line → (line ≡ heard_line t h) ⊎ (line ≡ refused_with t OutOfMemory)
-  comes_to h passes line hears = at hears.comes
-    where
-      at : (line ≡ line_of t (notify_at t.opening t.past t.node a)) ⊎ (HasHead a.bytes × (HasRecords a.bytes ⊎ IsToAnswer t a) × (line ≡ refused_with t OutOfMemory)) → (line ≡ heard_line t h) ⊎ (line ≡ refused_with t OutOfMemory)
-      at (inl is) = inl (is ∙ ap (line_of t) passes)
-      at (inr out) = inr out.2
-
+  comes_to h passes line hears = cases hears.comes
+      (λ is. inl (is ∙ ap (line_of t) passes))
+      (λ out. inr out.2)
   -- the line tells of the router that hears
   pub heard_by : (line : Line) → Hears t a line → IsBy line t.node
-  heard_by line hears = at hears.comes
+  heard_by line hears = cases hears.comes
+      (λ is. subst (λ (l : Line). IsBy l t.node) (sym is) (by_itself (notify_at t.opening t.past t.node a)))
+      (λ out. subst (λ (l : Line). IsBy l t.node) (sym out.2) refl)
     where
-      by : (h : ServerNotify) (b : Bool) (x : Option ℕ) → IsBy (if b then lines.Noticed t.node h.server h.message.nonce (length (bag t.opening t.past)) else counted_line t h (latest_nonces t.past t.node h.server) x) t.node
+      by : (h : ServerNotify) (b : Bool) (x : Option ℕ) → IsBy (if b then Line.Noticed t.node h.server h.message.nonce (length (bag t.opening t.past)) else counted_line t h (latest_nonces t.past t.node h.server) x) t.node
       by h true x = refl
       by h false (Some p) = refl
       by h false None = refl
@@ -147,7 +139,3 @@ module _ (t : Context) (a : Arrival) where
       by_itself : (r : Result ServerNotify NotifyFault) → IsBy (line_of t r) t.node
       by_itself (Err fault) = refl
       by_itself (Ok h) = by h (nat_le first_notice h.message.nonce) (part_with h.message.nonce (latest_nonces t.past t.node h.server))
-
-      at : (line ≡ line_of t (notify_at t.opening t.past t.node a)) ⊎ (HasHead a.bytes × (HasRecords a.bytes ⊎ IsToAnswer t a) × (line ≡ refused_with t OutOfMemory)) → IsBy line t.node
-      at (inl is) = subst (λ (l : Line). IsBy l t.node) (sym is) (by_itself (notify_at t.opening t.past t.node a))
-      at (inr out) = subst (λ (l : Line). IsBy l t.node) (sym out.2) refl

@@ -8,23 +8,19 @@ use Rattle.std.proofs.lemmas.List.{length-append, length-map}
 use Rattle.std.proofs.lemmas.Option.{none-some}
 use Rattle.lisp_records.specs.Address.{addr_eq}
 use Rattle.lisp_policy.specs.Configuration.{ConfigValue}
-use Rattle.lisp_messages.specs.declared.fault.ReadFault.{ReadFault}
 use Rattle.lisp_messages.specs.Authentic.{is_authentic}
 use Rattle.lisp_messages.specs.Message.{MessageValue, MapNotifyValue, Registers, Notifies}
-use Rattle.lisp_etr.specs.declared.notify_fault.NotifyFault.{NotifyFault}
 use Rattle.lisp_etr.specs.declared.notify_fault.NotifyFault.TheVariants.{NotMine, WrongKey, BadAuth}
 use Rattle.lisp_records.specs.Result.{◌>>=◌}
 use Rattle.lisp_etr.specs.Hearing.{ServerNotify, check, checked_notify, notify_read}
 use Rattle.lisp_etr.specs.Config.{EtrConfigValue}
 use Rattle.lisp_model.specs.Trace.{Step, Opening, addresses, address_at, router_at, etr_config, sites, is_server, is_router}
-use Rattle.lisp_model.specs.Bag.{Arrival}
+use Rattle.lisp_model.specs.Bag.{Arrival, ReadFault}
 use Rattle.lisp_model.specs.Clean.{secrets_of}
 use Rattle.lisp_model.specs.Counted.{server_from, notify_at}
 use Rattle.lisp_model.proofs.CleanLemmas.{addr_same, one_node, in_find}
-use Rattle.lisp_model.proofs.ListLemmas.{at_head}
-
-err_clash : {X : Type 0} {fault : NotifyFault} {x : X} → ◌≡◌ {A = Result X NotifyFault} (Err fault) (Ok x) → ⊥
-err_clash e = absurd cc
+use Rattle.lisp_model.proofs.ListLemmas.{at_head, err_clash}
+use Rattle.lisp_etr.specs.declared.notify_fault.NotifyFault.{NotifyFault}
 
 -- the value of a step that did not fail
 bind_ok : {A B : Type 0} (r : Result A NotifyFault) (f : A → Result B NotifyFault) (y : B) → (r >>= f) ≡ Ok y → (x : A) × (r ≡ Ok x) × (f x ≡ Ok y)

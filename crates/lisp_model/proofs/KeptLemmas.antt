@@ -1,5 +1,5 @@
 -- What lists of a store are after one was set, and steps that set one.
-use Rattle.std.proofs.Common.{◌≡◌, ℕ, zero, suc, true≢false, Bool, true, false, List, [], ◌∷◌, Option, Some, None, cond, refl, sym, ap, subst, ◌∙◌, arith}
+use Rattle.std.proofs.Common.{◌≡◌, ℕ, true≢false, Bool, true, false, List, [], ◌∷◌, Option, Some, None, cond, refl, sym, ap, subst, ◌∙◌, arith}
 use Rattle.std.specs.Prelude.{◌≢◌}
 use Rattle.std.specs.FinMap.{get, insert, empty, get-insert}
 use Rattle.std.specs.List.{Contains}
@@ -13,6 +13,7 @@ use Rattle.lisp_nonces.specs.Pair.{pair_cmp}
 use Rattle.lisp_nonces.specs.Kept.{Kept, kept_at, SameElsewhere, Narrows}
 use Rattle.lisp_nonces.proofs.Kept.{kept_at-empty}
 use Rattle.lisp_nonces.proofs.Pairs.{pair_total, same_pair}
+use Rattle.lisp_model.proofs.ListLemmas.{only}
 
 -- a list was set
 pub kept_at-insert : (kept : Kept) (pair : Pair) (values : List (Option ℕ)) (q : Pair) → kept_at (insert kept pair values) q ≡ cond (eq_by_cmp pair_cmp q pair) values (kept_at kept q)
@@ -50,8 +51,7 @@ set_others kept pair values q differ = kept_at-insert kept pair values q ∙ ap 
 
 -- the only value
 pub only_value : (x v : Option ℕ) → Contains (x ∷ []) v → v ≡ x
-only_value x v (zero, lt, is) = sym is
-only_value x v (suc k, lt, is) = absurd (omega arith)
+only_value = only
 
 -- each pair keeps something
 abbrev pub IsFull : Kept → Type 0

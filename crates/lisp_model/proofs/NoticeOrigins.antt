@@ -11,9 +11,7 @@ use Rattle.lisp_records.proofs.RouterLaws.{router_eq-Decides}
 use Rattle.lisp_policy.specs.Configuration.{ConfigValue}
 use Rattle.lisp_policy.specs.Site.{SiteValue}
 use Rattle.lisp_admission.specs.Pairs.{router_of}
-use Rattle.lisp_model.specs.declared.line.Line.{Line}
-use Rattle.lisp_model.specs.declared.line.Line.TheVariants as lines
-use Rattle.lisp_model.specs.Trace.{Step, Opening, addresses, address_at, is_router, router_at, sites, sites_after, clock}
+use Rattle.lisp_model.specs.Trace.{Step, Opening, addresses, address_at, is_router, router_at, sites, sites_after, clock, Line}
 use Rattle.lisp_model.specs.Held.{heard_last}
 use Rattle.lisp_model.specs.Timers.{Notice, notices, notices_after, notices_to_others, resent_at}
 use Rattle.lisp_model.specs.Bag.{Item, arrival_in, notice_item, items_added, past, bag, since_start}
@@ -23,13 +21,12 @@ use Rattle.lisp_model.specs.Legal.{MayCome, LegalTrace, context_of}
 use Rattle.lisp_model.proofs.ChangeLemmas.{get_last}
 use Rattle.lisp_model.proofs.CleanLemmas.{in_find, from_map}
 use Rattle.lisp_model.proofs.HearingLemmas.{find_true}
-use Rattle.lisp_model.proofs.HeldLaws.{since_accepted}
-use Rattle.lisp_model.proofs.ListLemmas.{at_head, in_tail, head_or_tail, in_none}
+use Rattle.lisp_model.proofs.LimitLaws.{since_accepted, Signs, Keeps, Renews, signs_on, sites_step, since_signs}
+use Rattle.lisp_model.proofs.ListLemmas.{at_head, in_tail, head_or_tail, in_none, cases}
 use Rattle.lisp_model.proofs.Origins.{were_sent, ReadsBack}
 use Rattle.lisp_model.proofs.ReplyOrigins.{entry_is}
 use Rattle.lisp_model.proofs.Locality.{same_number}
 use Rattle.lisp_model.proofs.Rows.{Following, tells}
-use Rattle.lisp_model.proofs.LimitLaws.{Signs, Keeps, Renews, signs_on, sites_step, since_signs}
 
 -- a longer list has the same items at the same places
 module _ {X : Type 0} where
@@ -39,11 +36,9 @@ module _ {X : Type 0} where
   get_more (y ∷ xs) ys (suc k) x e = get_more xs ys k x e
 
   filter_case : (y x : X) (ys zs : List X) (b : Bool) → Contains (cond b (y ∷ zs) zs) x → (Contains zs x → Contains ys x) → Contains (y ∷ ys) x
-  filter_case y x ys zs true has later = at (head_or_tail y zs x has)
-    where
-      at : (x ≡ y) ⊎ Contains zs x → Contains (y ∷ ys) x
-      at (inl same) = subst (λ (z : X). Contains (y ∷ ys) z) (sym same) (at_head y ys)
-      at (inr more) = in_tail y ys x (later more)
+  filter_case y x ys zs true has later = cases (head_or_tail y zs x has)
+      (λ same. subst (λ (z : X). Contains (y ∷ ys) z) (sym same) (at_head y ys))
+      (λ more. in_tail y ys x (later more))
   filter_case y x ys zs false has later = in_tail y ys x (later has)
 
   pub in_filter : (p : X → Bool) (xs : List X) (x : X) → Contains (filter p xs) x → Contains xs x
@@ -57,17 +52,17 @@ module _ (c : ConfigValue) (now k : ℕ) (old : List Notice) (P : List Notice �
   either new holds false = same
 
   pub notices_left : (line : Line)
-      → ((router key nonce datagram : ℕ) → line ≡ lines.Notice k router key nonce datagram → P (record { router = (router_at c router).me; key = key; nonce = nonce; datagram = datagram; moments = now ∷ [] } ∷ notices_to_others (router_at c router).me old))
+      → ((router key nonce datagram : ℕ) → line ≡ Line.Notice k router key nonce datagram → P (record { router = (router_at c router).me; key = key; nonce = nonce; datagram = datagram; moments = now ∷ [] } ∷ notices_to_others (router_at c router).me old))
       → P (notices_after c line now k old)
-  notices_left (lines.Notice server router key nonce datagram) more = at (server == k) refl
+  notices_left (Line.Notice server router key nonce datagram) more = at (server == k) refl
     where
       at : (b : Bool) → (server == k) ≡ b → P (if b then record { router = (router_at c router).me; key = key; nonce = nonce; datagram = datagram; moments = now ∷ [] } ∷ notices_to_others (router_at c router).me old else old)
-      at true is = more router key nonce datagram (ap (λ (n : ℕ). lines.Notice n router key nonce datagram) ((Decides-eqb server k).0 is))
+      at true is = more router key nonce datagram (ap (λ (n : ℕ). Line.Notice n router key nonce datagram) ((Decides-eqb server k).0 is))
       at false is = same
-  notices_left (lines.Resent server router _) more = either (map (resent_at (router_at c router).me now) old) (again (router_at c router).me) (server == k)
-  notices_left (lines.Done server router _) more = either (notices_to_others router old) (fewer router) (server == k)
-  notices_left (lines.Restarted node) more = either [] none (node == k)
-  notices_left (lines.Renewed server _) more = either [] none (server == k)
+  notices_left (Line.Resent server router _) more = either (map (resent_at (router_at c router).me now) old) (again (router_at c router).me) (server == k)
+  notices_left (Line.Done server router _) more = either (notices_to_others router old) (fewer router) (server == k)
+  notices_left (Line.Restarted node) more = either [] none (node == k)
+  notices_left (Line.Renewed server _) more = either [] none (server == k)
   notices_left _ more = same
 
 -- one that stands for another router stood before
@@ -135,7 +130,7 @@ module _ (o : Opening) (distinct : AllPairs (λ a b. a ≢ b) (addresses o.confi
             again router x has = let found = from_map (resent_at router (clock T)) (notices o T k) x has in
                 subst (WentOut o after (bag o T ++ items)) (sym found.2) (again_out o after (bag o T ++ items) router (clock T) found.0 (still found.0 found.1))
 
-            more : (router key nonce datagram : ℕ) → line ≡ lines.Notice k router key nonce datagram
+            more : (router key nonce datagram : ℕ) → line ≡ Line.Notice k router key nonce datagram
                 → AllWentOut o after (bag o T ++ items) (record { router = (router_at o.config router).me; key = key; nonce = nonce; datagram = datagram; moments = clock T ∷ [] } ∷ notices_to_others (router_at o.config router).me (notices o T k))
             more router key nonce datagram is x has = both (head_or_tail one (notices_to_others (router_at o.config router).me (notices o T k)) x has)
               where
@@ -153,7 +148,7 @@ module _ (o : Opening) (distinct : AllPairs (λ a b. a ≢ b) (addresses o.confi
         out_case (inr renews) = renewed line renews
           where
             renewed : (l : Line) → Renews l k → AllWentOut o after (bag o T ++ items) (notices_after o.config l (clock T) k (notices o T k))
-            renewed (lines.Renewed server count) is x has = absurd (in_none x (subst (λ (b : Bool). Contains (if b then [] else notices o T k) x) (ap (λ (n : ℕ). n == k) is ∙ same_number k) has))
+            renewed (Line.Renewed server count) is x has = absurd (in_none x (subst (λ (b : Bool). Contains (if b then [] else notices o T k) x) (ap (λ (n : ℕ). n == k) is ∙ same_number k) has))
             renewed _ is x has = absurd is
 
   pub all_went_out : (T : List Step) → LegalTrace o T → Clean o T → (k : ℕ) → AllWentOut o (sites o T k) (bag o T) (notices o T k)

@@ -1,33 +1,29 @@
 -- The nonces of a server's notices rise.
 use Rattle.std.proofs.Common.{◌≡◌, ℕ, ◌+◌, ◌<◌, ◌≤◌, Bool, true, false, List, [], ◌∷◌, Option, Some, None, refl, sym, ap, subst, inl, inr, ◌∙◌, arith, map}
-use Rattle.std.specs.Prelude.{◌≢◌, ◌⊎◌, ◌==◌, ◌^◌, if◌then◌else◌, not}
+use Rattle.std.specs.Prelude.{◌≢◌, ◌⊎◌, ◌==◌, ◌^◌, if◌then◌else◌}
 use Rattle.std.specs.List.{Contains}
 use Rattle.std.proofs.Math.Nat.{le-max_right}
-use Rattle.std.proofs.lemmas.Bool.Decides.{Decides-eqb}
 use Rattle.std.proofs.lemmas.List.Elements.{Contains-append_cases}
 use Rattle.std.proofs.lemmas.Option.{none-some}
-use Rattle.lisp_nonces.specs.declared.pair.PairKind.TheVariants as kinds
 use Rattle.lisp_nonces.specs.Kept.{kept_at, number, InDoubt, NoneBelow}
-use Rattle.lisp_admission.specs.declared.notice_fault.NoticeFault.TheVariants as announcements
 use Rattle.lisp_admission.specs.Pairs.{notice_pair}
 use Rattle.lisp_admission.specs.Nonces.{nonce_after}
 use Rattle.lisp_records.specs.declared.router.RouterId.{RouterId}
 use Rattle.lisp_records.specs.Router.{router_eq}
-use Rattle.lisp_model.specs.declared.line.Line.{Line}
-use Rattle.lisp_model.specs.declared.line.Line.TheVariants as lines
-use Rattle.lisp_model.specs.declared.refusal.Refusal.TheVariants as refusals
-use Rattle.lisp_model.specs.Trace.{EventValue, Step, Opening, is_server, is_router, shown_store, clock, router_at}
+use Rattle.lisp_model.specs.Trace.{EventValue, Step, Opening, is_server, is_router, shown_store, clock, router_at, Line, Refusal}
 use Rattle.lisp_model.specs.Timers.{last_notice, last_notice_after, Notice, notices, notices_after, notices_to_others, resent_at}
 use Rattle.lisp_model.specs.Context.{Context, values, values_after, IsBase}
 use Rattle.lisp_model.specs.Legal.{Legal, LegalTrace, context_of}
 use Rattle.lisp_model.specs.Promises.{Falls, notice_nonces, notice_nonces_after, NoticeNoncesRise, NoticesDiffer}
-use Rattle.lisp_model.proofs.ListLemmas.{head_or_tail, in_none, at_head, in_tail}
+use Rattle.lisp_model.proofs.ListLemmas.{head_or_tail, in_none, at_head, in_tail, only, cases, some_same}
 use Rattle.lisp_model.proofs.HeardLines.{IsBy}
 use Rattle.lisp_model.proofs.HearingLemmas.{not_both}
-use Rattle.lisp_model.proofs.Locality.{unless, same_number, other_number, last_notice_other, no_notices}
-use Rattle.lisp_model.proofs.Rows.{Refusing, Tells, tells}
+use Rattle.lisp_model.proofs.Locality.{unless, same_number, other_number, last_notice_other, no_notices, of_each, here}
+use Rattle.lisp_model.proofs.Rows.{Tells, tells}
 use Rattle.lisp_model.proofs.CleanLemmas.{from_map}
 use Rattle.lisp_model.proofs.NoticeOrigins.{notices_left, of_others}
+use Rattle.lisp_admission.specs.declared.notice_fault.NoticeFault.{NoticeFault}
+use Rattle.lisp_nonces.specs.declared.pair.PairKind.{PairKind}
 
 -- what holds at a server: its notices' nonces fall from the last one, and are at most each kept value, and
 -- at most the last one since its start
@@ -62,33 +58,18 @@ module _ (nonces : List ℕ) (last : Option ℕ) (kept : List (Option ℕ)) (saf
     tells_next : (new : List (Option ℕ)) → NoneBelow (nonce_after base) new → NoticeSafe (nonce_after base ∷ nonces) (Some (nonce_after base)) new
     tells_next new none_below = record {
       falls = (below, safe.falls);
-      floor = λ n has v in_it. floors n (head_or_tail (nonce_after base) nonces n has) v in_it;
-      top = λ l e n has. tops l e n (head_or_tail (nonce_after base) nonces n has);
+      floor = λ n has v in_it. let low : nonce_after base ≤ number v = none_below v in_it in cases (head_or_tail (nonce_after base) nonces n has) (λ is. omega (arith, low, is)) (λ old. omega (arith, low, below n old));
+      top = λ l e n has. let same = some_same (nonce_after base) l e in cases (head_or_tail (nonce_after base) nonces n has) (λ is. omega (arith, same, is)) (λ old. omega (arith, same, below n old));
     }
-      where
-        floors : (n : ℕ) → (n ≡ nonce_after base) ⊎ Contains nonces n → (v : Option ℕ) → Contains new v → n ≤ number v
-        floors n (inl is) v in_it = (let low : nonce_after base ≤ number v = none_below v in_it in omega (arith, low, is))
-        floors n (inr has) v in_it = (let low : nonce_after base ≤ number v = none_below v in_it in let up = below n has in omega (arith, low, up))
-
-        tops : (l : ℕ) → ◌≡◌ {A = Option ℕ} (Some (nonce_after base)) (Some l) → (n : ℕ) → (n ≡ nonce_after base) ⊎ Contains nonces n → n ≤ l
-        tops l e n (inl is) = (let same : nonce_after base ≡ l = cc in omega (arith, same, is))
-        tops l e n (inr has) = (let same : nonce_after base ≡ l = cc in let up = below n has in omega (arith, same, up))
 
     doubts : (new : List (Option ℕ)) → InDoubt kept new (nonce_after base) → NoticeSafe nonces last new
     doubts new (inl same) = narrows new (λ v has. subst (λ (vs : List (Option ℕ)). Contains vs v) same has)
     doubts new (inr more) = record {
       falls = safe.falls;
-      floor = λ n has v in_it. floors n has v (Contains-append_cases kept (Some (nonce_after base) ∷ []) v (subst (λ (vs : List (Option ℕ)). Contains vs v) more in_it));
+      floor = λ n has v in_it. cases (Contains-append_cases kept (Some (nonce_after base) ∷ []) v (subst (λ (vs : List (Option ℕ)). Contains vs v) more in_it)) (λ old. safe.floor n has v old)
+          (λ new. subst (λ (w : Option ℕ). n ≤ number w) (sym (only (Some (nonce_after base)) v new)) (omega (arith, below n has)));
       top = safe.top;
     }
-      where
-        own : (n : ℕ) → n < nonce_after base → (v : Option ℕ) → (v ≡ Some (nonce_after base)) ⊎ Contains [] v → n ≤ number v
-        own n up v (inl is) = subst (λ (w : Option ℕ). n ≤ number w) (sym is) (omega (arith, up))
-        own n up v (inr none) = absurd (in_none v none)
-
-        floors : (n : ℕ) → Contains nonces n → (v : Option ℕ) → Contains kept v ⊎ Contains (Some (nonce_after base) ∷ []) v → n ≤ number v
-        floors n has v (inl old) = safe.floor n has v old
-        floors n has v (inr new) = own n (below n has) v (head_or_tail (Some (nonce_after base)) [] v new)
 
 -- a step of the server
 module _ (t : Context) (its : is_server t.opening.config t.node ≡ true) (nonces : List ℕ) (safe : NoticeSafe nonces (last_notice t.past t.node) (values t notice_pair)) where
@@ -101,40 +82,29 @@ module _ (t : Context) (its : is_server t.opening.config t.node ≡ true) (nonce
   stays : values_after t notice_pair ≡ values t notice_pair → Stays
   stays e = narrows nonces (last_notice t.past t.node) (values t notice_pair) safe (values_after t notice_pair) (λ v has. subst (λ (vs : List (Option ℕ)). Contains vs v) e has)
 
-  restart_line : (named : ℕ) → named ≡ t.node → NoticeSafe nonces None (values_after t notice_pair) → NoticeSafe nonces (if named == t.node then None else last_notice t.past t.node) (values_after t notice_pair)
-  restart_line named is next = subst (λ (b : Bool). NoticeSafe nonces (if b then None else last_notice t.past t.node) (values_after t notice_pair)) (sym (ap (λ s. s == t.node) is ∙ same_number t.node)) next
-
-  notice_line : (server nonce : ℕ) → server ≡ t.node → NoticeSafe (nonce ∷ nonces) (Some nonce) (values_after t notice_pair)
-      → NoticeSafe (if server == t.node then nonce ∷ nonces else nonces) (if server == t.node then Some nonce else last_notice t.past t.node) (values_after t notice_pair)
-  notice_line server nonce is next = subst (λ (b : Bool). NoticeSafe (if b then nonce ∷ nonces else nonces) (if b then Some nonce else last_notice t.past t.node) (values_after t notice_pair)) (sym (ap (λ s. s == t.node) is ∙ same_number t.node)) next
-
   -- a router's store isn't the server's
   no_router : {X : Type 0} (node : ℕ) → is_router t.opening.config node ≡ true → t.node ≡ node → X
   no_router node kind acts = absurd (not_both t.opening.config node kind (ap (is_server t.opening.config) (sym acts) ∙ its))
 
   row_safe : (e : EventValue) (line : Line) → Tells t e line → After line
-  row_safe e (lines.Notice server router key nonce datagram) told =
+  row_safe e (Line.Notice server router key nonce datagram) told =
       let row = told.follows.2 in
       let new : NoticeSafe (nonce_after row.base ∷ nonces) (Some (nonce_after row.base)) (values_after t notice_pair) = tells_next nonces (last_notice t.past t.node) (values t notice_pair) safe row.base row.counts (values_after t notice_pair) (subst (λ (n : ℕ). NoneBelow n (values_after t notice_pair)) row.next row.saves.none_below) in
-      notice_line server nonce told.by (subst (λ (n : ℕ). NoticeSafe (n ∷ nonces) (Some n) (values_after t notice_pair)) (sym row.next) new)
-  row_safe e (lines.Refused named (refusals.Notice (announcements.StoreSave fault))) told = at told.follows
-    where
-      at : Refusing t e named (refusals.Notice (announcements.StoreSave fault)) → Stays
-      at (inl f) = let row = f.3 in doubts nonces (last_notice t.past t.node) (values t notice_pair) safe row.0 row.1.counts (values_after t notice_pair) row.2.here
-      at (inr f) = absurd f.2
-  row_safe e (lines.Restarted named) told = restart_line named told.by (forgets nonces (last_notice t.past t.node) (values t notice_pair) safe (values_after t notice_pair) (told.follows.3.narrows notice_pair).each)
-  row_safe e (lines.Renewed named count) told = restart_line named told.by (forgets nonces (last_notice t.past t.node) (values t notice_pair) safe (values_after t notice_pair) (λ v has. subst (λ (vs : List (Option ℕ)). Contains vs v) (told.stays.kept kinds.Notice refl notice_pair refl) has))
-  row_safe e (lines.Emptied named under) told = no_router named told.follows.2.lost.kind told.follows.2.lost.acts
-  row_safe e (lines.Refused named (refusals.Start fault)) told = at told.follows
-    where
-      at : Refusing t e named (refusals.Start fault) → Stays
-      at (inl f) = no_router named f.3.kind f.3.acts
-      at (inr f) = no_router named f.3.lost.kind f.3.lost.acts
-  row_safe e line told = stays (told.stays.kept kinds.Notice refl notice_pair refl)
+      here (λ (b : Bool). NoticeSafe (if b then nonce ∷ nonces else nonces) (if b then Some nonce else last_notice t.past t.node) (values_after t notice_pair)) server t.node told.by (subst (λ (n : ℕ). NoticeSafe (n ∷ nonces) (Some n) (values_after t notice_pair)) (sym row.next) new)
+  row_safe e (Line.Refused named (Refusal.Notice (NoticeFault.StoreSave fault))) told = cases told.follows
+      (λ f. let row = f.3 in doubts nonces (last_notice t.past t.node) (values t notice_pair) safe row.0 row.1.counts (values_after t notice_pair) row.2.here)
+      (λ f. absurd f.2)
+  row_safe e (Line.Restarted named) told = here (λ (b : Bool). NoticeSafe nonces (if b then None else last_notice t.past t.node) (values_after t notice_pair)) named t.node told.by (forgets nonces (last_notice t.past t.node) (values t notice_pair) safe (values_after t notice_pair) (told.follows.3.narrows notice_pair).each)
+  row_safe e (Line.Renewed named count) told = here (λ (b : Bool). NoticeSafe nonces (if b then None else last_notice t.past t.node) (values_after t notice_pair)) named t.node told.by (forgets nonces (last_notice t.past t.node) (values t notice_pair) safe (values_after t notice_pair) (λ v has. subst (λ (vs : List (Option ℕ)). Contains vs v) (told.stays.kept PairKind.Notice refl notice_pair refl) has))
+  row_safe e (Line.Emptied named under) told = no_router named told.follows.2.lost.kind told.follows.2.lost.acts
+  row_safe e (Line.Refused named (Refusal.Start fault)) told = cases told.follows
+      (λ f. no_router named f.3.kind f.3.acts)
+      (λ f. no_router named f.3.lost.kind f.3.lost.acts)
+  row_safe e line told = stays (told.stays.kept PairKind.Notice refl notice_pair refl)
 
 -- another node's step
 nonces_other : (node k : ℕ) → k ≢ node → (line : Line) → IsBy line node → (old : List ℕ) → notice_nonces_after line k old ≡ old
-nonces_other node k differ (lines.Notice server _ _ nonce _) is old = unless server k (nonce ∷ old) old (λ e. differ (sym e ∙ is))
+nonces_other node k differ (Line.Notice server _ _ nonce _) is old = unless server k (nonce ∷ old) old (λ e. differ (sym e ∙ is))
 nonces_other node k differ _ is old = refl
 
 module _ (o : Opening) where
@@ -155,19 +125,10 @@ module _ (o : Opening) where
       (subst (λ (last : Option ℕ). NoticeSafe (notice_nonces T k) last (kept_at (shown_store o (s ∷ T) k).kept notice_pair)) (sym (last_notice_other s.actor k differ s.line by (last_notice T k)))
       (subst (λ (b : Bool). NoticeSafe (notice_nonces T k) (last_notice T k) (kept_at (if b then s.shown else shown_store o T k).kept notice_pair)) (sym (other_number s.actor k (λ e. differ (sym e)))) safe))
 
-  safe_step : (T : List Step) (s : Step) (k : ℕ) (b : Bool) → (s.actor == k) ≡ b → Legal o T s → is_server o.config k ≡ true → ((n : ℕ) → is_server o.config n ≡ true → SafeAt T n) → SafeAt (s ∷ T) k
-  safe_step T s k true e l its safe =
-      let same : s.actor ≡ k = (Decides-eqb s.actor k).0 e in
-      let acts : is_server o.config s.actor ≡ true = ap (is_server o.config) same ∙ its in
-      subst (SafeAt (s ∷ T)) same (safe_actor T s l acts (safe s.actor acts))
-  safe_step T s k false e l its safe = safe_other T s k (λ same. not_same same) l (safe k its)
-    where
-      not_same : k ≡ s.actor → ⊥
-      not_same same = let clash : true ≡ false = sym (same_number s.actor) ∙ ap (λ n. s.actor == n) (sym same) ∙ e in absurd cc
-
   safe_trace : (T : List Step) → LegalTrace o T → (k : ℕ) → is_server o.config k ≡ true → SafeAt T k
-  safe_trace [] legal k its = safe_opening k
-  safe_trace (s ∷ T) legal k its = safe_step T s k (s.actor == k) refl legal.0 its (safe_trace T legal.1)
+  safe_trace [] legal = λ k its. safe_opening k
+  safe_trace (s ∷ T) legal = of_each (λ k. is_server o.config k ≡ true → SafeAt (s ∷ T) k) s.actor
+      (λ its. safe_actor T s legal.0 its (safe_trace T legal.1 s.actor its)) (λ k differ its. safe_other T s k differ legal.0 (safe_trace T legal.1 k its))
 
 pub notice_nonces_rise : (o : Opening) (T : List Step) → LegalTrace o T → NoticeNoncesRise T
 notice_nonces_rise o T legal server = at (is_server o.config server) refl
@@ -196,11 +157,9 @@ Differ old = (m n : Notice) → Contains old m → Contains old n → m.nonce �
 -- a notice comes to those of other routers
 module _ (one : Notice) (router : RouterId) (old : List Notice) (nonces : List ℕ) (known : Known old nonces) where
   known_more : Known (one ∷ notices_to_others router old) (one.nonce ∷ nonces)
-  known_more x has = at (head_or_tail one (notices_to_others router old) x has)
-    where
-      at : (x ≡ one) ⊎ Contains (notices_to_others router old) x → Contains (one.nonce ∷ nonces) x.nonce
-      at (inl same) = subst (λ (y : Notice). Contains (one.nonce ∷ nonces) y.nonce) (sym same) (at_head one.nonce nonces)
-      at (inr more) = in_tail one.nonce nonces x.nonce (known x (of_others router old x more))
+  known_more x has = cases (head_or_tail one (notices_to_others router old) x has)
+      (λ same. subst (λ (y : Notice). Contains (one.nonce ∷ nonces) y.nonce) (sym same) (at_head one.nonce nonces))
+      (λ more. in_tail one.nonce nonces x.nonce (known x (of_others router old x more)))
 
   differ_more : Differ old → ((m : ℕ) → Contains nonces m → m < one.nonce) → Differ (one ∷ notices_to_others router old)
   differ_more differ above m n has_m has_n same = at (head_or_tail one (notices_to_others router old) m has_m) (head_or_tail one (notices_to_others router old) n has_n)
@@ -219,11 +178,11 @@ module _ (one : Notice) (router : RouterId) (old : List Notice) (nonces : List �
 
 module _ (o : Opening) where
   -- a notice's nonce comes to them, and they stay
-  nonces_more : (line : Line) (k router key nonce datagram : ℕ) (nonces : List ℕ) → line ≡ lines.Notice k router key nonce datagram → notice_nonces_after line k nonces ≡ nonce ∷ nonces
+  nonces_more : (line : Line) (k router key nonce datagram : ℕ) (nonces : List ℕ) → line ≡ Line.Notice k router key nonce datagram → notice_nonces_after line k nonces ≡ nonce ∷ nonces
   nonces_more line k router key nonce datagram nonces is = ap (λ (l : Line). notice_nonces_after l k nonces) is ∙ ap (λ (b : Bool). if b then nonce ∷ nonces else nonces) (same_number k)
 
   stays_known : (line : Line) (k n : ℕ) (nonces : List ℕ) → Contains nonces n → Contains (notice_nonces_after line k nonces) n
-  stays_known (lines.Notice server _ _ nonce _) k n nonces has = at (server == k)
+  stays_known (Line.Notice server _ _ nonce _) k n nonces has = at (server == k)
     where
       at : (b : Bool) → Contains (if b then nonce ∷ nonces else nonces) n
       at true = in_tail nonce nonces n has
@@ -239,7 +198,7 @@ module _ (o : Opening) where
       again : (router : RouterId) → Known (map (resent_at router now) old) (notice_nonces_after line k nonces)
       again router x has = let found = from_map (resent_at router now) old x has in subst (Contains (notice_nonces_after line k nonces)) (sym (ap (λ (y : Notice). y.nonce) found.2 ∙ same_nonce router now found.0)) (still found.0 found.1)
 
-      more : (router key nonce datagram : ℕ) → line ≡ lines.Notice k router key nonce datagram
+      more : (router key nonce datagram : ℕ) → line ≡ Line.Notice k router key nonce datagram
           → Known (record { router = (router_at o.config router).me; key = key; nonce = nonce; datagram = datagram; moments = now ∷ [] } ∷ notices_to_others (router_at o.config router).me old) (notice_nonces_after line k nonces)
       more router key nonce datagram is = subst (λ (ns : List ℕ). Known (record { router = (router_at o.config router).me; key = key; nonce = nonce; datagram = datagram; moments = now ∷ [] } ∷ notices_to_others (router_at o.config router).me old) ns)
           (sym (nonces_more line k router key nonce datagram nonces is)) (known_more (record { router = (router_at o.config router).me; key = key; nonce = nonce; datagram = datagram; moments = now ∷ [] }) (router_at o.config router).me old nonces known)

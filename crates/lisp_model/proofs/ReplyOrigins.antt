@@ -6,20 +6,17 @@ use Rattle.std.specs.Option.{option_map, option_and_then, option_to_list}
 use Rattle.std.proofs.lemmas.List.Elements.{Contains-append_cases, Contains-append_left, Contains-append_right}
 use Rattle.std.proofs.lemmas.Option.{none-some}
 use Rattle.lisp_records.specs.Database.{database_of}
-use Rattle.lisp_messages.specs.declared.fault.ReadFault.{ReadFault}
 use Rattle.lisp_messages.specs.Message.{MessageValue, MapRegisterValue, MapNotifyValue, Registers, Notifies}
 use Rattle.lisp_etr.specs.Hearing.{first_notice, ack_of}
 use Rattle.lisp_policy.specs.Site.{SiteValue}
 use Rattle.lisp_admission.specs.Checks.{reply_to}
 use Rattle.lisp_admission.specs.Nonces.{nonce_after}
 use Rattle.lisp_etr.specs.Sending.{last_nonce}
-use Rattle.lisp_model.specs.declared.line.Line.{Line}
-use Rattle.lisp_model.specs.declared.line.Line.TheVariants as lines
-use Rattle.lisp_model.specs.Trace.{EventValue, Step, Opening, ShownStore, addresses, is_server, is_router, router_at, sites, clock, address_at}
+use Rattle.lisp_model.specs.Trace.{EventValue, Step, Opening, ShownStore, addresses, is_server, is_router, router_at, sites, clock, address_at, Line}
 use Rattle.lisp_model.specs.History.{SentRegister, history}
 use Rattle.lisp_model.specs.Held.{Acceptance, heard_last}
 use Rattle.lisp_model.specs.Timers.{Notice, notice_to}
-use Rattle.lisp_model.specs.Bag.{Item, Arrival, arrival_in, as_notify, acceptances_in, register_item, reply_item, notice_item, ack_item, items_added, past, bag, since_start}
+use Rattle.lisp_model.specs.Bag.{Item, Arrival, arrival_in, as_notify, acceptances_in, register_item, reply_item, notice_item, ack_item, items_added, past, bag, since_start, ReadFault}
 use Rattle.lisp_model.specs.Accepted.{acceptances, acceptances_after}
 use Rattle.lisp_model.specs.Clean.{IsHarmless, Clean}
 use Rattle.lisp_model.specs.Legal.{MayCome, LegalTrace, context_of}
@@ -28,7 +25,7 @@ use Rattle.lisp_model.proofs.ChangeLemmas.{IsNew, new_or_old, new_follows}
 use Rattle.lisp_model.proofs.CleanLemmas.{in_get, in_option, from_map, SameHead}
 use Rattle.lisp_model.proofs.HeardLines.{noticed_of}
 use Rattle.lisp_model.proofs.HearingLemmas.{is_heard, knows_own}
-use Rattle.lisp_model.proofs.ListLemmas.{head_or_tail, in_none, at_head, in_tail}
+use Rattle.lisp_model.proofs.ListLemmas.{in_none, at_head, in_tail, only, cases, some_same}
 use Rattle.lisp_model.proofs.Locality.{same_number}
 use Rattle.lisp_model.proofs.Rows.{tells}
 
@@ -70,7 +67,7 @@ AllKnown o kept items = (i : Item) → Contains items i → (n : MapNotifyValue)
 
 -- what was accepted stays accepted
 pub stays_accepted : (line : Line) (new : List Acceptance) (k : ℕ) (old : List Acceptance) (x : Acceptance) → Contains old x → Contains (acceptances_after line new k old) x
-stays_accepted (lines.Accepted server _ _ _ _) new k old x has = at (server == k)
+stays_accepted (Line.Accepted server _ _ _ _) new k old x has = at (server == k)
   where
     at : (b : Bool) → Contains (if b then new ++ old else old) x
     at true = Contains-append_right new old x has
@@ -85,9 +82,6 @@ later_known o T s i n f = record {
 
 pub said_same : (m n : MapNotifyValue) → ◌≡◌ {A = MessageValue} (Notifies m) (Notifies n) → m ≡ n
 said_same m n e = cc
-
-some_same : (i j : Item) → ◌≡◌ {A = Option Item} (Some i) (Some j) → i ≡ j
-some_same i j e = cc
 
 -- nonces of notices are not those of routers
 nonce_high : (base : Option ℕ) → first_notice ≤ nonce_after base
@@ -128,41 +122,37 @@ module _ (o : Opening) (T : List Step) (reads : ReadsBack) (all : AllFrom o (his
   -- the step posts it
   posts : (node : ℕ) (after : ShownStore) (e : EventValue) (line : Line) → IsHarmless o T e → MayCome (context_of o T (record { event = e; line = line; actor = node; shown = after })) e line → IsLow (Kept e line)
       → AllKnown o (Kept e line) (items_added o T (past o T) (arrival_in (bag o T) e) line)
-  posts node after e (lines.Sent r s part key nonce datagram) harmless row low i has n is = at (head_or_tail (register_item o T r s part nonce) [] i has)
-    where
-      at : (i ≡ register_item o T r s part nonce) ⊎ Contains [] i → IsKnown o (acceptances o T) i n
-      at (inl same) = absurd (register_clash (sym (ap (λ (x : Item). x.message) same) ∙ is))
-      at (inr no_more) = absurd (in_none i no_more)
-  posts node after e (lines.Accepted server router key nonce None) harmless row low i has n is = absurd (in_none i has)
-  posts node after e (lines.Accepted server router key nonce (Some datagram)) harmless row low i has n is =
-      let c = comes o T reads all below node e (lines.Accepted server router key nonce (Some datagram)) after tt harmless row in
+  posts node after e (Line.Sent r s part key nonce datagram) harmless row low i has n is = absurd (register_clash (sym (ap (λ (x : Item). x.message) (only (register_item o T r s part nonce) i has)) ∙ is))
+  posts node after e (Line.Accepted server router key nonce None) harmless row low i has n is = absurd (in_none i has)
+  posts node after e (Line.Accepted server router key nonce (Some datagram)) harmless row low i has n is =
+      let c = comes o T reads all below node e (Line.Accepted server router key nonce (Some datagram)) after tt harmless row in
       let found = from_map (reply_item o.config (sites o T server) server) (acceptances_in (arrival_in (bag o T) e) (clock T)) i has in
       let said : reply_to found.0.message ≡ n = said_same _ n (sym (ap (λ (x : Item). x.message) found.2) ∙ is) in
-      let here : Contains (Kept e (lines.Accepted server router key nonce (Some datagram)) server) found.0 = subst (λ b. Contains (if b then acceptances_in (arrival_in (bag o T) e) (clock T) ++ acceptances o T server else acceptances o T server) found.0) (sym (same_number server)) (Contains-append_left (acceptances_in (arrival_in (bag o T) e) (clock T)) (acceptances o T server) found.0 found.1) in
+      let here : Contains (Kept e (Line.Accepted server router key nonce (Some datagram)) server) found.0 = subst (λ b. Contains (if b then acceptances_in (arrival_in (bag o T) e) (clock T) ++ acceptances o T server else acceptances o T server) found.0) (sym (same_number server)) (Contains-append_left (acceptances_in (arrival_in (bag o T) e) (clock T)) (acceptances o T server) found.0 found.1) in
       let number : found.0.message.nonce ≡ n.nonce = ap (λ (x : MapNotifyValue). x.nonce) said in
       let bound : found.0.message.nonce < first_notice = low server found.0 here in
       record {
         below = omega (arith, number, bound);
         reply = λ plain under. record { server = server; kind = c.row.acts.kind; acceptance = found.0; taken = here; has = sites o T server; is = found.2 };
       }
-  posts node after e (lines.Noticed router server nonce datagram) harmless row low i has n is =
-      let c = comes o T reads all below node e (lines.Noticed router server nonce datagram) after tt harmless row in
+  posts node after e (Line.Noticed router server nonce datagram) harmless row low i has n is =
+      let c = comes o T reads all below node e (Line.Noticed router server nonce datagram) after tt harmless row in
       let what = noticed_of _ c.arrival router server nonce datagram c.row in
-      let here : Contains (option_to_list (option_map (ack_item o T router c.arrival) (as_notify c.arrival.read))) i = subst (λ (a : Option Arrival). Contains (items_added o T (past o T) a (lines.Noticed router server nonce datagram)) i) c.is has in
+      let here : Contains (option_to_list (option_map (ack_item o T router c.arrival) (as_notify c.arrival.read))) i = subst (λ (a : Option Arrival). Contains (items_added o T (past o T) a (Line.Noticed router server nonce datagram)) i) c.is has in
       let f = from_some (ack_item o T router c.arrival) (as_notify c.arrival.read) i here in
       let said : ack_of f.value ≡ n = said_same _ n (ap (λ (x : Item). x.message) f.is ∙ is) in
       let origin = c.origin f.value (notified c.arrival.read f.value f.some) _ (knows_own o T node c.row.acts.kind) (is_heard o T node c.arrival what.what what.hears).authentic in
-      answer_known (Kept e (lines.Noticed router server nonce datagram)) i f.value origin.what n origin.head said (below origin.item origin.sent origin.what origin.says)
-  posts node after e (lines.Notice server router key nonce datagram) harmless row low i has n is =
+      answer_known (Kept e (Line.Noticed router server nonce datagram)) i f.value origin.what n origin.head said (below origin.item origin.sent origin.what origin.says)
+  posts node after e (Line.Notice server router key nonce datagram) harmless row low i has n is =
       let f = from_some (notice_item o T (since_start o T server) server router key nonce) (heard_last (router_at o.config router).me (since_start o T server)) i has in
       let said = said_same _ n (ap (λ (x : Item). x.message) f.is ∙ is) in
       let number : nonce ≡ n.nonce = ap (λ (x : MapNotifyValue). x.nonce) said in
-      let notice = (tells (context_of o T (record { event = e; line = lines.Notice server router key nonce datagram; actor = node; shown = after })) e (lines.Notice server router key nonce datagram) row).follows.2 in
+      let notice = (tells (context_of o T (record { event = e; line = Line.Notice server router key nonce datagram; actor = node; shown = after })) e (Line.Notice server router key nonce datagram) row).follows.2 in
       let bound = notice.bound in
       let next = notice.next in
       let high = nonce_high notice.base in
       record { below = omega (arith, number, bound); reply = λ plain under. absurd (omega (arith, number, under, next, high)) }
-  posts node after e (lines.Resent server router datagram) harmless row low i has n is = at (notice_to o T server (router_at o.config router).me) (in_option (option_and_then (λ n. slice_get (bag o T) n.datagram) (notice_to o T server (router_at o.config router).me)) i has)
+  posts node after e (Line.Resent server router datagram) harmless row low i has n is = at (notice_to o T server (router_at o.config router).me) (in_option (option_and_then (λ n. slice_get (bag o T) n.datagram) (notice_to o T server (router_at o.config router).me)) i has)
     where
       at : (x : Option Notice) → option_and_then (λ n. slice_get (bag o T) n.datagram) x ≡ Some i → IsKnown o (acceptances o T) i n
       at None e = absurd (none-some _ e)
@@ -182,11 +172,9 @@ module _ (o : Opening) (distinct : AllPairs (λ a b. a ≢ b) (addresses o.confi
   all_known (s ∷ T) legal clean = grown (all_known T legal.1 clean.1)
     where
       grown : AllKnown o (acceptances o T) (bag o T) → AllKnown o (acceptances o (s ∷ T)) (bag o (s ∷ T))
-      grown before i has n is = at (Contains-append_cases (bag o T) (items_added o T (past o T) (arrival_in (bag o T) s.event) s.line) i has)
-        where
-          at : Contains (bag o T) i ⊎ Contains (items_added o T (past o T) (arrival_in (bag o T) s.event) s.line) i → IsKnown o (acceptances o (s ∷ T)) i n
-          at (inl old) = later_known o T s i n (before i old n is)
-          at (inr new) = posts o T reads (all_from o T legal.1) before s.actor s.shown s.event s.line clean.0 legal.0.row (accepted_low (s ∷ T) legal clean) i new n is
+      grown before i has n is = cases (Contains-append_cases (bag o T) (items_added o T (past o T) (arrival_in (bag o T) s.event) s.line) i has)
+          (λ old. later_known o T s i n (before i old n is))
+          (λ new. posts o T reads (all_from o T legal.1) before s.actor s.shown s.event s.line clean.0 legal.0.row (accepted_low (s ∷ T) legal clean) i new n is)
 
 -- Each Map-Notify-Ack in the bag is the answer of a router to a notice.
 
@@ -197,7 +185,7 @@ pub record IsAnswer (o : Opening) (T : List Step) (i : Item) (n : MapNotifyValue
   pub node : ℕ
   pub server : ℕ
   pub datagram : ℕ
-  pub line : before.line ≡ lines.Noticed node server n.nonce datagram
+  pub line : before.line ≡ Line.Noticed node server n.nonce datagram
   pub kind : is_router o.config node ≡ true
   pub listed : Contains (router_at o.config node).servers server
   pub from : i.from ≡ address_at o.config node
@@ -219,11 +207,11 @@ not_plain m n same plain ack = true≢false (sym ack ∙ sym (ap (λ (x : MapNot
 module _ (o : Opening) (T : List Step) (reads : ReadsBack) (all : AllFrom o (history o T) (bag o T)) (below : AllBelow (bag o T)) (old : AllAnswers o T (bag o T)) where
   -- the answer that is posted
   answered : (node : ℕ) (after : ShownStore) (e : EventValue) (router server nonce datagram : ℕ) → IsHarmless o T e
-      → MayCome (context_of o T (record { event = e; line = lines.Noticed router server nonce datagram; actor = node; shown = after })) e (lines.Noticed router server nonce datagram)
-      → (i : Item) → Contains (items_added o T (past o T) (arrival_in (bag o T) e) (lines.Noticed router server nonce datagram)) i → (n : MapNotifyValue) → i.message ≡ Notifies n → (s : Step) → s.line ≡ lines.Noticed router server nonce datagram → IsAnswer o (s ∷ T) i n
+      → MayCome (context_of o T (record { event = e; line = Line.Noticed router server nonce datagram; actor = node; shown = after })) e (Line.Noticed router server nonce datagram)
+      → (i : Item) → Contains (items_added o T (past o T) (arrival_in (bag o T) e) (Line.Noticed router server nonce datagram)) i → (n : MapNotifyValue) → i.message ≡ Notifies n → (s : Step) → s.line ≡ Line.Noticed router server nonce datagram → IsAnswer o (s ∷ T) i n
   answered node after e router server nonce datagram harmless row i has n is s line =
-      let c = comes o T reads all below node e (lines.Noticed router server nonce datagram) after tt harmless row in
-      let f = from_some (ack_item o T router c.arrival) (as_notify c.arrival.read) i (subst (λ (a : Option Arrival). Contains (items_added o T (past o T) a (lines.Noticed router server nonce datagram)) i) c.is has) in
+      let c = comes o T reads all below node e (Line.Noticed router server nonce datagram) after tt harmless row in
+      let f = from_some (ack_item o T router c.arrival) (as_notify c.arrival.read) i (subst (λ (a : Option Arrival). Contains (items_added o T (past o T) a (Line.Noticed router server nonce datagram)) i) c.is has) in
       let what = noticed_of _ c.arrival router server nonce datagram c.row in
       let h = is_heard o T node c.arrival what.what what.hears in
       let read : f.value ≡ what.what.message = read_same f.value what.what.message c.arrival.read (notified c.arrival.read f.value f.some) h.read.is in
@@ -235,7 +223,7 @@ module _ (o : Opening) (T : List Step) (reads : ReadsBack) (all : AllFrom o (his
         node = router;
         server = server;
         datagram = datagram;
-        line = line ∙ ap (λ (k : ℕ). lines.Noticed router server k datagram) (sym number);
+        line = line ∙ ap (λ (k : ℕ). Line.Noticed router server k datagram) (sym number);
         kind = subst (λ (k : ℕ). is_router o.config k ≡ true) what.acts c.row.acts.kind;
         listed = subst (λ (k : ℕ). Contains (router_at o.config k).servers server) what.acts (subst (Contains (router_at o.config node).servers) (sym what.whose) h.listed);
         from = sym (ap (λ (x : Item). x.from) f.is);
@@ -243,20 +231,16 @@ module _ (o : Opening) (T : List Step) (reads : ReadsBack) (all : AllFrom o (his
       }
 
   posts_answers : (s : Step) (line : Line) → s.line ≡ line → IsHarmless o T s.event → MayCome (context_of o T s) s.event line → AllAnswers o (s ∷ T) (items_added o T (past o T) (arrival_in (bag o T) s.event) line)
-  posts_answers s (lines.Sent r k part key nonce datagram) line harmless row i has n is ack = at (head_or_tail (register_item o T r k part nonce) [] i has)
-    where
-      at : (i ≡ register_item o T r k part nonce) ⊎ Contains [] i → IsAnswer o (s ∷ T) i n
-      at (inl same) = absurd (register_clash (sym (ap (λ (x : Item). x.message) same) ∙ is))
-      at (inr no_more) = absurd (in_none i no_more)
-  posts_answers s (lines.Accepted server router key nonce None) line harmless row i has n is ack = absurd (in_none i has)
-  posts_answers s (lines.Accepted server router key nonce (Some datagram)) line harmless row i has n is ack =
+  posts_answers s (Line.Sent r k part key nonce datagram) line harmless row i has n is ack = absurd (register_clash (sym (ap (λ (x : Item). x.message) (only (register_item o T r k part nonce) i has)) ∙ is))
+  posts_answers s (Line.Accepted server router key nonce None) line harmless row i has n is ack = absurd (in_none i has)
+  posts_answers s (Line.Accepted server router key nonce (Some datagram)) line harmless row i has n is ack =
       let found = from_map (reply_item o.config (sites o T server) server) (acceptances_in (arrival_in (bag o T) s.event) (clock T)) i has in
       absurd (not_plain (reply_to found.0.message) n (said_same (reply_to found.0.message) n (sym (ap (λ (x : Item). x.message) found.2) ∙ is)) refl ack)
-  posts_answers s (lines.Noticed router server nonce datagram) line harmless row i has n is ack = answered s.actor s.shown s.event router server nonce datagram harmless row i has n is s line
-  posts_answers s (lines.Notice server router key nonce datagram) line harmless row i has n is ack =
+  posts_answers s (Line.Noticed router server nonce datagram) line harmless row i has n is ack = answered s.actor s.shown s.event router server nonce datagram harmless row i has n is s line
+  posts_answers s (Line.Notice server router key nonce datagram) line harmless row i has n is ack =
       let f = from_some (notice_item o T (since_start o T server) server router key nonce) (heard_last (router_at o.config router).me (since_start o T server)) i has in
       absurd (not_plain _ n (said_same _ n (ap (λ (x : Item). x.message) f.is ∙ is)) refl ack)
-  posts_answers s (lines.Resent server router datagram) line harmless row i has n is ack = at (notice_to o T server (router_at o.config router).me) (in_option (option_and_then (λ n. slice_get (bag o T) n.datagram) (notice_to o T server (router_at o.config router).me)) i has)
+  posts_answers s (Line.Resent server router datagram) line harmless row i has n is ack = at (notice_to o T server (router_at o.config router).me) (in_option (option_and_then (λ n. slice_get (bag o T) n.datagram) (notice_to o T server (router_at o.config router).me)) i has)
     where
       at : (x : Option Notice) → option_and_then (λ n. slice_get (bag o T) n.datagram) x ≡ Some i → IsAnswer o (s ∷ T) i n
       at None e = absurd (none-some _ e)
@@ -269,8 +253,6 @@ module _ (o : Opening) (distinct : AllPairs (λ a b. a ≢ b) (addresses o.confi
   all_answers (s ∷ T) legal clean = grown (all_answers T legal.1 clean.1) (all_known o distinct reads T legal.1 clean.1)
     where
       grown : AllAnswers o T (bag o T) → AllKnown o (acceptances o T) (bag o T) → AllAnswers o (s ∷ T) (bag o (s ∷ T))
-      grown before known i has n is ack = at (Contains-append_cases (bag o T) (items_added o T (past o T) (arrival_in (bag o T) s.event) s.line) i has)
-        where
-          at : Contains (bag o T) i ⊎ Contains (items_added o T (past o T) (arrival_in (bag o T) s.event) s.line) i → IsAnswer o (s ∷ T) i n
-          at (inl old) = later_answer o T s i n (before i old n is ack)
-          at (inr new) = posts_answers o T reads (all_from o T legal.1) (λ j in_it m says. (known j in_it m says).below) before s s.line refl clean.0 legal.0.row i new n is ack
+      grown before known i has n is ack = cases (Contains-append_cases (bag o T) (items_added o T (past o T) (arrival_in (bag o T) s.event) s.line) i has)
+          (λ old. later_answer o T s i n (before i old n is ack))
+          (λ new. posts_answers o T reads (all_from o T legal.1) (λ j in_it m says. (known j in_it m says).below) before s s.line refl clean.0 legal.0.row i new n is ack)

@@ -6,34 +6,27 @@ use Rattle.std.specs.Option.{option_map, option_to_list}
 use Rattle.std.proofs.lemmas.List.Elements.{Contains-append_cases}
 use Rattle.std.proofs.lemmas.Option.{none-some}
 use Rattle.std.specs.Ordering.{eq_by_cmp}
-use Rattle.std.proofs.lemmas.Bool.Decides.{Decides-eqb}
 use Rattle.lisp_nonces.specs.declared.pair.Pair.{Pair}
 use Rattle.lisp_nonces.specs.Kept.{InDoubt, kept_at}
 use Rattle.lisp_admission.specs.Nonces.{IsBelow}
-use Rattle.lisp_nonces.specs.declared.pair.PairKind.TheVariants as kinds
 use Rattle.lisp_nonces.specs.Pair.{pair_cmp}
 use Rattle.lisp_messages.specs.Message.{MapRegisterValue, Registers}
-use Rattle.lisp_admission.specs.declared.refused.Refused.TheVariants as refuseds
 use Rattle.lisp_admission.specs.Pairs.{pair_of}
-use Rattle.lisp_nonces.specs.declared.pair.PairKind.{PairKind}
 use Rattle.lisp_admission.specs.declared.refused.Refused.TheVariants.{Replay}
 use Rattle.lisp_model.specs.Held.{Acceptance, is_of_pair, last_of}
 use Rattle.lisp_model.specs.Accepted.{nonces_of, acceptances_after, tried_nonces_after, acceptances, acceptances_in_step, tried_nonces}
 use Rattle.lisp_model.specs.Context.{IsBase, Context, values, values_after, SameOthers}
 use Rattle.lisp_model.specs.Promises.{Falls, NoncesRise, ReplaysAreTried}
-use Rattle.lisp_model.specs.declared.line.Line.{Line}
-use Rattle.lisp_model.specs.declared.line.Line.TheVariants as lines
-use Rattle.lisp_model.specs.declared.refusal.Refusal.TheVariants as refusals
-use Rattle.lisp_model.specs.Trace.{EventValue, is_server, is_router, clock, Step, Opening, shown_store}
+use Rattle.lisp_model.specs.Trace.{EventValue, is_server, is_router, clock, Step, Opening, shown_store, Event, Line, Refusal}
 use Rattle.lisp_model.specs.Bag.{Arrival, arrival_in, as_register, acceptances_in, bag, since_start, since_start_after, arrival_of, junk_arrival}
-use Rattle.lisp_model.specs.Receiving.{IsFresh, last_in}
-use Rattle.lisp_model.specs.declared.event.Event.TheVariants as events
+use Rattle.lisp_model.specs.Receiving.{IsFresh, last_in, Refused}
 use Rattle.lisp_model.specs.Legal.{MayCome, Arrives, Legal, LegalTrace, context_of}
 use Rattle.lisp_model.proofs.KeptLemmas.{only_value, pair_itself, pair_same}
-use Rattle.lisp_model.proofs.ListLemmas.{at_head, in_tail, head_or_tail, in_none}
+use Rattle.lisp_model.proofs.ListLemmas.{at_head, in_tail, head_or_tail, in_none, only, cases, some_same}
 use Rattle.lisp_model.proofs.HearingLemmas.{not_both}
-use Rattle.lisp_model.proofs.Locality.{same_number, other_number, since_other, accepted_other, tried_other, none_accepted}
-use Rattle.lisp_model.proofs.Rows.{Refusing, Tells, tells}
+use Rattle.lisp_model.proofs.Locality.{same_number, other_number, since_other, accepted_other, tried_other, none_accepted, of_each, here}
+use Rattle.lisp_model.proofs.Rows.{Tells, tells}
+use Rattle.lisp_nonces.specs.declared.pair.PairKind.{PairKind}
 
 -- a value is a number that isn't below
 abbrev pub AtLeast : ℕ → Option ℕ → Type 0
@@ -79,19 +72,15 @@ module _ (q : Pair) (acc since : List Acceptance) (tried : List ℕ) (kept : Lis
       where
         floors : InDoubt kept new nonce → (n : ℕ) → Contains (nonces_of q acc) n → (v : Option ℕ) → Contains new v → AtLeast n v
         floors (inl same) n has v in_it = safe.floor n has v (subst (λ (vs : List (Option ℕ)). Contains vs v) same in_it)
-        floors (inr more) n has v in_it = at (Contains-append_cases kept (Some nonce ∷ []) v (subst (λ (vs : List (Option ℕ)). Contains vs v) more in_it))
-          where
-            at : Contains kept v ⊎ Contains (Some nonce ∷ []) v → AtLeast n v
-            at (inl old) = safe.floor n has v old
-            at (inr one) = subst (λ (w : Option ℕ). AtLeast n w) (sym (only_value (Some nonce) v one)) (omega (arith, fresh n has))
+        floors (inr more) n has v in_it = cases (Contains-append_cases kept (Some nonce ∷ []) v (subst (λ (vs : List (Option ℕ)). Contains vs v) more in_it))
+            (λ old. safe.floor n has v old)
+            (λ one. subst (λ (w : Option ℕ). AtLeast n w) (sym (only_value (Some nonce) v one)) (omega (arith, fresh n has)))
 
         tries : InDoubt kept new nonce → (m : ℕ) → Contains new (Some m) → Contains (nonce ∷ tried) m
         tries (inl same) m has = in_tail nonce tried m (safe.tried_kept m (subst (λ (vs : List (Option ℕ)). Contains vs (Some m)) same has))
-        tries (inr more) m has = at (Contains-append_cases kept (Some nonce ∷ []) (Some m) (subst (λ (vs : List (Option ℕ)). Contains vs (Some m)) more has))
-          where
-            at : Contains kept (Some m) ⊎ Contains (Some nonce ∷ []) (Some m) → Contains (nonce ∷ tried) m
-            at (inl old) = in_tail nonce tried m (safe.tried_kept m old)
-            at (inr one) = let same : ◌≡◌ {A = Option ℕ} (Some m) (Some nonce) = only_value (Some nonce) (Some m) one in let equal : m ≡ nonce = cc in subst (λ (x : ℕ). Contains (nonce ∷ tried) x) (sym equal) (at_head nonce tried)
+        tries (inr more) m has = cases (Contains-append_cases kept (Some nonce ∷ []) (Some m) (subst (λ (vs : List (Option ℕ)). Contains vs (Some m)) more has))
+            (λ old. in_tail nonce tried m (safe.tried_kept m old))
+            (λ one. let same : ◌≡◌ {A = Option ℕ} (Some m) (Some nonce) = only_value (Some nonce) (Some m) one in let equal : m ≡ nonce = cc in subst (λ (x : ℕ). Contains (nonce ∷ tried) x) (sym equal) (at_head nonce tried))
 
 -- one more message of the pair, or of another
 pub nonces_of-same : (q : Pair) (a : Acceptance) (acc : List Acceptance) → is_of_pair q a ≡ true → nonces_of q (a ∷ acc) ≡ a.message.nonce ∷ nonces_of q acc
@@ -113,31 +102,21 @@ module _ (q : Pair) (acc since : List Acceptance) (tried : List ℕ) (kept : Lis
     falls = subst Falls (sym list) (newest, safe.falls);
     floor = λ n has v in_it. subst (λ (w : Option ℕ). AtLeast n w) (sym (only_value (Some a.message.nonce) v (subst (λ (vs : List (Option ℕ)). Contains vs v) one in_it))) (at_most n has);
     last = λ l e n has. subst (λ (x : ℕ). n ≤ x) (is_nonce l e) (at_most n has);
-    tried_kept = λ m has. is_tried m (some_same m (only_value (Some a.message.nonce) (Some m) (subst (λ (vs : List (Option ℕ)). Contains vs (Some m)) one has)));
+    tried_kept = λ m has. is_tried m (some_same m a.message.nonce (only_value (Some a.message.nonce) (Some m) (subst (λ (vs : List (Option ℕ)). Contains vs (Some m)) one has)));
     tried_last = λ l e. is_tried l (sym (is_nonce l e));
   }
     where
-      nonce : ℕ
-      nonce = a.message.nonce
-
       list : nonces_of q (a ∷ acc) ≡ a.message.nonce ∷ nonces_of q acc
       list = nonces_of-same q a acc is
 
       newest : (n : ℕ) → Contains (nonces_of q acc) n → n < a.message.nonce
       newest = fresh q acc since tried kept safe base counts a.message.nonce below
 
-      at_most_of : (n : ℕ) → (n ≡ a.message.nonce) ⊎ Contains (nonces_of q acc) n → n ≤ a.message.nonce
-      at_most_of n (inl e) = omega (arith, e)
-      at_most_of n (inr has) = let low = newest n has in omega (arith, low)
-
       at_most : (n : ℕ) → Contains (nonces_of q (a ∷ acc)) n → n ≤ a.message.nonce
-      at_most n has = at_most_of n (head_or_tail a.message.nonce (nonces_of q acc) n (subst (λ (ns : List ℕ). Contains ns n) list has))
-
-      some_same : (m : ℕ) → ◌≡◌ {A = Option ℕ} (Some m) (Some a.message.nonce) → m ≡ a.message.nonce
-      some_same m e = cc
+      at_most n has = cases (head_or_tail a.message.nonce (nonces_of q acc) n (subst (λ (ns : List ℕ). Contains ns n) list has)) (λ e. omega (arith, e)) (λ old. omega (arith, newest n old))
 
       is_nonce : (l : ℕ) → last_of q (a ∷ since) ≡ Some l → a.message.nonce ≡ l
-      is_nonce l e = sym (some_same l (sym e ∙ last_of-same q a since is))
+      is_nonce l e = sym (some_same l a.message.nonce (sym e ∙ last_of-same q a since is))
 
       is_tried : (m : ℕ) → m ≡ a.message.nonce → Contains (nonces_of q (a ∷ []) ++ tried) m
       is_tried m e = subst (λ (ns : List ℕ). Contains (ns ++ tried) m) (sym (nonces_of-same q a [] is)) (subst (λ (x : ℕ). Contains (a.message.nonce ∷ tried) x) (sym e) (at_head a.message.nonce tried))
@@ -170,19 +149,13 @@ differs_at q p e same = true≢false (sym (pair_itself q) ∙ ap (λ (x : Pair).
 pub taken_one : (a : Arrival) (now : ℕ) (m : MapRegisterValue) → a.read ≡ Ok (Registers m) → acceptances_in (Some a) now ≡ record { message = m; from = a.from; moment = now } ∷ []
 taken_one a now m read = ap (λ r. option_to_list (option_map (λ x. record { message = x; from = a.from; moment = now }) (as_register r))) read
 
-module _ (t : Context) (its : is_server t.opening.config t.node ≡ true) (q : Pair) (kind : q.kind ≡ kinds.Received) (acc : List Acceptance) (old : List ℕ) (safe : Safe q acc (since_start t.opening t.past t.node) old (values t q)) where
-  before : List Acceptance
-  before = since_start t.opening t.past t.node
-
+module _ (t : Context) (its : is_server t.opening.config t.node ≡ true) (q : Pair) (kind : q.kind ≡ PairKind.Received) (acc : List Acceptance) (old : List ℕ) (safe : Safe q acc (since_start t.opening t.past t.node) old (values t q)) where
   -- the list of the pair is as it was
   stays : values_after t q ≡ values t q → Safe q acc (since_start t.opening t.past t.node) old (values_after t q)
   stays e = safe_narrows q acc (since_start t.opening t.past t.node) old (values t q) safe (values_after t q) (λ v has. subst (λ (vs : List (Option ℕ)). Contains vs v) e has)
 
   -- a Map-Register is accepted
   module _ (a : Arrival) (m : MapRegisterValue) (read : a.read ≡ Ok (Registers m)) (fresh : IsFresh t m) (now : ℕ) where
-    one : Acceptance
-    one = record { message = m; from = a.from; moment = now }
-
     base_at : q ≡ pair_of m → IsBase (last_of q (since_start t.opening t.past t.node)) (values t q) fresh.base
     base_at e = subst (λ (p : Pair). IsBase (last_of p (since_start t.opening t.past t.node)) (values t p) fresh.base) (sym e) fresh.counts
 
@@ -203,15 +176,7 @@ module _ (t : Context) (its : is_server t.opening.config t.node ≡ true) (q : P
 
   accept_line : (server : ℕ) (new : List Acceptance) → t.node ≡ server → Safe q (new ++ acc) (new ++ since_start t.opening t.past t.node) (nonces_of q new ++ old) (values_after t q)
       → Safe q (if server == t.node then new ++ acc else acc) (if server == t.node then new ++ since_start t.opening t.past t.node else since_start t.opening t.past t.node) (if server == t.node then nonces_of q new ++ old else old) (values_after t q)
-  accept_line server new is next = subst (λ b. Safe q (if b then new ++ acc else acc) (if b then new ++ since_start t.opening t.past t.node else since_start t.opening t.past t.node) (if b then nonces_of q new ++ old else old) (values_after t q))
-      (sym (ap (λ s. s == t.node) (sym is) ∙ same_number t.node)) next
-
-  tried_line : (server : ℕ) (new : List Acceptance) → t.node ≡ server → Safe q acc (since_start t.opening t.past t.node) (nonces_of q new ++ old) (values_after t q)
-      → Safe q acc (since_start t.opening t.past t.node) (if server == t.node then nonces_of q new ++ old else old) (values_after t q)
-  tried_line server new is next = subst (λ b. Safe q acc (since_start t.opening t.past t.node) (if b then nonces_of q new ++ old else old) (values_after t q)) (sym (ap (λ s. s == t.node) (sym is) ∙ same_number t.node)) next
-
-  restart_line : (named : ℕ) → named ≡ t.node → Safe q acc [] old (values_after t q) → Safe q acc (if named == t.node then [] else since_start t.opening t.past t.node) old (values_after t q)
-  restart_line named is next = subst (λ b. Safe q acc (if b then [] else since_start t.opening t.past t.node) old (values_after t q)) (sym (ap (λ s. s == t.node) is ∙ same_number t.node)) next
+  accept_line server new is = here (λ b. Safe q (if b then new ++ acc else acc) (if b then new ++ since_start t.opening t.past t.node else since_start t.opening t.past t.node) (if b then nonces_of q new ++ old else old) (values_after t q)) server t.node (sym is)
 
   -- a router's store isn't the server's
   no_router : {X : Type 0} (node : ℕ) → is_router t.opening.config node ≡ true → t.node ≡ node → X
@@ -219,49 +184,40 @@ module _ (t : Context) (its : is_server t.opening.config t.node ≡ true) (q : P
 
   -- any legal step of the server
   pub row_safe : (e : EventValue) (line : Line) → Tells t e line → After (acceptances_in (arrival_in (bag t.opening t.past) e) (clock t.past)) line
-  row_safe e (lines.Accepted server router key nonce datagram) told =
+  row_safe e (Line.Accepted server router key nonce datagram) told =
       let f = told.follows in
-      subst (λ (a : Option Arrival). After (acceptances_in a (clock t.past)) (lines.Accepted server router key nonce datagram)) (sym f.is)
+      subst (λ (a : Option Arrival). After (acceptances_in a (clock t.past)) (Line.Accepted server router key nonce datagram)) (sym f.is)
       (accept_line server (acceptances_in (Some f.arrival) (clock t.past)) f.row.acts.acts (subst (λ (new : List Acceptance). Safe q (new ++ acc) (new ++ since_start t.opening t.past t.node) (nonces_of q new ++ old) (values_after t q)) (sym (taken_one f.arrival (clock t.past) f.row.message f.row.admits.read))
       (takes_safe f.arrival f.row.message f.row.admits.read f.row.fresh (clock t.past) f.row.kept f.row.others (eq_by_cmp pair_cmp q (pair_of f.row.message)) refl)))
-  row_safe e (lines.Refused named (refusals.Receive (refuseds.StoreSave fault))) told =
+  row_safe e (Line.Refused named (Refusal.Receive (Refused.StoreSave fault))) told =
       let f = told.follows in
       let row = f.row.1 in
-      subst (λ (a : Option Arrival). After (acceptances_in a (clock t.past)) (lines.Refused named (refusals.Receive (refuseds.StoreSave fault)))) (sym f.is)
-      (tried_line named (acceptances_in (Some f.arrival) (clock t.past)) (sym told.by) (subst (λ (new : List Acceptance). Safe q acc (since_start t.opening t.past t.node) (nonces_of q new ++ old) (values_after t q)) (sym (taken_one f.arrival (clock t.past) row.message row.admits.read))
+      subst (λ (a : Option Arrival). After (acceptances_in a (clock t.past)) (Line.Refused named (Refusal.Receive (Refused.StoreSave fault)))) (sym f.is)
+      (here (λ (b : Bool). Safe q acc (since_start t.opening t.past t.node) (if b then nonces_of q (acceptances_in (Some f.arrival) (clock t.past)) ++ old else old) (values_after t q)) named t.node told.by (subst (λ (new : List Acceptance). Safe q acc (since_start t.opening t.past t.node) (nonces_of q new ++ old) (values_after t q)) (sym (taken_one f.arrival (clock t.past) row.message row.admits.read))
       (doubts_safe f.arrival row.message row.admits.read row.fresh (clock t.past) row.fails.here row.fails.others (eq_by_cmp pair_cmp q (pair_of row.message)) refl)))
-  row_safe e (lines.Restarted named) told = restart_line named told.by (safe_restarts q acc (since_start t.opening t.past t.node) old (values t q) safe (values_after t q) (told.follows.3.narrows q).each)
-  row_safe e (lines.Renewed named count) told = restart_line named told.by (safe_restarts q acc (since_start t.opening t.past t.node) old (values t q) safe (values_after t q) (λ v has. subst (λ (vs : List (Option ℕ)). Contains vs v) (told.stays.kept kinds.Received refl q kind) has))
-  row_safe e (lines.Emptied named under) told = no_router named told.follows.2.lost.kind told.follows.2.lost.acts
-  row_safe e (lines.Refused named (refusals.Start fault)) told = at told.follows
-    where
-      at : Refusing t e named (refusals.Start fault) → After (acceptances_in (arrival_in (bag t.opening t.past) e) (clock t.past)) (lines.Refused named (refusals.Start fault))
-      at (inl f) = no_router named f.3.kind f.3.acts
-      at (inr f) = no_router named f.3.lost.kind f.3.lost.acts
-  row_safe e line told = stays (told.stays.kept kinds.Received refl q kind)
+  row_safe e (Line.Restarted named) told = here (λ (b : Bool). Safe q acc (if b then [] else since_start t.opening t.past t.node) old (values_after t q)) named t.node told.by (safe_restarts q acc (since_start t.opening t.past t.node) old (values t q) safe (values_after t q) (told.follows.3.narrows q).each)
+  row_safe e (Line.Renewed named count) told = here (λ (b : Bool). Safe q acc (if b then [] else since_start t.opening t.past t.node) old (values_after t q)) named t.node told.by (safe_restarts q acc (since_start t.opening t.past t.node) old (values t q) safe (values_after t q) (λ v has. subst (λ (vs : List (Option ℕ)). Contains vs v) (told.stays.kept PairKind.Received refl q kind) has))
+  row_safe e (Line.Emptied named under) told = no_router named told.follows.2.lost.kind told.follows.2.lost.acts
+  row_safe e (Line.Refused named (Refusal.Start fault)) told = cases told.follows
+      (λ f. no_router named f.3.kind f.3.acts)
+      (λ f. no_router named f.3.lost.kind f.3.lost.acts)
+  row_safe e line told = stays (told.stays.kept PairKind.Received refl q kind)
 
 -- Over legal traces accepted nonces rise, and replays are told with numbers that were tried.
 
 -- a number among values is among their numbers
 some_number : (v : Option ℕ) (m : ℕ) (ms : List ℕ) → (Some m ≡ v) ⊎ Contains ms m → Contains (option_to_list v ++ ms) m
-some_number None m ms (inl e) = absurd (clash e)
-  where
-    clash : ◌≡◌ {A = Option ℕ} (Some m) None → ⊥
-    clash e = absurd cc
+some_number None m ms (inl e) = absurd (none-some _ (sym e))
 some_number None m ms (inr has) = has
 some_number (Some n) m ms (inl e) = let same : m ≡ n = cc in subst (λ (x : ℕ). Contains (n ∷ ms) x) (sym same) (at_head n ms)
 some_number (Some n) m ms (inr has) = in_tail n ms m has
 
 in_numbers : (vs : List (Option ℕ)) (m : ℕ) → Contains vs (Some m) → Contains (flat_map option_to_list vs) m
 in_numbers [] m has = absurd (in_none (Some m) has)
-in_numbers (v ∷ vs) m has = some_number v m (flat_map option_to_list vs) (at (head_or_tail v vs (Some m) has) (λ later. in_numbers vs m later))
-  where
-    at : (Some m ≡ v) ⊎ Contains vs (Some m) → (Contains vs (Some m) → Contains (flat_map option_to_list vs) m) → (Some m ≡ v) ⊎ Contains (flat_map option_to_list vs) m
-    at (inl e) go = inl e
-    at (inr later) go = inr (go later)
+in_numbers (v ∷ vs) m has = some_number v m (flat_map option_to_list vs) (cases (head_or_tail v vs (Some m) has) (λ e. inl e) (λ later. inr (in_numbers vs m later)))
 
 -- at each server, for each pair of received nonces
-module _ (o : Opening) (q : Pair) (kind : q.kind ≡ kinds.Received) where
+module _ (o : Opening) (q : Pair) (kind : q.kind ≡ PairKind.Received) where
   abbrev SafeAt : List Step → ℕ → Type 0
   SafeAt T k = Safe q (acceptances o T k) (since_start o T k) (tried_nonces o T k q) (kept_at (shown_store o T k).kept q)
 
@@ -269,13 +225,10 @@ module _ (o : Opening) (q : Pair) (kind : q.kind ≡ kinds.Received) where
   safe_opening k = record {
     falls = tt;
     floor = λ n has. absurd (in_none n has);
-    last = λ l e. absurd (clash e);
+    last = λ l e. absurd (none-some _ e);
     tried_kept = in_numbers (kept_at (shown_store o [] k).kept q);
-    tried_last = λ l e. absurd (clash e);
+    tried_last = λ l e. absurd (none-some _ e);
   }
-    where
-      clash : {l : ℕ} → ◌≡◌ {A = Option ℕ} None (Some l) → ⊥
-      clash e = absurd cc
 
   safe_actor : (T : List Step) (s : Step) → Legal o T s → is_server o.config s.actor ≡ true → SafeAt T s.actor → SafeAt (s ∷ T) s.actor
   safe_actor T s l its safe = subst (λ b. Safe q (acceptances o (s ∷ T) s.actor) (since_start o (s ∷ T) s.actor) (tried_nonces o (s ∷ T) s.actor q) (kept_at (if b then s.shown else shown_store o T s.actor).kept q)) (sym (same_number s.actor))
@@ -289,22 +242,13 @@ module _ (o : Opening) (q : Pair) (kind : q.kind ≡ kinds.Received) where
       (subst (λ (ns : List ℕ). Safe q (acceptances o T k) (since_start o T k) ns (kept_at (shown_store o (s ∷ T) k).kept q)) (sym (tried_other s.actor k differ s.line by (nonces_of q (acceptances_in_step o T s)) (tried_nonces o T k q)))
       (subst (λ b. Safe q (acceptances o T k) (since_start o T k) (tried_nonces o T k q) (kept_at (if b then s.shown else shown_store o T k).kept q)) (sym (other_number s.actor k (λ e. differ (sym e)))) safe)))
 
-  safe_step : (T : List Step) (s : Step) (k : ℕ) (b : Bool) → (s.actor == k) ≡ b → Legal o T s → is_server o.config k ≡ true → ((n : ℕ) → is_server o.config n ≡ true → SafeAt T n) → SafeAt (s ∷ T) k
-  safe_step T s k true e l its safe =
-      let same : s.actor ≡ k = (Decides-eqb s.actor k).0 e in
-      let acts : is_server o.config s.actor ≡ true = ap (is_server o.config) same ∙ its in
-      subst (SafeAt (s ∷ T)) same (safe_actor T s l acts (safe s.actor acts))
-  safe_step T s k false e l its safe = safe_other T s k (λ same. not_same same) l (safe k its)
-    where
-      not_same : k ≡ s.actor → ⊥
-      not_same same = let clash : true ≡ false = sym (same_number s.actor) ∙ ap (λ n. s.actor == n) (sym same) ∙ e in absurd cc
-
   pub safe_trace : (T : List Step) → LegalTrace o T → (k : ℕ) → is_server o.config k ≡ true → SafeAt T k
-  safe_trace [] legal k its = safe_opening k
-  safe_trace (s ∷ T) legal k its = safe_step T s k (s.actor == k) refl legal.0 its (safe_trace T legal.1)
+  safe_trace [] legal = λ k its. safe_opening k
+  safe_trace (s ∷ T) legal = of_each (λ k. is_server o.config k ≡ true → SafeAt (s ∷ T) k) s.actor
+      (λ its. safe_actor T s legal.0 its (safe_trace T legal.1 s.actor its)) (λ k differ its. safe_other T s k differ legal.0 (safe_trace T legal.1 k its))
 
 -- pairs of other kinds have no accepted nonces
-no_nonces : (q : Pair) → q.kind ≢ kinds.Received → (acc : List Acceptance) → nonces_of q acc ≡ []
+no_nonces : (q : Pair) → q.kind ≢ PairKind.Received → (acc : List Acceptance) → nonces_of q acc ≡ []
 no_nonces q other [] = refl
 no_nonces q other (a ∷ acc) = at (eq_by_cmp pair_cmp q (pair_of a.message)) refl (no_nonces q other acc)
   where
@@ -316,19 +260,13 @@ pub nonces_rise : (o : Opening) (T : List Step) → LegalTrace o T → NoncesRis
 nonces_rise o T legal server q = at q.kind refl
   where
     at : (kind : PairKind) → q.kind ≡ kind → Falls (nonces_of q (acceptances o T server))
-    at kinds.Received e = received (is_server o.config server) refl
+    at PairKind.Received e = received (is_server o.config server) refl
       where
         received : (b : Bool) → is_server o.config server ≡ b → Falls (nonces_of q (acceptances o T server))
         received true its = (safe_trace o q e T legal server its).falls
         received false other = subst (λ (acc : List Acceptance). Falls (nonces_of q acc)) (sym (none_accepted o server other T legal)) tt
-    at kinds.Sent e = subst Falls (sym (no_nonces q (λ is. sent_clash (sym e ∙ is)) (acceptances o T server))) tt
-      where
-        sent_clash : kinds.Sent ≢ kinds.Received
-        sent_clash is = absurd cc
-    at kinds.Notice e = subst Falls (sym (no_nonces q (λ is. notice_clash (sym e ∙ is)) (acceptances o T server))) tt
-      where
-        notice_clash : kinds.Notice ≢ kinds.Received
-        notice_clash is = absurd cc
+    at PairKind.Sent e = subst Falls (sym (no_nonces q (λ is. let clash : PairKind.Sent ≡ PairKind.Received = sym e ∙ is in absurd cc) (acceptances o T server))) tt
+    at PairKind.Notice e = subst Falls (sym (no_nonces q (λ is. let clash : PairKind.Notice ≡ PairKind.Received = sym e ∙ is in absurd cc) (acceptances o T server))) tt
 
 -- a replay has a base
 module _ (t : Context) (server saved : ℕ) where
@@ -337,25 +275,14 @@ module _ (t : Context) (server saved : ℕ) where
     acts : t.node ≡ server
     base : IsBase (last_in t (pair_of x.message)) (values t (pair_of x.message)) (Some saved)
 
-  has_base : (a : Arrival) (now : ℕ) → Arrives t a (lines.Refused server (refusals.Receive (Replay saved))) → (x : Acceptance) → Contains (acceptances_in (Some a) now) x → HasBase x
-  has_base a now row x has = record { kind = row.0.kind; acts = row.0.acts; base = subst (λ (y : Acceptance). IsBase (last_in t (pair_of y.message)) (values t (pair_of y.message)) (Some saved)) (sym only) row.1.counts }
-    where
-      one : Acceptance
-      one = record { message = row.1.message; from = a.from; moment = now }
+  has_base : (a : Arrival) (now : ℕ) → Arrives t a (Line.Refused server (Refusal.Receive (Replay saved))) → (x : Acceptance) → Contains (acceptances_in (Some a) now) x → HasBase x
+  has_base a now row x has =
+      let one = only _ x (subst (λ (xs : List Acceptance). Contains xs x) (taken_one a now row.1.message row.1.admits.read) has) in
+      record { kind = row.0.kind; acts = row.0.acts; base = subst (λ (y : Acceptance). IsBase (last_in t (pair_of y.message)) (values t (pair_of y.message)) (Some saved)) (sym one) row.1.counts }
 
-      in_one : Contains (record { message = row.1.message; from = a.from; moment = now } ∷ []) x
-      in_one = subst (λ (xs : List Acceptance). Contains xs x) (taken_one a now row.1.message row.1.admits.read) has
-
-      at : (x ≡ record { message = row.1.message; from = a.from; moment = now }) ⊎ Contains [] x → x ≡ record { message = row.1.message; from = a.from; moment = now }
-      at (inl e) = e
-      at (inr no_more) = absurd (in_none x no_more)
-
-      only : x ≡ record { message = row.1.message; from = a.from; moment = now }
-      only = at (head_or_tail _ [] x in_one)
-
-  replay_base : (e : EventValue) → MayCome t e (lines.Refused server (refusals.Receive (Replay saved))) → (x : Acceptance) → Contains (acceptances_in (arrival_in (bag t.opening t.past) e) (clock t.past)) x → HasBase x
-  replay_base (events.Deliver k fate) row x has = has_base (arrival_of row.item) (clock t.past) row.arrives x (subst (λ (a : Option Arrival). Contains (acceptances_in a (clock t.past)) x) (ap (option_map arrival_of) row.sent) has)
-  replay_base (events.Junk to from bytes) row x has = has_base (junk_arrival from bytes) (clock t.past) row.arrives x has
+  replay_base : (e : EventValue) → MayCome t e (Line.Refused server (Refusal.Receive (Replay saved))) → (x : Acceptance) → Contains (acceptances_in (arrival_in (bag t.opening t.past) e) (clock t.past)) x → HasBase x
+  replay_base (Event.Deliver k fate) row x has = has_base (arrival_of row.item) (clock t.past) row.arrives x (subst (λ (a : Option Arrival). Contains (acceptances_in a (clock t.past)) x) (ap (option_map arrival_of) row.sent) has)
+  replay_base (Event.Junk to from bytes) row x has = has_base (junk_arrival from bytes) (clock t.past) row.arrives x has
   replay_base _ row x has = absurd row
 
 based : (q : Pair) (acc since_start : List Acceptance) (tried_nonces : List ℕ) (kept : List (Option ℕ)) → Safe q acc since_start tried_nonces kept → (saved : ℕ) (last : Option ℕ) → last_of q since_start ≡ last → IsBase last kept (Some saved) → Contains tried_nonces saved

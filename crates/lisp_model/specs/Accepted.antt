@@ -6,10 +6,9 @@ use Rattle.std.specs.Option.{option_to_list}
 use Rattle.lisp_nonces.specs.declared.pair.Pair.{Pair}
 use Rattle.lisp_nonces.specs.Kept.{kept_at}
 use Rattle.lisp_admission.specs.declared.refused.Refused.TheVariants.{StoreSave}
-use Rattle.lisp_model.specs.declared.line.Line.{Line}
 use Rattle.lisp_model.specs.declared.line.Line.TheVariants as lines
 use Rattle.lisp_model.specs.declared.refusal.Refusal.TheVariants.{Receive}
-use Rattle.lisp_model.specs.Trace.{Step, Opening, shown_store, clock}
+use Rattle.lisp_model.specs.Trace.{Step, Opening, shown_store, clock, Line}
 use Rattle.lisp_model.specs.Held.{Acceptance, is_of_pair}
 use Rattle.lisp_model.specs.Bag.{arrival_in, acceptances_in, bag}
 

@@ -5,7 +5,7 @@ use Rattle.lisp_records.specs.declared.address.Addr.{Addr}
 use Rattle.lisp_records.specs.Parts.{part_at}
 use Rattle.lisp_policy.specs.Configuration.{ConfigValue}
 use Rattle.lisp_policy.specs.Site.{SiteValue}
-use Rattle.lisp_messages.specs.declared.fault.ReadFault.{ReadFault}
+pub use Rattle.lisp_messages.specs.declared.fault.ReadFault.{ReadFault}
 use Rattle.lisp_messages.specs.Message.{MessageValue, MapRegisterValue, MapNotifyValue, Registers, Notifies}
 use Rattle.lisp_messages.specs.Authentic.{signed}
 use Rattle.lisp_messages.specs.Written.{written}
@@ -14,9 +14,8 @@ use Rattle.lisp_etr.specs.Hearing.{ack_of}
 use Rattle.lisp_etr.specs.Sending.{map_register_of}
 use Rattle.lisp_admission.specs.Checks.{reply_to}
 use Rattle.lisp_model.specs.declared.event.Event.TheVariants as events
-use Rattle.lisp_model.specs.declared.line.Line.{Line}
 use Rattle.lisp_model.specs.declared.line.Line.TheVariants as lines
-use Rattle.lisp_model.specs.Trace.{EventValue, Step, Opening, address_at, router_at, secret_at, etr_config, sites, clock, database}
+use Rattle.lisp_model.specs.Trace.{EventValue, Step, Opening, address_at, router_at, secret_at, etr_config, sites, clock, database, Line}
 use Rattle.lisp_model.specs.Held.{Acceptance, heard_last, records_of}
 use Rattle.lisp_model.specs.Timers.{notice_to}
 

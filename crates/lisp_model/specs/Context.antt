@@ -3,12 +3,11 @@ use Rattle.std.specs.Prelude.{◌≡◌, ◌≢◌, ◌⊎◌, ℕ, ◌-◌, ◌
 use Rattle.std.specs.List.{Contains}
 use Rattle.lisp_policy.specs.Site.{SiteValue}
 use Rattle.lisp_nonces.specs.declared.pair.Pair.{Pair}
-use Rattle.lisp_nonces.specs.declared.fault.StoreFault.{StoreFault}
+pub use Rattle.lisp_nonces.specs.declared.fault.StoreFault.{StoreFault}
 use Rattle.lisp_nonces.specs.declared.fault.StoreFault.TheVariants as faults
-use Rattle.lisp_nonces.specs.declared.fate.Fate.{Fate}
 use Rattle.lisp_nonces.specs.declared.fate.Fate.TheVariants.{Doubt, LoadFails as FailedLoads}
 use Rattle.lisp_nonces.specs.Kept.{kept_at, with_value, picked, NoneBelow, SameElsewhere, InDoubt, Narrows}
-use Rattle.lisp_model.specs.Trace.{ShownStore, Step, Opening, is_server, is_router, is_up, sites}
+use Rattle.lisp_model.specs.Trace.{ShownStore, Step, Opening, is_server, is_router, is_up, sites, Fate}
 
 -- what went before; which node acts; what its store is armed with, and what it shows before and after
 pub record Context : Type 0 where

@@ -6,9 +6,8 @@ use Rattle.lisp_records.specs.Address.{addr_eq}
 use Rattle.lisp_policy.specs.Configuration.{ConfigValue}
 use Rattle.lisp_etr.specs.declared.notify_fault.NotifyFault.{NotifyFault}
 use Rattle.lisp_etr.specs.Hearing.{ServerNotify, checked_notify}
-use Rattle.lisp_model.specs.declared.line.Line.{Line}
 use Rattle.lisp_model.specs.declared.line.Line.TheVariants as lines
-use Rattle.lisp_model.specs.Trace.{Step, Opening, address_at, router_at, etr_config}
+use Rattle.lisp_model.specs.Trace.{Step, Opening, address_at, router_at, etr_config, Line}
 use Rattle.lisp_model.specs.Bag.{Arrival}
 use Rattle.lisp_model.specs.Numbers.{part_numbers}
 

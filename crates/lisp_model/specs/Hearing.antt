@@ -1,14 +1,13 @@
 -- What comes of a message that arrives at a router (RFC 9301 section 5.7).
 use Rattle.std.specs.Prelude.{◌≡◌, ◌⊎◌, ◌≤◌, ℕ, nat_le, true, List, length, Option, Some, None, Result, Ok, Err, if◌then◌else◌}
-use Rattle.lisp_etr.specs.declared.notify_fault.NotifyFault.{NotifyFault}
+pub use Rattle.lisp_etr.specs.declared.notify_fault.NotifyFault.{NotifyFault}
 use Rattle.lisp_etr.specs.declared.notify_fault.NotifyFault.TheVariants.{Stale, OutOfMemory}
 use Rattle.lisp_etr.specs.Hearing.{ServerNotify, first_notice}
 use Rattle.lisp_etr.specs.Rounds.{greatest, part_with}
 use Rattle.lisp_messages.specs.Reading.{HasHead, HasRecords}
-use Rattle.lisp_model.specs.declared.line.Line.{Line}
 use Rattle.lisp_model.specs.declared.line.Line.TheVariants as lines
 use Rattle.lisp_model.specs.declared.refusal.Refusal.TheVariants as refusals
-use Rattle.lisp_model.specs.Trace.{etr_config}
+use Rattle.lisp_model.specs.Trace.{etr_config, Line}
 use Rattle.lisp_model.specs.Bag.{Arrival, bag}
 use Rattle.lisp_model.specs.Counted.{notify_at, latest_nonces}
 use Rattle.lisp_model.specs.Context.{Context, IsAtRouter, Same}

@@ -7,9 +7,8 @@ use Rattle.lisp_records.specs.Record.{MapRecordValue}
 use Rattle.lisp_policy.specs.Configuration.{ConfigValue}
 use Rattle.lisp_messages.specs.Message.{MapRegisterValue}
 use Rattle.lisp_etr.specs.Sending.{map_register_of}
-use Rattle.lisp_model.specs.declared.line.Line.{Line}
 use Rattle.lisp_model.specs.declared.line.Line.TheVariants as lines
-use Rattle.lisp_model.specs.Trace.{Step, Opening, router_at, etr_config_of, database}
+use Rattle.lisp_model.specs.Trace.{Step, Opening, router_at, etr_config_of, database, Line}
 
 -- a Map-Register that was sent: by whom, under which key and nonce, to which server; the database then, and which part
 -- of it; and after how many steps

@@ -4,9 +4,8 @@ use Rattle.std.specs.List.{Contains}
 use Rattle.lisp_policy.specs.Configuration.{ConfigValue}
 use Rattle.lisp_admission.specs.Checks.{secret_at as known_secret}
 use Rattle.lisp_model.specs.declared.event.Event.TheVariants as events
-use Rattle.lisp_model.specs.declared.line.Line.{Line}
 use Rattle.lisp_model.specs.declared.line.Line.TheVariants as lines
-use Rattle.lisp_model.specs.Trace.{EventValue, Step, Opening, router_at}
+use Rattle.lisp_model.specs.Trace.{EventValue, Step, Opening, router_at, Line}
 
 -- the keys that a router was started under or went over to since its store was lost last, the last one first; a start
 -- that was refused counts

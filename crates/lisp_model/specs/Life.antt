@@ -1,9 +1,8 @@
 -- Life: when the present life of a node began. A Map-Server that has just started holds no rows yet, so that it doesn't
 -- know which prefixes are missing (RFC 9301 section 8.3).
 use Rattle.std.specs.Prelude.{ℕ, ◌==◌, List, [], ◌∷◌, if◌then◌else◌}
-use Rattle.lisp_model.specs.declared.line.Line.{Line}
 use Rattle.lisp_model.specs.declared.line.Line.TheVariants as lines
-use Rattle.lisp_model.specs.Trace.{Step, clock}
+use Rattle.lisp_model.specs.Trace.{Step, clock, Line}
 
 -- a restart begins a life at its moment, and so do sites under which a Map-Server starts anew
 abbrev pub began_after : Line → ℕ → ℕ → ℕ → ℕ

@@ -5,7 +5,6 @@ use Rattle.std.specs.List.{Contains}
 use Rattle.std.specs.Option.{IsSomeAnd}
 use Rattle.lisp_nonces.specs.declared.fault.StoreFault.{StoreFault}
 use Rattle.lisp_nonces.specs.declared.fault.StoreFault.TheVariants as stores
-use Rattle.lisp_nonces.specs.declared.fate.Fate.{Fate}
 use Rattle.lisp_nonces.specs.Kept.{number}
 use Rattle.lisp_messages.specs.Message.{MapRegisterValue, MapNotifyValue, Notifies}
 use Rattle.lisp_records.specs.Parts.{most_parts}
@@ -19,11 +18,9 @@ use Rattle.lisp_admission.specs.Checks.{most_jump_at}
 use Rattle.lisp_admission.specs.Nonces.{IsBelow, IsNear}
 use Rattle.lisp_admission.specs.Pairs.{pair_of}
 use Rattle.lisp_model.specs.declared.event.Event.TheVariants as events
-use Rattle.lisp_model.specs.declared.line.Line.{Line}
 use Rattle.lisp_model.specs.declared.line.Line.TheVariants as lines
-use Rattle.lisp_model.specs.declared.refusal.Refusal.{Refusal}
 use Rattle.lisp_model.specs.declared.refusal.Refusal.TheVariants as refusals
-use Rattle.lisp_model.specs.Trace.{EventValue, Step, Opening, is_server, is_listed, is_up, is_router}
+use Rattle.lisp_model.specs.Trace.{EventValue, Step, Opening, is_server, is_listed, is_up, is_router, Line, Refusal, Fate}
 use Rattle.lisp_model.specs.Timers.{Notice}
 use Rattle.lisp_model.specs.Bag.{Arrival, arrival_in, bag}
 use Rattle.lisp_model.specs.Counted.{latest_nonce, notify_at}

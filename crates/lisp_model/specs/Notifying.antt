@@ -3,7 +3,7 @@ use Rattle.std.specs.Prelude.{◌≡◌, ◌≢◌, ◌<◌, ◌≤◌, ℕ, ◌
 use Rattle.lisp_records.specs.Parts.{fits_message}
 use Rattle.lisp_records.specs.Record.{MapRecordValue}
 use Rattle.lisp_nonces.specs.Kept.{number}
-use Rattle.lisp_admission.specs.declared.notice_fault.NoticeFault.{NoticeFault}
+pub use Rattle.lisp_admission.specs.declared.notice_fault.NoticeFault.{NoticeFault}
 use Rattle.lisp_admission.specs.declared.notice_fault.NoticeFault.TheVariants.{NotRegistered, TooLarge, StoreLoad, NonceSpent, OutOfMemory, StoreSave, NotDue}
 use Rattle.lisp_admission.specs.Pairs.{notice_pair}
 use Rattle.lisp_admission.specs.Nonces.{nonce_after}

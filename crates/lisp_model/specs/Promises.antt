@@ -2,7 +2,6 @@
 -- addresses, and routers with distinct identities that list servers.
 use Rattle.std.specs.Prelude.{◌≡◌, ◌≢◌, ℕ, ◌<◌, ◌≤◌, Bool, true, false, List, [], ◌∷◌, ◌++◌, Some, ◌==◌, if◌then◌else◌}
 use Rattle.std.specs.List.{Contains}
-use Rattle.lisp_model.specs.declared.line.Line.{Line}
 use Rattle.lisp_records.specs.Address.{PrefixValue}
 use Rattle.lisp_records.specs.Parts.{part_count}
 use Rattle.lisp_records.specs.Row.{RowValue}
@@ -18,7 +17,7 @@ use Rattle.lisp_admission.specs.declared.refused.Refused.TheVariants.{Replay}
 use Rattle.lisp_model.specs.declared.event.Event.TheVariants as events
 use Rattle.lisp_model.specs.declared.line.Line.TheVariants as lines
 use Rattle.lisp_model.specs.declared.refusal.Refusal.TheVariants.{Receive}
-use Rattle.lisp_model.specs.Trace.{EventValue, Step, Opening, shown_store, clock, is_up, is_server, is_router, key, sites, database, address_at, router_at}
+use Rattle.lisp_model.specs.Trace.{EventValue, Step, Opening, shown_store, clock, is_up, is_server, is_router, key, sites, database, address_at, router_at, Line}
 use Rattle.lisp_model.specs.History.{SentRegister, message_of, record_in, history}
 use Rattle.lisp_model.specs.Held.{Acceptance, held_row, held_rows}
 use Rattle.lisp_model.specs.Timers.{round, Notice, notices, last_notice}

@@ -8,7 +8,7 @@ use Rattle.lisp_nonces.specs.declared.pair.Pair.{Pair}
 use Rattle.lisp_nonces.specs.declared.fault.StoreFault.{StoreFault}
 use Rattle.lisp_messages.specs.declared.fault.ReadFault.{ReadFault}
 use Rattle.lisp_messages.specs.Message.{MessageValue, MapRegisterValue, MapNotifyValue, Registers, Notifies}
-use Rattle.lisp_admission.specs.declared.refused.Refused.{Refused}
+pub use Rattle.lisp_admission.specs.declared.refused.Refused.{Refused}
 use Rattle.lisp_admission.specs.declared.refused.Refused.TheVariants.{Read, NotMine, BadAuth, StoreLoad, Replay, Jump, Full as FullOf, OutOfMemory, StoreSave, NoNotice}
 use Rattle.lisp_admission.specs.Nonces.{IsBelow, IsFar, IsNear}
 use Rattle.lisp_admission.specs.Pairs.{router_of, pair_of}

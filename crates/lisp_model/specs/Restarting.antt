@@ -2,7 +2,7 @@
 use Rattle.std.specs.Prelude.{◌≡◌, ◌⊎◌, ℕ, true, List, Option, Some, None, Ok}
 use Rattle.lisp_records.specs.Database.{database_of}
 use Rattle.lisp_records.specs.Record.{MapRecordValue}
-use Rattle.lisp_etr.specs.declared.start_fault.StartFault.{StartFault}
+pub use Rattle.lisp_etr.specs.declared.start_fault.StartFault.{StartFault}
 use Rattle.lisp_etr.specs.declared.start_fault.StartFault.TheVariants.{Store, OutOfMemory}
 use Rattle.lisp_model.specs.Trace.{is_server, is_router}
 use Rattle.lisp_model.specs.Context.{Context, HasCause, Restarts, Picks}

@@ -2,7 +2,7 @@
 use Rattle.std.specs.Prelude.{◌≡◌, ◌≢◌, ℕ, true, List, Option}
 use Rattle.lisp_records.specs.Record.{MapRecordValue}
 use Rattle.lisp_nonces.specs.Kept.{KeepsSome}
-use Rattle.lisp_etr.specs.declared.rotate_fault.RotateFault.{RotateFault}
+pub use Rattle.lisp_etr.specs.declared.rotate_fault.RotateFault.{RotateFault}
 use Rattle.lisp_etr.specs.declared.rotate_fault.RotateFault.TheVariants.{SameKey, Store}
 use Rattle.lisp_etr.specs.declared.start_fault.StartFault.{StartFault}
 use Rattle.lisp_model.specs.Trace.{is_router, key}

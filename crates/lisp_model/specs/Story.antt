@@ -35,10 +35,9 @@ use Rattle.lisp_nonces.specs.declared.pair.Pair.{Pair}
 use Rattle.lisp_nonces.specs.declared.pair.PairKind.TheVariants as kinds
 use Rattle.lisp_admission.specs.declared.refused.Refused.TheVariants as refuseds
 use Rattle.lisp_model.specs.declared.event.Event.TheVariants as events
-use Rattle.lisp_model.specs.declared.line.Line.{Line}
 use Rattle.lisp_model.specs.declared.line.Line.TheVariants as lines
 use Rattle.lisp_model.specs.declared.refusal.Refusal.TheVariants as refusals
-use Rattle.lisp_model.specs.Trace.{EventValue, ShownStore, Step, Opening, shown_store}
+use Rattle.lisp_model.specs.Trace.{EventValue, ShownStore, Step, Opening, shown_store, Line}
 
 -- an xTR-ID, by its last byte
 abbrev pub xtr_of : ℕ → List ℕ

@@ -8,9 +8,8 @@ use Rattle.lisp_records.specs.Router.{router_eq}
 use Rattle.lisp_policy.specs.Configuration.{ConfigValue}
 use Rattle.lisp_etr.specs.Timers.{due_after}
 use Rattle.lisp_admission.specs.NoticeTimer.{due_after as notice_due_after, has_come}
-use Rattle.lisp_model.specs.declared.line.Line.{Line}
 use Rattle.lisp_model.specs.declared.line.Line.TheVariants as lines
-use Rattle.lisp_model.specs.Trace.{Step, Opening, clock, database, router_at}
+use Rattle.lisp_model.specs.Trace.{Step, Opening, clock, database, router_at, Line}
 use Rattle.lisp_model.specs.Numbers.{part_numbers}
 
 -- a round of a router's Map-Registers of one part to one server: when the first is due, and the moments of those that

@@ -11,14 +11,15 @@ use Rattle.lisp_records.specs.Record.{MapRecordValue}
 use Rattle.lisp_policy.specs.Site.{SiteValue}
 use Rattle.lisp_policy.specs.Configuration.{ConfigValue, RouterEntryValue}
 use Rattle.lisp_nonces.specs.Kept.{Kept}
-use Rattle.lisp_nonces.specs.declared.fate.Fate.{Fate}
+pub use Rattle.lisp_nonces.specs.declared.fate.Fate.{Fate}
 use Rattle.lisp_nonces.specs.declared.fate.Fate.TheVariants.{Done}
 use Rattle.lisp_etr.specs.Config.{EtrConfigValue}
 use Rattle.lisp_admission.specs.Checks.{secret_at as known_secret}
-use Rattle.lisp_model.specs.declared.event.Event.{Event}
+pub use Rattle.lisp_model.specs.declared.event.Event.{Event}
 use Rattle.lisp_model.specs.declared.event.Event.TheVariants as events
-use Rattle.lisp_model.specs.declared.line.Line.{Line}
+pub use Rattle.lisp_model.specs.declared.line.Line.{Line}
 use Rattle.lisp_model.specs.declared.line.Line.TheVariants as lines
+pub use Rattle.lisp_model.specs.declared.refusal.Refusal.{Refusal}
 
 -- an event, wherever its parts lie in memory
 abbrev pub EventValue : Type 0

@@ -54,7 +54,7 @@ pub fn others_stay()
 
 /// What meets its conditions is sent, accepted, counted, answered or done, save where memory or a store's device
 /// failed.
-#[tactic(auto, using(crate::proofs::MustLaws::must))]
+#[tactic(auto, using(crate::proofs::Sound::must))]
 pub fn must_be_done()
     ensures { OfLegalSteps (Must IsExcused) }
 {}
@@ -109,7 +109,7 @@ pub fn counted_messages_were_accepted()
 
 /// A part that the database of a router that is up doesn't have has no sends in its round, so that a Map-Notify that
 /// counts for it moves no timer.
-#[tactic(auto, using(crate::proofs::LatestLaws::absent_parts_rest))]
+#[tactic(auto, using(crate::proofs::Sound::absent_parts_rest))]
 pub fn absent_parts_rest()
     ensures { OfLegalTraces AbsentPartsRest }
 {}

@@ -1,4 +1,4 @@
-use Rattle.lisp_model.proofs.MustLaws.{must_with_memory}
+use Rattle.lisp_model.proofs.Sound.{must_with_memory}
 use Rattle.lisp_model.proofs.laws.must_be_done_with_memory.Goals as goal
 
 pub returns : goal.returns

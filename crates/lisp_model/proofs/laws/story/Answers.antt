@@ -1,5 +1,5 @@
 use Rattle.std.proofs.Common.{refl}
-use Rattle.lisp_model.proofs.Examples.Story.{six_steps_legal}
+use Rattle.lisp_model.proofs.Examples.LegalRows.{six_steps_legal}
 use Rattle.lisp_model.proofs.laws.story.Goals as goal
 use Rattle.lisp_records.specs.Parts.{cut, cut_from}
 use Rattle.lisp_records.specs.Written.{written}
