@@ -37,14 +37,14 @@ use Rattle.lisp_model.specs.Bag.{Arrival, bytes_of, as_notify, ack_item, arrival
 use Rattle.lisp_model.specs.Counted.{server_from, notify_at, latest_nonces}
 use Rattle.lisp_model.specs.Hearing.{refused_with, counted_line, counted_or_stale, line_of, IsToAnswer, Hears}
 use Rattle.lisp_model.specs.Legal.{Arrives, IsDelivered, MayCome}
-use Rattle.lisp_model.specs.Sending.{last_sent, start_values}
+use Rattle.lisp_model.specs.Sending.{last_sent, pair_at, start_values}
 use Rattle.lisp_model.specs.Context.{Context, IsBase}
 use Rattle.lisp_nonces.specs.declared.fate.Fate.TheVariants.{Done}
 use Rattle.lisp_refinement.specs.World.{DatagramValue, UsedKeysState, RouterNodeState, RouterCoreState, Up, Down, WorldState}
 use Rattle.lisp_refinement.specs.Calls.{CoreHears as HearsAs, UsesStore}
 use Rattle.lisp_refinement.specs.Events.{address_of, server_number, router_line, acknowledges, UpRouterHears, RouterHears, ArrivesAtRouter, node_with}
 use Rattle.lisp_refinement.specs.Stands.{Shows, Carries, StandsForRounds, StandsForEtr, StandsForCore, Marks, StandsForKeys, StandsForRouter, Stands, StandsAfter}
-use Rattle.lisp_refinement.proofs.Acting.{adds_none, adds_one, Shown-in, uses_shown, address_is, step_of, turn_at, shown_now, RouterStep, moved, acts_router, acts_part, acts_shows, acts_once, counted_here, counted_there, rounds_set, stands_by}
+use Rattle.lisp_refinement.proofs.Acting.{adds_none, adds_one, Shown-in, uses_shown, address_is, step_of, turn_at, shown_now, RouterStep, moved, acts_router, acts_part, acts_shows, acts_once, counted_here, counted_there, rounds_set, stands_by, SameLife, SameRounds, up_stays, etr_goes, keys_stay, down_step}
 use Rattle.lisp_refinement.proofs.Places.{latest_known, rounds_stay, found_part, Placed, first_place, position_map}
 use Rattle.lisp_refinement.proofs.Gets.{get_within}
 use Rattle.lisp_refinement.proofs.Heads.{reads_signed}
@@ -108,46 +108,11 @@ IsArrival (events.Deliver k fate) = Unit {0}
 IsArrival (events.Junk to from bytes) = Unit {0}
 IsArrival _ = ⊥
 
--- no router goes up or down by that
-same_up : (event : EventValue) → IsArrival event → (line : Line) (r : ℕ) (old : Bool) → up_after event line r old ≡ old
-same_up (events.Deliver k fate) is line r old = refl
-same_up (events.Junk to from bytes) is line r old = refl
-same_up _ is line r old = absurd is
-
--- and none has another database
-same_database : (event : EventValue) → IsArrival event → (line : Line) (r : ℕ) (old : List MapRecordValue) → database_after event line r old ≡ old
-same_database (events.Deliver k fate) is line r old = refl
-same_database (events.Junk to from bytes) is line r old = refl
-same_database _ is line r old = absurd is
-
--- nor another key
-same_key : (event : EventValue) → IsArrival event → (line : Line) (r old : ℕ) → key_after event line r old ≡ old
-same_key (events.Deliver k fate) is line r old = refl
-same_key (events.Junk to from bytes) is line r old = refl
-same_key _ is line r old = absurd is
-
--- and no key was used
-same_since_loss : (event : EventValue) → IsArrival event → (line : Line) (r : ℕ) (old : List ℕ) → keys_since_loss_after event line r old ≡ old
-same_since_loss (events.Deliver k fate) is line r old = refl
-same_since_loss (events.Junk to from bytes) is line r old = refl
-same_since_loss _ is line r old = absurd is
-
--- nor was its store lost
-same_before_loss : (event : EventValue) → IsArrival event → (r : ℕ) (since old : List ℕ) → keys_before_loss_after event r since old ≡ old
-same_before_loss (events.Deliver k fate) is r since old = refl
-same_before_loss (events.Junk to from bytes) is r since old = refl
-same_before_loss _ is r since old = absurd is
-
--- what is kept of a router's configuration and its keys
-module _ (o : Opening) (T : List Step) (event : EventValue) (arrival : IsArrival event) (node : ℕ) (s : ShownStore) (line : Line) where
-  config_heard : etr_config o (step_of event node s line ∷ T) node ≡ etr_config o T node
-  config_heard = ap (etr_config_under o.config (router_at o.config node)) (same_key event arrival line node (key o T node))
-
-  keys_heard : (used : UsedKeysState) → StandsForKeys o T node used → StandsForKeys o (step_of event node s line ∷ T) node used
-  keys_heard used stood = record {
-    since_loss = subst (Marks used.since_loss) (sym (same_since_loss event arrival line node (keys_since_loss o T node))) stood.since_loss;
-    before_loss = subst (Marks used.before_loss) (sym (same_before_loss event arrival node (keys_since_loss o T node) (keys_before_loss o T node))) stood.before_loss;
-  }
+-- that leaves a router its configuration and its keys
+heard_life : (o : Opening) (T : List Step) (event : EventValue) → IsArrival event → (node : ℕ) (s : ShownStore) (line : Line) → SameLife o T (step_of event node s line ∷ T) node
+heard_life o T (events.Deliver k fate) is node s line = record { up = refl; under = refl; since_loss = refl; before_loss = refl; given = refl }
+heard_life o T (events.Junk to from bytes) is node s line = record { up = refl; under = refl; since_loss = refl; before_loss = refl; given = refl }
+heard_life o T _ is node s line = absurd is
 
 -- an answer is what is expected, or out of memory
 given : {X : Type 0} (answer expected : Result X NotifyFault) → Gives (λ x. x) answer expected → (answer ≡ expected) ⊎ (answer ≡ Err faults.OutOfMemory)
@@ -213,23 +178,16 @@ module _ (A : Type 0) (old : WorldState) (o : Opening) (T : List Step) (stand : 
   hears_row : (line : Line) → (line ≡ line_of turn (notify_at o T node a)) ⊎ (HasHead a.bytes × (HasRecords a.bytes ⊎ IsToAnswer turn a) × (line ≡ refused_with turn faults.OutOfMemory)) → Hears turn a line
   hears_row line comes = record { acts = record { kind = kind; acts = refl; state = own.up }; same = refl; comes = comes }
 
-  -- the router goes on, with other rounds at most
-  goes_on : (line : Line) (all : List Rounds) → last_sent (step line ∷ T) node ≡ last_sent T node → start_values o (step line ∷ T) node ≡ start_values o T node → length all ≡ length e.rounds
-      → ((i k : ℕ) (rs : Rounds) → slice_get servers i ≡ Some k → slice_get all i ≡ Some rs → StandsForRounds (step line ∷ T) node k rs) → StandsForEtr o (step line ∷ T) node (record e { rounds = all })
-  goes_on line all last start count each = record {
-    up = same_up event arrival line node (is_up T node) ∙ own.up;
-    config = own.config ∙ sym (config_heard o T event arrival node (shown_store o T node) line);
-    database = own.database ∙ sym (same_database event arrival line node (database o T node));
-    last = (own.last.0, subst (λ (p : Option ℕ × List (Option ℕ)). IsBase p.0 p.1 own.last.0) {x = (last_sent T node, start_values o T node)} {y = (last_sent (step line ∷ T) node, start_values o (step line ∷ T) node)} (λ i. (sym last i, sym start i)) own.last.1, own.last.2);
-    safe = subst (λ (p : ShownStore × EtrConfigValue). NoneBelow e.safe (kept_at p.0.kept (sent_pair p.1)))
-        (λ i. (sym (shown_now o T event node (shown_store o T node) line) i, sym (config_heard o T event arrival node (shown_store o T node) line) i)) own.safe;
-    count = count ∙ own.count;
-    rounds = each;
-  }
+  -- the router goes on: its configuration, and what is safe
+  life : (line : Line) → SameLife o T (step line ∷ T) node
+  life line = heard_life o T event arrival node (shown_store o T node) line
 
-  -- the node around it
-  router_part : (line : Line) (etr : EtrState) → StandsForEtr o (step line ∷ T) node etr → StandsForRouter o (step line ∷ T) node (record before { core = Up etr; store = store })
-  router_part line etr core = record { me = part.me; servers = part.servers; used = keys_heard o T event arrival node (shown_store o T node) line before.used part.used; core = core }
+  safe : (line : Line) → NoneBelow e.safe (kept_at (shown_store o (step line ∷ T) node).kept (pair_at o T node))
+  safe line = subst (λ (x : ShownStore). NoneBelow e.safe (kept_at x.kept (pair_at o T node))) (sym (shown_now o T event node (shown_store o T node) line)) own.safe
+
+  -- with the rounds that it had
+  still : (line : Line) → SameRounds o T (step line ∷ T) node → StandsForRouter o (step line ∷ T) node (record before { core = Up e; store = store })
+  still line rounds = up_stays o T (step line ∷ T) node (life line) rounds before before.used store e e refl refl part own (safe line)
 
   -- it is refused
   refuses : (fault : NotifyFault) → (refused_with turn fault ≡ line_of turn (notify_at o T node a)) ⊎ (HasHead a.bytes × (HasRecords a.bytes ⊎ IsToAnswer turn a) × (refused_with turn fault ≡ refused_with turn faults.OutOfMemory)) → ComesBy (Err fault)
@@ -239,7 +197,7 @@ module _ (A : Type 0) (old : WorldState) (o : Opening) (T : List Step) (stand : 
     obedient = refl;
     adds = adds_none o T (step (refused_with turn fault)) refl;
     shows = shows;
-    part = router_part (refused_with turn fault) e (goes_on (refused_with turn fault) e.rounds refl refl refl (λ i k rs listed is. rounds_stay T node k rs (own.rounds i k rs listed is) (step (refused_with turn fault) ∷ T) (λ p. refl) (λ p r was. record { keeps = was.keeps; latest = was.latest })));
+    part = still (refused_with turn fault) (record { sent = refl; values = refl; times = λ k p. refl; latest = λ k p. refl; counted = λ k p. refl });
   }
 
   -- a Map-Notify passed all checks
@@ -304,7 +262,7 @@ module _ (A : Type 0) (old : WorldState) (o : Opening) (T : List Step) (stand : 
       obedient = refl;
       adds = adds_one o T (step noticed) answered (ack_item o T node a g.message) notice_added (notice_carries fits);
       shows = shows;
-      part = router_part noticed e (goes_on noticed e.rounds refl refl refl (λ i k rs listed is. rounds_stay T node k rs (own.rounds i k rs listed is) (step noticed ∷ T) (λ p. refl) (λ p r was. record { keeps = was.keeps; latest = was.latest })));
+      part = still noticed (record { sent = refl; values = refl; times = λ k p. refl; latest = λ k p. refl; counted = λ k p. refl });
     }
 
     -- an acknowledgement
@@ -354,7 +312,12 @@ module _ (A : Type 0) (old : WorldState) (o : Opening) (T : List Step) (stand : 
           obedient = refl;
           adds = adds_none o T (step said) refl;
           shows = shows;
-          part = router_part said (record e { rounds = new_rounds }) (goes_on said new_rounds refl refl (length-set e.rounds h.server counted_rounds) counts_rounds);
+          part = record {
+            me = part.me;
+            servers = part.servers;
+            used = keys_stay o T (step said ∷ T) node (life said) before.used part.used;
+            core = etr_goes o T (step said ∷ T) node (life said) e new_rounds own refl refl (safe said) (length-set e.rounds h.server counted_rounds) counts_rounds;
+          };
         })
 
       -- it is stale
@@ -435,46 +398,27 @@ module _ (A : Type 0) (old new : WorldState) (o : Opening) (T : List Step) (stan
   shows_here : Shows arrived.acts.before.store (shown_store o T node)
   shows_here = acts_shows old new node arrived.more arrived.acts o T stand
 
-  -- a router that is down says so
-  hears_down : (config : EtrConfigValue) (db : List MapRecordValue) → arrived.acts.before.core ≡ Down config db → StandsForCore o T node (Down config db) → RouterHears A old node arrived.acts.before arrived.acts.after fate from bytes (Down config db) line arrived.more → Goes
-  hears_down config db is core at = moved o T event node (shown_store o T node) _ line (lines.Down node) arrived.more [] arrived.acts.after arrived.acts.before at.1 at.2 at.0 (record {
-    row = record { acts = record { kind = kind_here; acts = refl; state = core.0 }; names = refl; same = refl };
-    count = omega arith;
-    obedient = refl;
-    adds = adds_none o T _ refl;
-    shows = shows_here;
-    part = record {
-      me = part_here.me;
-      servers = part_here.servers;
-      used = keys_heard o T event arrival node (shown_store o T node) (lines.Down node) arrived.acts.before.used part_here.used;
-      core = subst (λ (c : RouterCoreState). StandsForCore o (step_of event node (shown_store o T node) (lines.Down node) ∷ T) node c) (sym is)
-          (same_up event arrival (lines.Down node) node (is_up T node) ∙ core.0, core.1 ∙ sym (config_heard o T event arrival node (shown_store o T node) (lines.Down node)), core.2 ∙ sym (same_database event arrival (lines.Down node) node (database o T node)));
-    };
-  })
-
   -- what a store shows that was armed and used for nothing
   shows_after : (armed : StoreState) → UsesStore arrived.acts.before.store fate armed armed arrived.acts.after.store → Shows arrived.acts.after.store (shown_store o T node)
   shows_after armed uses =
       let x : Shown-in fate armed armed arrived.acts.after.store (shown_store o T node) = uses_shown arrived.acts.before.store armed armed arrived.acts.after.store fate (shown_store o T node) shows_here uses in
       record { honest = x.after.honest; kept = x.after.kept ∙ x.armed_shows.kept; faults = x.after.faults ∙ x.armed_shows.faults; obedient = x.after.obedient ∙ x.armed_shows.obedient }
 
-  -- one that is up hears it
-  hears_up : UpRouterHears A old node arrived.acts.before arrived.acts.after fate from bytes line arrived.more → Goes
-  hears_up up =
+  -- one that is up hears it, and one that is down says so
+  hears_at : (core : RouterCoreState) → StandsForCore o T node core → RouterHears A old node arrived.acts.before arrived.acts.after fate from bytes core line arrived.more → Goes
+  hears_at (Up e) own up =
       let h = up.hears in
       moved o T event node (shown_store o T node) _ line _ arrived.more _ arrived.acts.after _ up.said up.posts (h.is ∙ ap (λ (x : EtrState). record arrived.acts.before { core = Up x; store = arrived.acts.after.store }) h.call.after)
       (comes_by A old o T stand node event arrival a arrives arrived.acts.before kind_here part_here (acts_once old new node arrived.more arrived.acts o T stand) h.etr
       (subst (λ (core : RouterCoreState). StandsForCore o T node core) h.was part_here.core) arrived.acts.after.store (shows_after h.armed h.uses) from from_is
       bytes bytes_are read_is h.left up.answer h.call)
-
-  -- up or down
-  hears_at : (core : RouterCoreState) → arrived.acts.before.core ≡ core → StandsForCore o T node core → RouterHears A old node arrived.acts.before arrived.acts.after fate from bytes core line arrived.more → Goes
-  hears_at (Up e) is own at = hears_up at
-  hears_at (Down config db) is core at = hears_down config db is core at
+  hears_at (Down config db) core at = down_step old new node arrived.more arrived.acts o T stand event _ line at
+      (record { acts = record { kind = kind_here; acts = refl; state = core.0 }; names = refl; same = refl }) refl (heard_life o T event arrival node (shown_store o T node) (lines.Down node))
+      (record { sent = refl; values = refl; times = λ k p. refl; latest = λ k p. refl; counted = λ k p. refl })
 
   -- its row, and what stands of the router afterwards
   pub router_hears : Goes
-  router_hears = hears_at arrived.acts.before.core refl part_here.core arrived.hears
+  router_hears = hears_at arrived.acts.before.core part_here.core arrived.hears
 
 -- A datagram or bytes from outside arrive at a router: the network stands for the trace with that step.
 

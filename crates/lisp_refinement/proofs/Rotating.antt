@@ -40,7 +40,7 @@ use Rattle.lisp_refinement.specs.Events.{IsKeyOf, UsesKeyIfOk, rotate_line, UpRo
 use Rattle.lisp_refinement.specs.Stands.{Marks, StandsForRouter, Stands, shown_by, Shows, StandsForRounds, StandsForEtr, StandsForCore, StandsForKeys, StandsAfter}
 use Rattle.lisp_refinement.specs.Calls.{CoreRotates, IsRotateFaultOf, CoreAnswersRotate}
 use Rattle.lisp_refinement.proofs.Gets.{none_is_some, get_mapped}
-use Rattle.lisp_refinement.proofs.Acting.{here, adds_none, Shown-in, uses_shown, by_fate, step_of, turn_at, shown_now, RouterStep, moved, acts_router, acts_part, acts_shows, stands_by}
+use Rattle.lisp_refinement.proofs.Acting.{here, adds_none, Shown-in, uses_shown, by_fate, step_of, turn_at, shown_now, RouterStep, moved, acts_router, acts_part, acts_shows, down_step, stands_by, up_stays}
 use Rattle.lisp_refinement.proofs.Places.{rounds_stay, rounds_become}
 use Rattle.lisp_refinement.proofs.Restarting.{BeginsAnew, counts_anew, round_anew}
 
@@ -143,22 +143,6 @@ module _ (old new : WorldState) (router key : ℕ) (fate : Fate) (line : Line) (
   -- with the step of the router it does
   ends : (s : ShownStore) → RouterStep o T event router s (MayCome (turn_at o T router fate s) event) line [] after → Rotated-after
   ends s step = (router, s, stands_by old new router [] rotates.acts o T stand event s line refl step)
-
-  -- the router is down
-  rotates_down : (config : EtrConfigValue) (db : List MapRecordValue) → before.core ≡ Down config db → StandsForCore o T router (Down config db) → (after ≡ before) × (line ≡ lines.Down router) → Rotated-after
-  rotates_down config db is core at = ends (shown_store o T router) (moved o T event router (shown_store o T router) (MayCome (turn_at o T router fate (shown_store o T router)) event) line (lines.Down router) [] [] after before at.1 refl at.0 (record {
-    row = (may, record { acts = record { kind = kind; acts = refl; state = core.0 }; names = refl; same = refl });
-    count = omega arith;
-    obedient = refl;
-    adds = adds_none o T _ refl;
-    shows = shows;
-    part = record {
-      me = part.me;
-      servers = part.servers;
-      used = record { since_loss = part.used.since_loss; before_loss = part.used.before_loss };
-      core = subst (λ (c : RouterCoreState). StandsForCore o (step_of event router (shown_store o T router) (lines.Down router) ∷ T) router c) (sym is) core;
-    };
-  }))
 
   -- the router is up
   module _ (e left : EtrState) (own : StandsForEtr o T router e) (armed called : StoreState) (uses : Shown-in fate armed called after.store (shown_store o T router)) (same : KeepsListsIfHonest armed called) where
@@ -274,26 +258,6 @@ module _ (old new : WorldState) (router key : ℕ) (fate : Fate) (line : Line) (
         },
       )
 
-      -- the router stands as it did
-      refused_core : StandsForEtr o with_refusal router e
-      refused_core = record {
-        up = own.up;
-        config = own.config;
-        database = own.database;
-        last = own.last;
-        safe = subst (λ (x : ShownStore). NoneBelow e.safe (kept_at x.kept (pair_at o T router))) (sym (shown_now o T event router (shown_by called) refused))
-            (subst (λ (k : Kept). NoneBelow e.safe (kept_at k (pair_at o T router))) (sym unmoved) own.safe);
-        count = own.count;
-        rounds = λ i k rs listed is. rounds_stay T router k rs (own.rounds i k rs listed is) with_refusal (λ place. refl) (λ place r was. record { keeps = was.keeps; latest = was.latest });
-      }
-
-      -- with the keys that it used
-      keys_stay : StandsForKeys o with_refusal router after.used
-      keys_stay = record {
-        since_loss = subst (λ (x : UsedKeysState). Marks x.since_loss (keys_since_loss o T router)) (sym used) part.used.since_loss;
-        before_loss = subst (λ (x : UsedKeysState). Marks x.before_loss (keys_before_loss o T router)) (sym used) part.used.before_loss;
-      }
-
       -- its step
       refused_step : RouterStep o T event router (shown_by called) (MayCome turn event) refused [] (record before { used = after.used; core = Up left; store = after.store })
       refused_step = record {
@@ -302,7 +266,10 @@ module _ (old new : WorldState) (router key : ℕ) (fate : Fate) (line : Line) (
         obedient = uses.obedient;
         adds = adds_none o T _ refl;
         shows = uses.after;
-        part = record { me = part.me; servers = part.servers; used = keys_stay; core = subst (λ (x : EtrState). StandsForEtr o with_refusal router x) (sym as_it_was) refused_core };
+        part = up_stays o T with_refusal router (record { up = refl; under = refl; since_loss = refl; before_loss = refl; given = refl })
+            (record { sent = refl; values = refl; times = λ k p. refl; latest = λ k p. refl; counted = λ k p. refl }) before after.used after.store e left used as_it_was part own
+            (subst (λ (x : ShownStore). NoneBelow e.safe (kept_at x.kept (pair_at o T router))) (sym (shown_now o T event router (shown_by called) refused))
+            (subst (λ (k : Kept). NoneBelow e.safe (kept_at k (pair_at o T router))) (sym unmoved) own.safe));
       }
 
     -- it did, or refused to
@@ -311,22 +278,17 @@ module _ (old new : WorldState) (router key : ℕ) (fate : Fate) (line : Line) (
     answered is (Ok done) said used call = ends (shown_by called) (moved o T event router (shown_by called) (MayCome turn event) line _ [] [] after _ said refl is (rotated_step used call))
     answered is (Err fault) said used call = ends (shown_by called) (moved o T event router (shown_by called) (MayCome turn event) line _ [] [] after _ said refl is (refused_step fault used call.0 call.1))
 
-  -- it is up
-  rotates_up : UpRouterRotates router key rotates.of.secret fate old.clock before after line → Rotated-after
-  rotates_up up =
+  -- it is up, or down
+  rotates_at : (core : RouterCoreState) → StandsForCore o T router core → RouterRotates router key rotates.of.secret fate old.clock before after core line → Rotated-after
+  rotates_at (Up e) own up =
       let r = up.rotates in
       answered r.etr r.left (subst (λ (core : RouterCoreState). StandsForCore o T router core) r.was part.core) r.call.armed r.call.called
       (uses_shown before.store r.call.armed r.call.called after.store fate (shown_store o T router) shows r.call.uses) r.call.same r.is up.answer up.said r.used r.call.call
+  rotates_at (Down config db) core at = ends (shown_store o T router) (down_step old new router [] rotates.acts o T stand event _ line (at.0, at.1, refl)
+      (may, record { acts = record { kind = kind; acts = refl; state = core.0 }; names = refl; same = refl }) refl
+      (record { up = refl; under = refl; since_loss = refl; before_loss = refl; given = refl })
+      (record { sent = refl; values = refl; times = λ k p. refl; latest = λ k p. refl; counted = λ k p. refl }))
 
-  -- up or down
-  rotates_at : (core : RouterCoreState) → before.core ≡ core → StandsForCore o T router core → RouterRotates router key rotates.of.secret fate old.clock before after core line → Rotated-after
-  rotates_at (Up e) is own at = rotates_up at
-  rotates_at (Down config db) is core at = rotates_down config db is core at
-
-  -- whichever it is
-  rotates_stand : Rotated-after
-  rotates_stand = rotates_at before.core refl part.core rotates.rotates
-
--- a router goes over to another key, refuses to, or is down, and the network stands for the trace with that step
-pub rotate_stands : (old new : WorldState) (router key : ℕ) (fate : Fate) (line : Line) → NetworkRotates old new router key fate line → StandsAfter old new (events.Rotate router key fate) line
-rotate_stands old new router key fate line rotates o T stand = rotates_stand old new router key fate line rotates o T stand
+  -- so the network stands for the trace with that step
+  pub rotate_stands : Rotated-after
+  rotate_stands = rotates_at before.core part.core rotates.rotates

@@ -43,7 +43,7 @@ use Rattle.lisp_refinement.specs.World.{DatagramValue, RouterNodeState, RouterCo
 use Rattle.lisp_refinement.specs.Calls.{CoreSends, IsSendFaultOf, CoreRefusesToSend, CoreAnswersSend}
 use Rattle.lisp_refinement.specs.Events.{address_of, place_of, SaysSendAnswer, UpRouterSends, RouterSends, NetworkSends}
 use Rattle.lisp_refinement.specs.Stands.{shown_by, Shows, Carries, StandsForRounds, StandsForEtr, StandsForCore, StandsForKeys, StandsForRouter, Stands, StandsAfter}
-use Rattle.lisp_refinement.proofs.Acting.{adds_none, adds_one, by_fate, Shown-in, uses_shown, address_is, step_of, turn_at, shown_now, RouterStep, moved, acts_router, acts_part, acts_shows, acts_once, stands_by, sent_here, sent_there, rounds_set}
+use Rattle.lisp_refinement.proofs.Acting.{adds_none, adds_one, by_fate, Shown-in, uses_shown, address_is, step_of, turn_at, shown_now, RouterStep, moved, acts_router, acts_part, acts_shows, acts_once, down_step, stands_by, up_stays, sent_here, sent_there, rounds_set}
 use Rattle.lisp_refinement.proofs.Heads.{head_written}
 use Rattle.lisp_refinement.proofs.Places.{few_parts, rounds_stay, Placed, first_place, any_found}
 
@@ -125,10 +125,6 @@ module _ (old : WorldState) (o : Opening) (T : List Step) (stand : Stands old o 
 
   safe_now : (n : ℕ) (line : Line) → NoneBelow n (values_after turn (pair_at o T router)) → NoneBelow n (kept_at (shown_store o (step_of event router after_it line ∷ T) router).kept (pair_at o T router))
   safe_now n line none = subst (λ (x : ShownStore). NoneBelow n (kept_at x.kept (pair_at o T router))) (sym (shown_now o T event router after_it line)) none
-
-  -- its keys are those that it used before
-  used_now : (line : Line) → StandsForKeys o (step_of event router after_it line ∷ T) router before.used
-  used_now line = record { since_loss = part.used.since_loss; before_loss = part.used.before_loss }
 
   -- a Map-Register went out
   module _ (bytes : List ℕ) (call : CoreSends e etr armed called place portion old.clock bytes) where
@@ -231,7 +227,7 @@ module _ (old : WorldState) (o : Opening) (T : List Step) (stand : Stands old o 
       obedient = uses.obedient;
       adds = adds_one o T (step_of event router after_it said) datagram (register_item o T router server portion (e.last + 1)) refl sent_carries;
       shows = uses.after;
-      part = record { me = part.me; servers = part.servers; used = used_now said; core = sent_core };
+      part = record { me = part.me; servers = part.servers; used = record { since_loss = part.used.since_loss; before_loss = part.used.before_loss }; core = sent_core };
     }
 
     -- what its line says is what stands in the datagram
@@ -323,18 +319,6 @@ module _ (old : WorldState) (o : Opening) (T : List Step) (stand : Stands old o 
     refusal OutOfMemory is why = (may_if why.0 why.1, own.last.0, own.last.1, (let low = why.2 in let last = own.last.2 in omega (arith, low, last)), unmoved (λ device. let clash : OutOfMemory ≡ Store faults.Device = sym is ∙ device in cc))
     refusal (Store f) is why = (may_if why.0 why.1, not_saved f is why.2 (carried (λ was is. LeavesPair was is (e.last + 1) e.config.nonce_block) (call.leaves uses.armed_shows.honest)))
 
-    -- the router stands as it did
-    refused_core : StandsForEtr o (step_of event router after_it refused ∷ T) router e
-    refused_core = record {
-      up = own.up;
-      config = own.config;
-      database = own.database;
-      last = own.last;
-      safe = safe_now e.safe refused (safe_after e.safe (call.keeps_safe uses.armed_shows.honest safe_before));
-      count = own.count;
-      rounds = λ i k rs listed is. rounds_stay T router k rs (own.rounds i k rs listed is) (step_of event router after_it refused ∷ T) (λ p. refl) (λ p r was. record { keeps = was.keeps; latest = was.latest });
-    }
-
     -- its step
     refused_step : RouterStep o T event router after_it Row refused [] left
     refused_step = record {
@@ -343,7 +327,9 @@ module _ (old : WorldState) (o : Opening) (T : List Step) (stand : Stands old o 
       obedient = uses.obedient;
       adds = adds_none o T (step_of event router after_it refused) refl;
       shows = uses.after;
-      part = record { me = part.me; servers = part.servers; used = used_now refused; core = subst (λ (x : EtrState). StandsForEtr o (step_of event router after_it refused ∷ T) router x) (sym call.err) refused_core };
+      part = up_stays o T (step_of event router after_it refused ∷ T) router (record { up = refl; under = refl; since_loss = refl; before_loss = refl; given = refl })
+          (record { sent = refl; values = refl; times = λ k p. refl; latest = λ k p. refl; counted = λ k p. refl }) before before.used after e etr refl call.err part own
+          (safe_now e.safe refused (safe_after e.safe (call.keeps_safe uses.armed_shows.honest safe_before)));
     }
 
 -- what comes of the event at a router, up or down
@@ -372,17 +358,6 @@ module _ (old new : WorldState) (router server portion : ℕ) (fate : Fate) (lin
   ends : (s : ShownStore) → RouterStep o T (events.Send router server portion fate) router s (MayCome (turn_at o T router fate s) (events.Send router server portion fate)) line sends.more sends.acts.after → Sent-after
   ends s step = (router, s, stands_by old new router sends.more sends.acts o T stand (events.Send router server portion fate) s line refl step)
 
-  -- the router is down
-  sends_down : (config : EtrConfigValue) (db : List MapRecordValue) → sends.acts.before.core ≡ Down config db → StandsForCore o T router (Down config db) → RouterSends old router server portion fate sends.acts.before sends.acts.after (Down config db) line sends.more → Sent-after
-  sends_down config db is core at = ends (shown_store o T router) (moved o T _ router (shown_store o T router) _ line (lines.Down router) sends.more [] sends.acts.after sends.acts.before at.1 at.2 at.0 (record {
-    row = (known_server, record { acts = record { kind = kind_here; acts = refl; state = core.0 }; names = refl; same = refl });
-    count = omega arith;
-    obedient = refl;
-    adds = adds_none o T _ refl;
-    shows = shows_here;
-    part = record { me = part_here.me; servers = part_here.servers; used = record { since_loss = part_here.used.since_loss; before_loss = part_here.used.before_loss }; core = subst (λ (c : RouterCoreState). StandsForCore o (step_of (events.Send router server portion fate) router (shown_store o T router) (lines.Down router) ∷ T) router c) (sym is) core };
-  }))
-
   module _ (e : EtrState) (own : StandsForEtr o T router e) where
     -- it sent, or refused to
     sends_ok : (etr : EtrState) → sends.acts.after ≡ record sends.acts.before { core = Up etr; store = sends.acts.after.store } → (armed called : StoreState) → (uses : Shown-in fate armed called sends.acts.after.store (shown_store o T router)) → (answer : Result (List ℕ) SendFault)
@@ -393,22 +368,17 @@ module _ (old new : WorldState) (router server portion : ℕ) (fate : Fate) (lin
     sends_ok etr is armed called uses (Err fault) call says = ends _ (moved o T _ router _ _ line _ sends.more _ sends.acts.after _ says.0 says.1 is
         (refused_step old o T stand router server portion fate sends.acts.before kind_here known_server part_here once_here e etr own armed called sends.acts.after.store uses fault call))
 
-  -- it is up
-  sends_up : UpRouterSends old router server portion fate sends.acts.before sends.acts.after line sends.more → Sent-after
-  sends_up up =
+  -- it is up, or down
+  sends_at : (core : RouterCoreState) → StandsForCore o T router core → RouterSends old router server portion fate sends.acts.before sends.acts.after core line sends.more → Sent-after
+  sends_at (Up e) own up =
       let call = up.sends.call in
       sends_ok up.sends.etr (subst (λ (core : RouterCoreState). StandsForCore o T router core) up.sends.was part_here.core) up.sends.left up.sends.is call.armed call.called
       (uses_shown sends.acts.before.store call.armed call.called sends.acts.after.store fate (shown_store o T router) shows_here call.uses) up.answer call.call up.says
+  sends_at (Down config db) core at = ends (shown_store o T router) (down_step old new router sends.more sends.acts o T stand (events.Send router server portion fate) _ line at
+      (known_server, record { acts = record { kind = kind_here; acts = refl; state = core.0 }; names = refl; same = refl }) refl
+      (record { up = refl; under = refl; since_loss = refl; before_loss = refl; given = refl })
+      (record { sent = refl; values = refl; times = λ k p. refl; latest = λ k p. refl; counted = λ k p. refl }))
 
-  -- up or down
-  sends_at : (core : RouterCoreState) → sends.acts.before.core ≡ core → StandsForCore o T router core → RouterSends old router server portion fate sends.acts.before sends.acts.after core line sends.more → Sent-after
-  sends_at (Up e) is own at = sends_up at
-  sends_at (Down config db) is core at = sends_down config db is core at
-
-  -- whichever it is
-  sends_stand : Sent-after
-  sends_stand = sends_at sends.acts.before.core refl part_here.core sends.sends
-
--- a router sends, refuses to, or is down, and the network stands for the trace with that step
-pub send_stands : (old new : WorldState) (router server portion : ℕ) (fate : Fate) (line : Line) → NetworkSends old new router server portion fate line → StandsAfter old new (events.Send router server portion fate) line
-send_stands old new router server portion fate line sends o T stand = sends_stand old new router server portion fate line sends o T stand
+  -- so the network stands for the trace with that step
+  pub send_stands : Sent-after
+  send_stands = sends_at sends.acts.before.core part_here.core sends.sends
