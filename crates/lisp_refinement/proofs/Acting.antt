@@ -308,39 +308,31 @@ module _ (old new : WorldState) (o : Opening) (T : List Step) (s : Step) (more :
   router_part k n (inl acted) = acted.2
   router_part k n (inr same) = router_stays o T (s ∷ T) (length o.config.servers + k) (leaves.router (length o.config.servers + k) (router_kind k n same.1) same.0) n (stand.routers k n same.1)
 
-  -- steps and stores stand
-  steps_go : StandsInSteps new o (s ∷ T)
-  steps_go = record {
-    sites = goes.sites ∙ stand.steps.sites;
-    addresses = goes.addresses ∙ stand.steps.addresses;
-    network = stand.steps.network;
-    legal = (legal, stand.steps.legal);
-    servers = goes.server_count ∙ stand.steps.servers;
-    routers = goes.router_count ∙ stand.steps.routers;
-    server_stores = λ k n there. server_shows k n (goes.servers k n there);
-    router_stores = λ k n there. router_shown k n (goes.routers k n there);
-  }
-
   -- each datagram carries its item
   carries : (k : ℕ) (d : DatagramValue) (i : Item) → Either old.bag (bag o T) more adds.items k d i → Carries d i
   carries k d i (inl before) = stand.bag.each k d i before.0 before.1
   carries k d i (inr end) = adds.each end.place d i end.one end.other
 
-  -- clock and bag stand
-  bag_goes : StandsInBag new o (s ∷ T)
-  bag_goes = record {
-    moment = goes.clock ∙ stand.bag.moment ∙ sym (leaves.time timeless);
-    bound = omega (arith, leaves.time timeless, stand.bag.bound);
-    count = ap (λ (ds : List DatagramValue). length ds) goes.bag ∙ length-append old.bag more ∙ omega (arith, stand.bag.count, adds.count) ∙ sym (length-append (bag o T) adds.items) ∙ ap (λ (is : List Item). length is) (sym adds.added);
-    each = λ k d i one other. carries k d i (get_both old.bag (bag o T) more adds.items stand.bag.count k d i
-        (ap (λ (ds : List DatagramValue). slice_get ds k) (sym goes.bag) ∙ one) (ap (λ (is : List Item). slice_get is k) (sym adds.added) ∙ other));
-  }
-
   -- so all stands
   goes_on : Stands new o (s ∷ T)
   goes_on = record {
-    steps = steps_go;
-    bag = bag_goes;
+    steps = record {
+      sites = goes.sites ∙ stand.steps.sites;
+      addresses = goes.addresses ∙ stand.steps.addresses;
+      network = stand.steps.network;
+      legal = (legal, stand.steps.legal);
+      servers = goes.server_count ∙ stand.steps.servers;
+      routers = goes.router_count ∙ stand.steps.routers;
+      server_stores = λ k n there. server_shows k n (goes.servers k n there);
+      router_stores = λ k n there. router_shown k n (goes.routers k n there);
+    };
+    bag = record {
+      moment = goes.clock ∙ stand.bag.moment ∙ sym (leaves.time timeless);
+      bound = omega (arith, leaves.time timeless, stand.bag.bound);
+      count = ap (λ (ds : List DatagramValue). length ds) goes.bag ∙ length-append old.bag more ∙ omega (arith, stand.bag.count, adds.count) ∙ sym (length-append (bag o T) adds.items) ∙ ap (λ (is : List Item). length is) (sym adds.added);
+      each = λ k d i one other. carries k d i (get_both old.bag (bag o T) more adds.items stand.bag.count k d i
+          (ap (λ (ds : List DatagramValue). slice_get ds k) (sym goes.bag) ∙ one) (ap (λ (is : List Item). slice_get is k) (sym adds.added) ∙ other));
+    };
     servers = λ k n there. server_part k n (goes.servers k n there);
     routers = λ k n there. router_part k n (goes.routers k n there);
   }
@@ -569,10 +561,6 @@ module _ (T : List Step) (event : EventValue) (node : ℕ) (s : ShownStore) (ser
     latest = old.latest;
   }
 
-  -- what was counted of the part, and of any other
-  acked_part : acked counted_steps node server part ≡ Some (key, nonce)
-  acked_part = ap (λ b. if b then Some (key, nonce) else acked T node server part) (all_same node server part)
-
   acked_other : (k q : ℕ) → (node == node && server == k && part == q) ≡ false → acked counted_steps node k q ≡ acked T node k q
   acked_other k q other = ap (λ b. if b then Some (key, nonce) else acked T node k q) other
 
@@ -587,7 +575,9 @@ module _ (T : List Step) (event : EventValue) (node : ℕ) (s : ShownStore) (ser
   }
     where
       at : (other : ℕ) (pair : Option (ℕ × ℕ)) → ((other ≡ part) × (Some (key, (round_of rs part).latest) ≡ pair)) ⊎ ((other ≢ part) × (slice_get rs.acked other ≡ Some pair)) → pair ≡ acked counted_steps node server other
-      at other pair (inl set) = sym set.1 ∙ ap (λ (n : ℕ). Some (key, n)) (sym is) ∙ sym acked_part ∙ ap (acked counted_steps node server) (sym set.0)
+      at other pair (inl set) = sym set.1 ∙ ap (λ (n : ℕ). Some (key, n)) (sym is) ∙ sym
+          (ap (λ b. if b then Some (key, nonce) else acked T node server part) (all_same node server part))
+          ∙ ap (acked counted_steps node server) (sym set.0)
       at other pair (inr same) = old.acked other pair same.1 ∙ sym (acked_other server other (third_other node server part other (λ part_is. same.0 (sym part_is))))
 
   -- and those with another one
@@ -601,9 +591,7 @@ module _ (T U : List Step) (node : ℕ) (servers : List ℕ) (rounds : List Roun
   pub rounds_set : (i k : ℕ) (rs : Rounds) → slice_get servers i ≡ Some k → slice_get (slice_set rounds place x) i ≡ Some rs → StandsForRounds U node k rs
   rounds_set i k rs listed is = at (get_set rounds place i x rs is)
     where
-      same_server : i ≡ place → server ≡ k
-      same_server same = let both : ◌≡◌ {A = Option ℕ} (Some server) (Some k) = sym there ∙ ap (slice_get servers) (sym same) ∙ listed in cc
-
       at : ((i ≡ place) × (x ≡ rs)) ⊎ ((i ≢ place) × (slice_get rounds i ≡ Some rs)) → StandsForRounds U node k rs
-      at (inl set) = subst (λ (y : Rounds). StandsForRounds U node k y) set.1 (subst (λ (n : ℕ). StandsForRounds U node n x) (same_server set.0) here)
+      at (inl set) = subst (λ (y : Rounds). StandsForRounds U node k y) set.1 (subst (λ (n : ℕ). StandsForRounds U node n x) (
+          (let both : ◌≡◌ {A = Option ℕ} (Some server) (Some k) = sym there ∙ ap (slice_get servers) (sym set.0) ∙ listed in cc)) here)
       at (inr same) = others k rs (other_element servers once place i server k there listed same.0) (old i k rs listed same.1)

@@ -71,11 +71,9 @@ module _ {X : Type 0} (cmp : X → X → Ordering) (total : IsTotalOrder cmp) wh
   tail_within : (x : X) (xs ys : List X) → Rises (x ∷ xs) → Within (x ∷ xs) (x ∷ ys) → Within xs ys
   tail_within x xs ys rises there z has = by (head_or_tail x ys z (there z (in_tail x xs z has)))
     where
-      below : cmp x z ≡ Less
-      below = head_below x xs rises z has
-
       by : (z ≡ x) ⊎ Contains ys z → Contains ys z
-      by (inl same) = (let itself = subst (λ (y : X). cmp x y ≡ Less) same below in absurd (not_both x x itself itself))
+      by (inl same) = (let itself = subst (λ (y : X). cmp x y ≡ Less) same
+          (head_below x xs rises z has) in absurd (not_both x x itself itself))
       by (inr more) = more
 
   -- the heads of two such lists with the same elements are one
@@ -139,12 +137,6 @@ module _ (one other : List RowValue) (now : ℕ)
 
 -- rows of a table, and the list of those that are held
 module _ (table listed : List RowValue) (now : ℕ) (one : OneEach table) (is : IsHeld table now listed) (addr : Addr) where
-  -- a row that may answer is listed
-  in_list : (h : RowValue) → Contains table h → may_answer addr now h ≡ true → Contains listed h
-  in_list h has may =
-      let alive = (and_parts (is_alive h now) (holds h.mapping.eid addr) may).0 in
-      (is.each h).1 (found_own table h one has, (Decides-ltb (now - h.accepted) h.life).0 alive)
-
   -- and what is listed is a row
   in_table : (h : RowValue) → Contains listed h → Contains table h
   unfolding row_at
@@ -153,7 +145,9 @@ module _ (table listed : List RowValue) (now : ℕ) (one : OneEach table) (is : 
   -- the best row is the best of the list
   best_listed : (h : RowValue) → IsBest table addr now h → IsBest listed addr now h
   best_listed h best = record {
-    held = in_list h best.held best.may;
+    held = (
+        let alive = (and_parts (is_alive h now) (holds h.mapping.eid addr) best.may).0 in
+        (is.each h).1 (found_own table h one best.held, (Decides-ltb (now - h.accepted) h.life).0 alive));
     may = best.may;
     most = λ other has may. best.most other (in_table other has) may;
   }
@@ -190,12 +184,6 @@ module _ (o : Opening) (T : List Step) (k : ℕ) (n : ServerNodeState) (part : S
   unfolding row_at
   lists_held = held_alike (accepted_rows (since_start o T k)) n.core.rows (clock T) (λ router eid. sym (part.rows router eid)) all_held (rows_are_held (since_start o T k) (clock T))
 
-  -- who answers by its rows answers by what it holds
-  answers_held : {A : Type 0} (addr : Addr) (answer : Answer A) → OneEach n.core.rows → Answers n.core.rows n.core.sites addr (clock T) answer → IsAnswer o T k addr answer
-  answers_held addr answer one answers =
-      subst (λ (sites : List SiteValue). Answers all_held sites addr (clock T) answer) part.sites
-      (answers_listed n.core.rows all_held (clock T) one lists_held addr n.core.sites answer answers)
-
   -- a notice that it keeps is due when the trace's is
   due_together : (m : Notice) (kept : StandingNoticeValue) → IsStanding o T k m kept → due_at kept ≡ due_after m.moments
   unfolding due_after
@@ -220,7 +208,9 @@ module _ (o : Opening) (T : List Step) (k : ℕ) (n : ServerNodeState) (part : S
   server_tells : (A : Type 0) → ServerTells A o T k n.core (clock T)
   server_tells A = record {
     held = λ listed is. one_held n.core.rows listed all_held (clock T) is lists_held;
-    answer = answers_held;
+    answer = λ addr answer one answers. (
+        subst (λ (sites : List SiteValue). Answers all_held sites addr (clock T) answer) part.sites
+        (answers_listed n.core.rows all_held (clock T) one lists_held addr n.core.sites answer answers));
     last_nonce = part.nonces;
     last_notice = part.notice_nonce;
     due_notices = λ router one is. next_notice router is;
@@ -238,32 +228,24 @@ module _ (o : Opening) (T : List Step) (router : ℕ) (etr : EtrState) (part : S
   abbrev servers : List ℕ
   servers = (router_at o.config router).servers
 
-  -- the rounds with each
-  its_rounds : (place server : ℕ) → slice_get servers place ≡ Some server → (rs : Rounds) × (slice_get etr.rounds place ≡ Some rs)
-  its_rounds place server listed =
-      let low = slice_get_within servers place server listed in
-      let count = part.count in
-      get_within etr.rounds place (omega (arith, low, count))
-
   -- a round is due when the trace's is
   round_due : (server : ℕ) (rs : Rounds) → StandsForRounds T router server rs → (number : ℕ) (r : Round) → slice_get rs.parts number ≡ Some r → nat_le r.due (clock T) ≡ nat_le (due T router server number) (clock T)
   round_due server rs stand number r at = ap (λ (moment : ℕ). nat_le moment (clock T)) (stand.round number r at).keeps.due
-
-  -- so the first part that is due is the trace's
-  part_due : (place : ℕ) (rs : Rounds) (server : ℕ) → slice_get etr.rounds place ≡ Some rs → slice_get servers place ≡ Some server → router_part (clock T) (part_count etr.database) rs ≡ due_part o T router server
-  part_due place rs server at listed =
-      let stand = part.rounds place server rs listed at in
-      first_by_parts (λ (r : Round). nat_le r.due (clock T)) (λ number. nat_le (due T router server number) (clock T)) (part_count etr.database) rs.parts stand.parts (round_due server rs stand)
-      ∙ ap (λ (db : List MapRecordValue). position (λ number. nat_le (due T router server number) (clock T)) (take (part_count db) part_numbers)) part.database
 
   -- what it tells at the moment of the trace
   router_tells : RouterTells o T router etr (clock T)
   router_tells = record {
     acked = λ place server listed. (
-        let its = its_rounds place server listed in
+        let its = (
+            let low = slice_get_within servers place server listed in
+            let count = part.count in
+            get_within etr.rounds place (omega (arith, low, count))) in
         let stand = part.rounds place server its.0 listed its.1 in
         ap (λ (all : Option Rounds). unwrap_or (option_map (λ (rs : Rounds). rs.acked) all) []) its.1 ∙ list_by_parts (acked T router server) its.0.acked stand.acked_parts stand.acked);
-    due = first_alike (router_part (clock T) (part_count etr.database)) (due_part o T router) etr.rounds servers part.count part_due;
+    due = first_alike (router_part (clock T) (part_count etr.database)) (due_part o T router) etr.rounds servers part.count (λ place rs server at listed. 
+        let stand = part.rounds place server rs listed at in
+        first_by_parts (λ (r : Round). nat_le r.due (clock T)) (λ number. nat_le (due T router server number) (clock T)) (part_count etr.database) rs.parts stand.parts (round_due server rs stand)
+        ∙ ap (λ (db : List MapRecordValue). position (λ number. nat_le (due T router server number) (clock T)) (take (part_count db) part_numbers)) part.database);
     database = part.database;
   }
 

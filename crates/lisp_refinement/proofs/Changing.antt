@@ -38,20 +38,13 @@ module _ (old new : WorldState) (router : ℕ) (db : List MapRecordValue) (line 
   stood : StandsForRouter o T router changes.acts.before
   stood = subst (λ m. StandsForRouter o T m changes.acts.before) (sym changes.acts.number) (router_stands old o T stand changes.acts.place changes.acts.before changes.acts.was)
 
-  -- its store is as it was
-  shows : Shows changes.acts.after.store (shown_store o T router)
-  shows = subst (λ (n : RouterNodeState). Shows n.store (shown_store o T router)) (sym changes.changes)
-      (subst (λ m. Shows changes.acts.before.store (shown_store o T m)) (sym changes.acts.number) (router_shows old o T stand changes.acts.place changes.acts.before changes.acts.was))
-
-  -- the trace says so too
-  shown_same : (l : Line) → shown_store o (change o T router db l ∷ T) router ≡ shown_store o T router
-  shown_same l = here router (shown_store o T router) (shown_store o T router)
-
   -- so the network stands, if the step is legal and the router stands after it
   stands_with : (l : Line) → change_line router db changes.acts.before.core ≡ l → Legal o T (change o T router db l) → bag o (change o T router db l ∷ T) ≡ bag o T ++ []
       → StandsForCore o (change o T router db l ∷ T) router (changed_core db old.clock changes.acts.before.core) → Stands new o (change o T router db line ∷ T)
   stands_with l says legal adds core = subst (λ (x : Line). Stands new o (change o T router db x ∷ T)) (sym (changes.said ∙ says))
-      (router_acts old new router [] changes.acts o T (change o T router db l) stand refl refl legal (adds_none o T (change o T router db l) adds) shows
+      (router_acts old new router [] changes.acts o T (change o T router db l) stand refl refl legal (adds_none o T (change o T router db l) adds)
+          (subst (λ (n : RouterNodeState). Shows n.store (shown_store o T router)) (sym changes.changes)
+              (subst (λ m. Shows changes.acts.before.store (shown_store o T m)) (sym changes.acts.number) (router_shows old o T stand changes.acts.place changes.acts.before changes.acts.was)))
       (subst (λ (n : RouterNodeState). StandsForRouter o (change o T router db l ∷ T) router n) (sym changes.changes) (record { me = stood.me; servers = stood.servers; used = record { since_loss = stood.used.since_loss; before_loss = stood.used.before_loss }; core = core })))
 
   -- a router that is up
@@ -76,12 +69,6 @@ module _ (old new : WorldState) (router : ℕ) (db : List MapRecordValue) (line 
       latest = was.latest;
     }
 
-    -- each of its rounds is such a one
-    rounds_stand : (i server : ℕ) (rs : Rounds) → slice_get (router_at o.config router).servers i ≡ Some server → slice_get (map (new_rounds old.clock) e.rounds) i ≡ Some rs → StandsForRounds (up_step ∷ T) router server rs
-    rounds_stand i server rs lists has = let was = get_mapped (new_rounds old.clock) e.rounds i rs has in
-        subst (λ (x : Rounds). StandsForRounds (up_step ∷ T) router server x) was.2
-        (rounds_become T router server was.0 (part.rounds i server was.0 lists was.1) (up_step ∷ T) (λ place. refl) (new_round old.clock) (begun_round server))
-
     -- the router stands with its new database
     up_part : StandsForEtr o (up_step ∷ T) router (etr_changed e db old.clock)
     up_part = record {
@@ -89,20 +76,20 @@ module _ (old new : WorldState) (router : ℕ) (db : List MapRecordValue) (line 
       config = part.config;
       database = sym (here router db _);
       last = part.last;
-      safe = subst (λ (x : ShownStore). NoneBelow e.safe (kept_at x.kept (pair_at o T router))) (sym (shown_same (lines.Changed router (length db)))) part.safe;
+      safe = subst (λ (x : ShownStore). NoneBelow e.safe (kept_at x.kept (pair_at o T router))) (sym (
+          (here router (shown_store o T router) (shown_store o T router)))) part.safe;
       count = length-map e.rounds (new_rounds old.clock) ∙ part.count;
-      rounds = rounds_stand;
+      rounds = λ i server rs lists has. let was = get_mapped (new_rounds old.clock) e.rounds i rs has in
+          subst (λ (x : Rounds). StandsForRounds (up_step ∷ T) router server x) was.2
+          (rounds_become T router server was.0 (part.rounds i server was.0 lists was.1) (up_step ∷ T) (λ place. refl) (new_round old.clock) (begun_round server));
     }
-
-  -- the step of a router that is down is legal
-  down_legal : is_up T router ≡ false → Legal o T (change o T router db (lines.Down router))
-  down_legal down = record { faults = λ other. omega arith; obedient = refl; row = record { acts = record { kind = kind; acts = refl; state = down }; names = refl; same = refl } }
 
   -- by whether the router is up
   change_case : (core : RouterCoreState) → changes.acts.before.core ≡ core → StandsForCore o T router core → Stands new o (change o T router db line ∷ T)
   change_case (Up e) is part = stands_with (lines.Changed router (length db)) (ap (λ (c : RouterCoreState). change_line router db c) is) (up_legal e part) refl
       (subst (λ (c : RouterCoreState). StandsForCore o (change o T router db (lines.Changed router (length db)) ∷ T) router (changed_core db old.clock c)) (sym is) (up_part e part))
-  change_case (Down config database) is part = stands_with (lines.Down router) (ap (λ (c : RouterCoreState). change_line router db c) is) (down_legal part.0) refl
+  change_case (Down config database) is part = stands_with (lines.Down router) (ap (λ (c : RouterCoreState). change_line router db c) is) (
+      (record { faults = λ other. omega arith; obedient = refl; row = record { acts = record { kind = kind; acts = refl; state = part.0 }; names = refl; same = refl } })) refl
       (subst (λ (c : RouterCoreState). StandsForCore o (change o T router db (lines.Down router) ∷ T) router (changed_core db old.clock c)) (sym is) part)
 
 -- a network stands for a trace with a change

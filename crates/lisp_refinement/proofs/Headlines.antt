@@ -135,32 +135,25 @@ module _ (w : WorldState) (o : Opening) (T : List Step) (stand : Stands w o T) w
       by false past is = at_place (router - length w.servers) (ltb-false router (length w.servers) past) refl is
 
   module _ (clean : Clean o T) where
-    listed_was_sent : ListedWasSent w o T
-    listed_was_sent server listed lists row has =
-        let latest = is_latest server listed lists row has in
-        let sent = clean_laws.held_was_sent o T network legal clean server row.router row.mapping.eid row latest in
-        (sent.0, record { latest = latest; sent = sent.1; whom = sent.2; of = sent.3; record_of = sent.4; made = sent.5 })
-
     listed_agree : ListedAgree w o T
     listed_agree one other listed listed' lists lists' g h has has' router eid d e sent sent' none =
         let first : held_row (since_start o T one) h.router h.mapping.eid (clock T) ≡ Some g =
         subst (λ (k : RouterId × PrefixValue). held_row (since_start o T one) k.0 k.1 (clock T) ≡ Some g) (λ i. (router i, eid i)) sent.latest in
         clean_laws.held_agree o T network legal clean one other h.router h.mapping.eid g h d e first sent'.latest sent.sent sent'.sent sent.of sent'.of none
 
-    -- what a router counted last of a part was accepted
-    counts_are_accepted : CountsAreAccepted w o T
-    counts_are_accepted router place part key nonce server listed counts =
-        let tells = router_tells router counts.core counts.running in
-        let last = of_part T router server part (Some (key, nonce)) (ap (λ (all : List (Option (ℕ × ℕ))). slice_get all part) (sym (tells.acked place server listed)) ∙ counts.counted) in
-        clean_laws.counted_was_accepted o T network legal clean router server (record { part = part; key = key; nonce = nonce }) (was_counted T router server part key nonce last)
-
     over_clean : OverClean w o T
     over_clean = record {
       accepted_was_sent = clean_laws.accepted_was_sent o T network legal clean;
-      listed_was_sent = listed_was_sent;
+      listed_was_sent = λ server listed lists row has. (
+          let latest = is_latest server listed lists row has in
+          let sent = clean_laws.held_was_sent o T network legal clean server row.router row.mapping.eid row latest in
+          (sent.0, record { latest = latest; sent = sent.1; whom = sent.2; of = sent.3; record_of = sent.4; made = sent.5 }));
       listed_agree = listed_agree;
       counted_was_accepted = clean_laws.counted_was_accepted o T network legal clean;
-      counts_are_accepted = counts_are_accepted;
+      counts_are_accepted = λ router place part key nonce server listed counts. (
+          let tells = router_tells router counts.core counts.running in
+          let last = of_part T router server part (Some (key, nonce)) (ap (λ (all : List (Option (ℕ × ℕ))). slice_get all part) (sym (tells.acked place server listed)) ∙ counts.counted) in
+          clean_laws.counted_was_accepted o T network legal clean router server (record { part = part; key = key; nonce = nonce }) (was_counted T router server part key nonce last));
       done_was_noticed = notices_in o T network legal clean;
     }
 

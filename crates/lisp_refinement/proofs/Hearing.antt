@@ -217,11 +217,9 @@ module _ (A : Type 0) (old : WorldState) (o : Opening) (T : List Step) (stand : 
     abbrev rounds : Rounds
     rounds = rounds_at e.rounds h.server
 
-    rounds_there : slice_get e.rounds h.server ≡ Some rounds
-    rounds_there = slice_get-get_or e.rounds h.server (record { parts = []; acked = [] }) (let low = slice_get_within servers h.server g.server there in let count = own.count in omega (arith, low, count))
-
     rounds_stand : StandsForRounds T node g.server rounds
-    rounds_stand = own.rounds h.server g.server rounds there rounds_there
+    rounds_stand = own.rounds h.server g.server rounds there
+        (slice_get-get_or e.rounds h.server (record { parts = []; acked = [] }) (let low = slice_get_within servers h.server g.server there in let count = own.count in omega (arith, low, count)))
 
     -- the line of a notice
     abbrev noticed : Line
@@ -231,19 +229,6 @@ module _ (A : Type 0) (old : WorldState) (o : Opening) (T : List Step) (stand : 
     abbrev answered : DatagramValue
     answered = record { from = address_of old node; to = from; bytes = signed e.config.secret (written_notify (ack_of h.message)) }
 
-    -- the key is the router's
-    key_is : e.config.key_id ≡ g.message.key_id
-    key_is = ap (λ (c : EtrConfigValue). c.key_id) own.config ∙ sym same.under
-
-    -- the line is the trace's
-    noticed_is : nat_le first_notice h.message.nonce ≡ true → noticed ≡ line_of turn (notify_at o T node a)
-    noticed_is high = (λ i. lines.Noticed node (number_is i) (nonce_is i) (stand.bag.count i))
-        ∙ sym (ap (line_of turn) hears ∙ ap (λ b. if b then lines.Noticed node g.server g.message.nonce (length (bag o T)) else counted_or_stale turn g (latest_nonces T node g.server)) (ap (nat_le first_notice) (sym nonce_is) ∙ high))
-
-    -- the bag has the item of the answer
-    notice_added : bag o (step noticed ∷ T) ≡ bag o T ++ ack_item o T node a g.message ∷ []
-    notice_added = ap (λ (x : Option Arrival). bag o T ++ items_added o T (past o T) x noticed) arrives ∙ ap (λ (x : Option MapNotifyValue). bag o T ++ option_to_list (option_map (ack_item o T node a) x)) (ap as_notify same.says)
-
     -- which the answer carries
     notice_carries : IsMapNotify (record { ack = true; nonce = h.message.nonce; key_id = e.config.key_id; records = h.message.records }) → Carries answered (ack_item o T node a g.message)
     unfolding bytes_of
@@ -251,32 +236,20 @@ module _ (A : Type 0) (old : WorldState) (o : Opening) (T : List Step) (stand : 
       from = address_is old o T stand node;
       to = sym from_is;
       bytes = λ i. signed (own.config i).secret (written (Notifies (ack_of (same.message i))));
-      message = subst IsMapNotify {x = record { ack = true; nonce = h.message.nonce; key_id = e.config.key_id; records = h.message.records }} {y = ack_of g.message} (λ i. record { ack = true; nonce = (same.message i).nonce; key_id = key_is i; records = (same.message i).records }) fits;
-    }
-
-    -- a notice and its answer
-    notices : nat_le first_notice h.message.nonce ≡ true → IsMapNotify (record { ack = true; nonce = h.message.nonce; key_id = e.config.key_id; records = h.message.records }) → ComesBy (Ok (notice_in e.config h))
-    notices high fits = record {
-      row = hears_row noticed (inl (noticed_is high));
-      count = omega arith;
-      obedient = refl;
-      adds = adds_one o T (step noticed) answered (ack_item o T node a g.message) notice_added (notice_carries fits);
-      shows = shows;
-      part = still noticed (record { sent = refl; values = refl; times = λ k p. refl; latest = λ k p. refl; counted = λ k p. refl });
+      message = subst IsMapNotify {x = record { ack = true; nonce = h.message.nonce; key_id = e.config.key_id; records = h.message.records }} {y = ack_of g.message} (λ i. record { ack = true; nonce = (same.message i).nonce; key_id =
+          (ap (λ (c : EtrConfigValue). c.key_id) own.config ∙ sym same.under) i; records = (same.message i).records }) fits;
     }
 
     -- an acknowledgement
     module _ (low : nat_le first_notice h.message.nonce ≡ false) where
-      -- the trace's line, by the last nonces to that server
-      counted_by : line_of turn (notify_at o T node a) ≡ counted_or_stale turn g (latest_nonces T node g.server)
-      counted_by = ap (line_of turn) hears ∙ ap (λ b. if b then lines.Noticed node g.server g.message.nonce (length (bag o T)) else counted_or_stale turn g (latest_nonces T node g.server)) (ap (nat_le first_notice) (sym nonce_is) ∙ low)
-
       -- the router's last nonces to it are the trace's, and so is the part with the nonce
       latest_is : latest_of rounds ≡ latest_nonces T node g.server
       latest_is = latest_known T node g.server rounds rounds_stand
 
       line_is : (found : Option ℕ) → part_with h.message.nonce (latest_of rounds) ≡ found → line_of turn (notify_at o T node a) ≡ counted_line turn g (latest_nonces T node g.server) found
-      line_is found is = counted_by ∙ ap (counted_line turn g (latest_nonces T node g.server)) ((λ i. part_with (sym nonce_is i) (sym latest_is i)) ∙ is)
+      line_is found is =
+          (ap (line_of turn) hears ∙ ap (λ b. if b then lines.Noticed node g.server g.message.nonce (length (bag o T)) else counted_or_stale turn g (latest_nonces T node g.server)) (ap (nat_le first_notice) (sym nonce_is) ∙ low))
+          ∙ ap (counted_line turn g (latest_nonces T node g.server)) ((λ i. part_with (sym nonce_is i) (sym latest_is i)) ∙ is)
 
       -- it is that of a part
       module _ (place : ℕ) (last : part_with h.message.nonce (latest_of rounds) ≡ Some place) where
@@ -287,27 +260,15 @@ module _ (A : Type 0) (old : WorldState) (o : Opening) (T : List Step) (stand : 
         abbrev counted_rounds : Rounds
         counted_rounds = rounds_after_count e.config.key_id place rounds
 
-        abbrev new_rounds : List Rounds
-        new_rounds = slice_set e.rounds h.server counted_rounds
-
-        -- the line is the trace's
-        said_is : said ≡ line_of turn (notify_at o T node a)
-        said_is = (λ i. lines.Counted node g.server place (own.config i).key_id (nonce_is i)) ∙ sym (line_is (Some place) last)
-
         -- the nonce is the last one of that part
         last_of : (slice_get rounds.parts place ≡ Some (round_of rounds place)) × (h.message.nonce ≡ (round_of rounds place).latest)
         last_of = found_part rounds h.message.nonce place last
 
-        -- the rounds stand
-        counts_rounds : (i k : ℕ) (rs : Rounds) → slice_get servers i ≡ Some k → slice_get new_rounds i ≡ Some rs → StandsForRounds (step said ∷ T) node k rs
-        counts_rounds = rounds_set T (step said ∷ T) node servers e.rounds h.server g.server counted_rounds once there
-            (counted_here T event node (shown_store o T node) g.server place e.config.key_id h.message.nonce rounds last_of.1 last_of.0 rounds_stand)
-            (counted_there T event node (shown_store o T node) g.server place e.config.key_id h.message.nonce) own.rounds
-
         -- it counts
         counts : ComesBy (Ok (Counted h.server place h.message.nonce))
         counts = moved o T event node (shown_store o T node) (Arrives turn a) (line_by (Ok (Counted h.server place h.message.nonce))) said [] [] _ _ (ap (λ n. lines.Counted node n place e.config.key_id h.message.nonce) number_is) refl refl (record {
-          row = hears_row said (inl said_is);
+          row = hears_row said (inl
+              ((λ i. lines.Counted node g.server place (own.config i).key_id (nonce_is i)) ∙ sym (line_is (Some place) last)));
           count = omega arith;
           obedient = refl;
           adds = adds_none o T (step said) refl;
@@ -316,7 +277,11 @@ module _ (A : Type 0) (old : WorldState) (o : Opening) (T : List Step) (stand : 
             me = part.me;
             servers = part.servers;
             used = keys_stay o T (step said ∷ T) node (life said) before.used part.used;
-            core = etr_goes o T (step said ∷ T) node (life said) e new_rounds own refl refl (safe said) (length-set e.rounds h.server counted_rounds) counts_rounds;
+            core = etr_goes o T (step said ∷ T) node (life said) e
+                (slice_set e.rounds h.server counted_rounds) own refl refl (safe said) (length-set e.rounds h.server counted_rounds)
+                (rounds_set T (step said ∷ T) node servers e.rounds h.server g.server counted_rounds once there
+                    (counted_here T event node (shown_store o T node) g.server place e.config.key_id h.message.nonce rounds last_of.1 last_of.0 rounds_stand)
+                    (counted_there T event node (shown_store o T node) g.server place e.config.key_id h.message.nonce) own.rounds);
           };
         })
 
@@ -332,7 +297,17 @@ module _ (A : Type 0) (old : WorldState) (o : Opening) (T : List Step) (stand : 
     passes : (ans : Result (Seen A) NotifyFault) → ans ≡ seen_in e h → Fits ans → (b : Bool) (found : Option ℕ) → nat_le first_notice h.message.nonce ≡ b → part_with h.message.nonce (latest_of rounds) ≡ found → ComesBy ans
     passes ans is fits true found high last =
         let now : ans ≡ Ok (notice_in e.config h) = is ∙ seen_notice e h high in
-        subst ComesBy (sym now) (notices high (subst Fits now fits))
+        subst ComesBy (sym now) ((record {
+          row = hears_row noticed (inl (((λ i. lines.Noticed node (number_is i) (nonce_is i) (stand.bag.count i))
+              ∙ sym (ap (line_of turn) hears ∙ ap (λ b. if b then lines.Noticed node g.server g.message.nonce (length (bag o T)) else counted_or_stale turn g (latest_nonces T node g.server)) (ap (nat_le first_notice) (sym nonce_is) ∙ high)))));
+          count = omega arith;
+          obedient = refl;
+          adds = adds_one o T (step noticed) answered (ack_item o T node a g.message)
+              (ap (λ (x : Option Arrival). bag o T ++ items_added o T (past o T) x noticed) arrives ∙ ap (λ (x : Option MapNotifyValue). bag o T ++ option_to_list (option_map (ack_item o T node a) x)) (ap as_notify same.says))
+              (notice_carries (subst Fits now fits));
+          shows = shows;
+          part = still noticed (record { sent = refl; values = refl; times = λ k p. refl; latest = λ k p. refl; counted = λ k p. refl });
+        }))
     passes ans is fits false (Some place) low last = subst ComesBy (sym (is ∙ seen_counted e h low place last)) (counts low place last)
     passes ans is fits false None low last = subst ComesBy (sym (is ∙ seen_stale e h low last)) (stale low last)
 
@@ -374,12 +349,10 @@ module _ (A : Type 0) (old : WorldState) (o : Opening) (T : List Step) (stand : 
       takes (inr notice) = inr (answer_of notice.0 (notify_at o T node a) refl
           (subst (λ (r : Result ServerNotify NotifyFault). Alike (etr_config o T node) a.read from_place (server_from o.config node a.from) r (notify_at o T node a)) (sym (by_place bytes bytes_are read_is) ∙ notice.1) both_heard) notice.2)
 
-      taken_of : ans ≡ Err faults.OutOfMemory → HasRecords a.bytes ⊎ IsToAnswer turn a
-      taken_of is = takes (subst (λ (x : Result (Seen A) NotifyFault). IsErrOf x faults.OutOfMemory → TakesMemory e.config from bytes) is call.grows refl).1
-
       at : (ans ≡ seen_at e from bytes) ⊎ (ans ≡ Err faults.OutOfMemory) → ComesBy ans
       at (inl is) = by_both ans (checked_notify (etr_config o T node) a.bytes a.read from_place) (notify_at o T node a) refl both_heard (is ∙ ap (λ (r : Result ServerNotify NotifyFault). r >>= seen_in e) (by_place bytes bytes_are read_is)) call.fits
-      at (inr is) = subst ComesBy (sym is) (refuses faults.OutOfMemory (inr (head_of is, taken_of is, refl)))
+      at (inr is) = subst ComesBy (sym is) (refuses faults.OutOfMemory (inr (head_of is,
+          (takes (subst (λ (x : Result (Seen A) NotifyFault). IsErrOf x faults.OutOfMemory → TakesMemory e.config from bytes) is call.grows refl).1), refl)))
 
 -- what arrives at a router
 module _ (A : Type 0) (old new : WorldState) (o : Opening) (T : List Step) (stand : Stands old o T) (node : ℕ) (fate : Fate) (from : Addr) (bytes : List ℕ) (line : Line) (arrived : ArrivesAtRouter A old new node fate from bytes line)
@@ -395,22 +368,16 @@ module _ (A : Type 0) (old new : WorldState) (o : Opening) (T : List Step) (stan
   kind_here : is_router o.config node ≡ true
   kind_here = acts_router old new node arrived.more arrived.acts o T stand
 
-  shows_here : Shows arrived.acts.before.store (shown_store o T node)
-  shows_here = acts_shows old new node arrived.more arrived.acts o T stand
-
-  -- what a store shows that was armed and used for nothing
-  shows_after : (armed : StoreState) → UsesStore arrived.acts.before.store fate armed armed arrived.acts.after.store → Shows arrived.acts.after.store (shown_store o T node)
-  shows_after armed uses =
-      let x : Shown-in fate armed armed arrived.acts.after.store (shown_store o T node) = uses_shown arrived.acts.before.store armed armed arrived.acts.after.store fate (shown_store o T node) shows_here uses in
-      record { honest = x.after.honest; kept = x.after.kept ∙ x.armed_shows.kept; faults = x.after.faults ∙ x.armed_shows.faults; obedient = x.after.obedient ∙ x.armed_shows.obedient }
-
   -- one that is up hears it, and one that is down says so
   hears_at : (core : RouterCoreState) → StandsForCore o T node core → RouterHears A old node arrived.acts.before arrived.acts.after fate from bytes core line arrived.more → Goes
   hears_at (Up e) own up =
       let h = up.hears in
       moved o T event node (shown_store o T node) _ line _ arrived.more _ arrived.acts.after _ up.said up.posts (h.is ∙ ap (λ (x : EtrState). record arrived.acts.before { core = Up x; store = arrived.acts.after.store }) h.call.after)
       (comes_by A old o T stand node event arrival a arrives arrived.acts.before kind_here part_here (acts_once old new node arrived.more arrived.acts o T stand) h.etr
-      (subst (λ (core : RouterCoreState). StandsForCore o T node core) h.was part_here.core) arrived.acts.after.store (shows_after h.armed h.uses) from from_is
+      (subst (λ (core : RouterCoreState). StandsForCore o T node core) h.was part_here.core) arrived.acts.after.store ((
+          let x : Shown-in fate h.armed h.armed arrived.acts.after.store (shown_store o T node) = uses_shown arrived.acts.before.store h.armed h.armed arrived.acts.after.store fate (shown_store o T node)
+              (acts_shows old new node arrived.more arrived.acts o T stand) h.uses in
+          record { honest = x.after.honest; kept = x.after.kept ∙ x.armed_shows.kept; faults = x.after.faults ∙ x.armed_shows.faults; obedient = x.after.obedient ∙ x.armed_shows.obedient })) from from_is
       bytes bytes_are read_is h.left up.answer h.call)
   hears_at (Down config db) core at = down_step old new node arrived.more arrived.acts o T stand event _ line at
       (record { acts = record { kind = kind_here; acts = refl; state = core.0 }; names = refl; same = refl }) refl (heard_life o T event arrival node (shown_store o T node) (lines.Down node))

@@ -50,56 +50,38 @@ module _ (old new : WorldState) (node key : ℕ) (db : Option (List MapRecordVal
   abbrev registered : List MapRecordValue
   registered = unwrap_or db (database_of before.core)
 
-  -- some value is kept for each pair, and a load keeps it
-  some : KeepsSome after.store.kept
-  some = subst KeepsSome (sym (loaded old new node loses.acts o T stand lost line (goes_on before.store lost line loses.loses.loses.proceeds) config registered loses.answer loses.loses.starts))
-      (loses.loses.loses.some (become_honest old new node loses.acts o T stand lost line (goes_on before.store lost line loses.loses.loses.proceeds) config registered loses.answer loses.loses.starts))
-
   -- the event, and the step as the router sees it
   abbrev event : EventValue
   event = events.Lose node key db
 
-  abbrev turn : Context
-  turn = turn_at o T node Done (shown_by after.store)
-
-  abbrev step : Line → Step
-  step l = step_of event node (shown_by after.store) l
-
   -- its store was lost
-  is_lost : IsLost turn node key db
+  is_lost : IsLost (turn_at o T node Done (shown_by after.store)) node key db
   is_lost = record {
     acts = refl;
     kind = acts_router old new node [] loses.acts o T stand;
     may = may_start old o T stand node before stood key loses.of loses.unused_since loses.unused_before;
     fits = fits;
-    some = some;
+    some = subst KeepsSome (sym (loaded old new node loses.acts o T stand lost line (goes_on before.store lost line loses.loses.loses.proceeds) config registered loses.answer loses.loses.starts))
+        (loses.loses.loses.some (become_honest old new node loses.acts o T stand lost line (goes_on before.store lost line loses.loses.loses.proceeds) config registered loses.answer loses.loses.starts));
   }
-
-  -- what it starts with is what the trace says
-  settled : (l : Line) → config ≡ etr_config o (step l ∷ T) node
-  settled l = config_under old o T stand node before stood key loses.of (config_of before.core) (config_known o T node before.core stood.core)
-      ∙ sym (ap (etr_config_under o.config (router_at o.config node)) (here node key (key_at o T node)))
 
   -- and so is what it registers, with another database or not
   given_case : (l : Line) (x : Option (List MapRecordValue)) → unwrap_or x (database_of before.core) ≡ database_after (events.Lose node key x) l node (database o T node)
   given_case l None = database_known o T node before.core stood.core
   given_case l (Some other) = sym (here node other (database o T node))
 
-  -- the key is the only one since, and all others were used before
-  keys : (l : Line) → StandsForKeys o (step l ∷ T) node after.used
-  keys l = record {
-    since_loss = subst (Marks after.used.since_loss) (sym (here node (key ∷ []) (keys_since_loss o T node))) (lists_one after.used.since_loss key loses.loses.used.since_loss);
-    before_loss = subst (Marks after.used.before_loss) (sym (here node (keys_since_loss o T node ++ keys_before_loss o T node) (keys_before_loss o T node)))
-        (lists_both before.used.since_loss before.used.before_loss after.used.before_loss (keys_since_loss o T node) (keys_before_loss o T node) stood.used.since_loss stood.used.before_loss loses.loses.used.before_loss);
-  }
-
   -- the step is legal, and it starts the router
   starts_by : StartsBy o T event node (shown_by after.store) (lines.Emptied node key) config registered after.used
   starts_by = record {
     timeless = refl;
-    settled = settled;
+    settled = λ l. config_under old o T stand node before stood key loses.of (config_of before.core) (config_known o T node before.core stood.core)
+        ∙ sym (ap (etr_config_under o.config (router_at o.config node)) (here node key (key_at o T node)));
     given = λ l. given_case l db;
-    keys = keys;
+    keys = λ l. record {
+      since_loss = subst (Marks after.used.since_loss) (sym (here node (key ∷ []) (keys_since_loss o T node))) (lists_one after.used.since_loss key loses.loses.used.since_loss);
+      before_loss = subst (Marks after.used.before_loss) (sym (here node (keys_since_loss o T node ++ keys_before_loss o T node) (keys_before_loss o T node)))
+          (lists_both before.used.since_loss before.used.before_loss after.used.before_loss (keys_since_loss o T node) (keys_before_loss o T node) stood.used.since_loss stood.used.before_loss loses.loses.used.before_loss);
+    };
     up = here node true (is_up T node);
     begins = record {
       last = here node None (last_sent T node);
@@ -121,7 +103,7 @@ module _ (old new : WorldState) (node key : ℕ) (db : Option (List MapRecordVal
   said (Err fault) = refl
 
   -- so the network stands
-  lose_here : Stands new o (step line ∷ T)
+  lose_here : Stands new o ((step_of event node (shown_by after.store) line) ∷ T)
   lose_here = start_stands old new node loses.acts o T stand lost line (goes_on before.store lost line loses.loses.loses.proceeds) config registered loses.answer loses.loses.starts
       event (lines.Emptied node key) starts_by loses.loses.me loses.loses.servers (loses.said ∙ said loses.answer)
 

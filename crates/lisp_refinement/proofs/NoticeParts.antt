@@ -113,23 +113,15 @@ others_again me router now notices differ = found_again me router now notices �
 -- a Map-Server whose sites, rows and contacts stay, in a step that accepts nothing
 module _ (o : Opening) (T : List Step) (s : Step) (server : ℕ) (n m : ServerNodeState) (stand : StandsForServer o T server n) (time : clock (s ∷ T) ≡ clock T) (quiet : since_start o (s ∷ T) server ≡ since_start o T server) (has : sites o (s ∷ T) server ≡ sites o T server)
     (core : m.core ≡ record n.core { nonces = m.core.nonces; notices = m.core.notices }) where
-  -- what is held stays
-  rows_stay : (router : RouterId) (eid : PrefixValue) → option_and_then (if_alive (clock (s ∷ T))) (row_at m.core.rows router eid) ≡ held_row (since_start o (s ∷ T) server) router eid (clock (s ∷ T))
-  rows_stay router eid = rw (time, quiet, ap (λ (c : ServerState). c.rows) core) (stand.rows router eid)
-
-  -- and where routers were heard
-  contacts_stay : (router : RouterId) (eid : PrefixValue) (h : RowValue) → held_row (since_start o (s ∷ T) server) router eid (clock (s ∷ T)) ≡ Some h → contact_at m.core.contacts router ≡ option_map (λ a. contact_of a.message a.from) (heard_last router (since_start o (s ∷ T) server))
-  contacts_stay router eid h is = rw (quiet, ap (λ (c : ServerState). c.contacts) core) (stand.contacts router eid h (rw (time, quiet) at is))
-
   -- with its nonces, its notices and the moment at which its life began it stands for the trace with the step
   pub part_after : m.started ≡ began (s ∷ T) server → ((pair : Pair) → pair ≢ notice_pair → nonce_at m.core.nonces pair ≡ nonce_at n.core.nonces pair) → nonce_at m.core.nonces notice_pair ≡ last_notice (s ∷ T) server
       → ((router : RouterId) → SameNotice o (s ∷ T) server (notice_to o (s ∷ T) server router) (notice_at m.core.notices router)) → StandsForServer o (s ∷ T) server m
   part_after started nonces notice_nonce notices = record {
     sites = ap (λ (c : ServerState). c.sites) core ∙ stand.sites ∙ sym has;
-    rows = rows_stay;
+    rows = λ router eid. rw (time, quiet, ap (λ (c : ServerState). c.rows) core) (stand.rows router eid);
     nonces = λ pair differ. nonces pair differ ∙ stand.nonces pair differ ∙ ap (last_of pair) (sym quiet);
     notice_nonce = notice_nonce;
-    contacts = contacts_stay;
+    contacts = λ router eid h is. rw (quiet, ap (λ (c : ServerState). c.contacts) core) (stand.contacts router eid h (rw (time, quiet) at is));
     notices = notices;
     started = started;
   }

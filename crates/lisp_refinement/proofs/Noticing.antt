@@ -215,17 +215,14 @@ module _ (table : List RowValue) (since : List Acceptance) (now : ℕ) (one : On
   their_router : (i : ℕ) (d : RowValue) → i < length told → (slice_index_or told i d).router ≡ router
   their_router i d lt = (router_eq-Decides (slice_index_or told i d).router router).0 (filter_passes own (rows since now) i d lt)
 
-  -- so their prefixes rise
-  prefixes_rise : (i j : ℕ) (d : RowValue) → i < j → j < length told → prefix_cmp (slice_index_or told i d).mapping.eid (slice_index_or told j d).mapping.eid ≡ Less
-  prefixes_rise i j d before lt =
-      let a = slice_index_or told i d in
-      let b = slice_index_or told j d in
-      let routers : router_cmp a.router b.router ≡ Equal = ap (λ (r : RouterId). router_cmp r b.router) (their_router i d (omega (arith, before, lt)) ∙ sym (their_router j d lt)) ∙ tied (router_cmp b.router b.router) (router_total.antisymm b.router b.router) in
-      sym (ap (λ (o : Ordering). ordering_then o (prefix_cmp a.mapping.eid b.mapping.eid)) routers) ∙ told_rise i j d before lt
-
   -- the records that are told, by prefix, are those of the trace
   pub told_is : (records : List MapRecordValue) → ByPrefix (live_of table router now) records → records ≡ records_of since router now
-  told_is records by_prefix = one_rising_order records (records_of since router now) (IsPermutation-trans records (live_of table router now) (records_of since router now) (IsPermutation-sym (live_of table router now) records by_prefix.same) same_records) by_prefix.rising (mapped_rise told prefixes_rise)
+  told_is records by_prefix = one_rising_order records (records_of since router now) (IsPermutation-trans records (live_of table router now) (records_of since router now) (IsPermutation-sym (live_of table router now) records by_prefix.same) same_records) by_prefix.rising (mapped_rise told
+      (λ i j d before lt. 
+          let a = slice_index_or told i d in
+          let b = slice_index_or told j d in
+          let routers : router_cmp a.router b.router ≡ Equal = ap (λ (r : RouterId). router_cmp r b.router) (their_router i d (omega (arith, before, lt)) ∙ sym (their_router j d lt)) ∙ tied (router_cmp b.router b.router) (router_total.antisymm b.router b.router) in
+          sym (ap (λ (o : Ordering). ordering_then o (prefix_cmp a.mapping.eid b.mapping.eid)) routers) ∙ told_rise i j d before lt))
 
   -- there are some, or none, in both
   pub none_told : live_of table router now ≡ [] → records_of since router now ≡ []
@@ -249,10 +246,6 @@ at_end [] x zero is = refl
 at_end [] x (suc k) is = absurd (omega (arith, is))
 at_end (y ∷ ys) x zero is = absurd (omega (arith, is))
 at_end (y ∷ ys) x (suc k) is = at_end ys x k (omega (arith, is))
-
--- no records at all fit a message
-empty_fits : fits_message [] ≡ false → ⊥
-empty_fits is = absurd cc
 
 module _ (old new : WorldState) (server router : ℕ) (fate : Fate) (line : Line) (turn : NoticeTurn old new server router fate line) (o : Opening) (T : List Step) (stand : Stands old o T) where
   -- the router that is told; the moment; the Map-Server before and after; its store armed, and after the call
@@ -355,14 +348,6 @@ module _ (old new : WorldState) (server router : ℕ) (fate : Fate) (line : Line
     kept_now : kept_at called.kept notice_pair ≡ Some nonce ∷ []
     kept_now = announced.kept is_honest
 
-    -- the store keeps that nonce alone for notices
-    saves : Saves (context_of o T (step sent)) notice_pair nonce nonce
-    saves = record {
-      here = inr (kept_now, by (λ f. f ≢ Doubt) announced.saves);
-      none_below = λ v has. subst (λ (w : Option ℕ). nonce ≤ number w) (sym (only_value (Some nonce) v (subst (λ (vs : List (Option ℕ)). Contains vs v) kept_now has))) (omega arith);
-      others = λ q differ. announced.others is_honest q differ ∙ ap (λ (kept : Kept). kept_at kept q) shows.armed_shows.kept;
-    }
-
     -- the step is legal
     sent_legal : Legal o T (step sent)
     sent_legal = record {
@@ -384,7 +369,11 @@ module _ (old new : WorldState) (server router : ℕ) (fate : Fate) (line : Line
           next = refl;
           bound = announced.fits.nonce;
           place = stand.bag.count;
-          saves = saves;
+          saves = record {
+            here = inr (kept_now, by (λ f. f ≢ Doubt) announced.saves);
+            none_below = λ v has. subst (λ (w : Option ℕ). nonce ≤ number w) (sym (only_value (Some nonce) v (subst (λ (vs : List (Option ℕ)). Contains vs v) kept_now has))) (omega arith);
+            others = λ q differ. announced.others is_honest q differ ∙ ap (λ (kept : Kept). kept_at kept q) shows.armed_shows.kept;
+          };
         },
       );
     }
@@ -401,84 +390,45 @@ module _ (old new : WorldState) (server router : ℕ) (fate : Fate) (line : Line
     its_records : announced.records ≡ records_of (since_start o T server) me now
     its_records = told_is core.rows (since_start o T server) now turn.notifies.one_each part.rows me announced.records announced.by_prefix
 
-    -- the secret is that of the router's site and key
-    its_secret : announced.registered.heard.secret ≡ secret_at (sites o T server) me.site contact.key
-    its_secret = ap (λ (s : Option (List ℕ)). unwrap_or s []) (sym announced.registered.heard.signs) ∙ ap (λ sites. unwrap_or (known_secret sites me.site contact.key) []) part.sites
-
     -- the datagram is the item's
     its_bytes : bytes ≡ bytes_of item
     unfolding bytes_of
-    its_bytes = announced.datagram ∙ (λ i. signed (its_secret i) (written_notify (notice_of contact.key nonce (its_records i))))
+    its_bytes = announced.datagram ∙ (λ i. signed (
+        (ap (λ (s : Option (List ℕ)). unwrap_or s []) (sym announced.registered.heard.signs) ∙ ap (λ sites. unwrap_or (known_secret sites me.site contact.key) []) part.sites)
+        i) (written_notify (notice_of contact.key nonce (its_records i))))
 
     -- it goes to where the router was heard last
     its_to : to ≡ last.0.from
     its_to = announced.address ∙ ap (λ (c : Contact). c.from) (sym last.2)
 
-    -- the datagram carries the item
-    sent_adds : Adds o T (step sent) (record { from = address_of old server; to = to; bytes = bytes } ∷ [])
-    sent_adds = adds_one o T (step sent) (record { from = address_of old server; to = to; bytes = bytes }) item sent_bag (record {
-      from = address_is old o T stand server;
-      to = its_to;
-      bytes = its_bytes;
-      message = subst (λ (records : List MapRecordValue). IsMapNotify (notice_of contact.key nonce records)) its_records announced.fits;
-    })
-
     -- the notice as it stands on both sides
     abbrev notice : Notice
     notice = record { router = me; key = contact.key; nonce = nonce; datagram = length old.bag; moments = now ∷ [] }
-
-    abbrev standing : StandingNoticeValue
-    standing = record { router = me; to = to; key = contact.key; nonce = nonce; bytes = bytes; resends = 0; last = now }
-
-    -- they are one
-    is_standing : IsStanding o (step sent ∷ T) server notice standing
-    is_standing = record {
-      router = refl;
-      key = refl;
-      nonce = refl;
-      item = item;
-      sent = ap (λ (items : List Item). slice_get items (length old.bag)) sent_bag ∙ at_end (bag o T) item (length old.bag) stand.bag.count;
-      from = refl;
-      to = its_to;
-      bytes = its_bytes;
-      earlier = [];
-      moments = refl;
-      resends = refl;
-    }
 
     -- what the trace has for a router afterwards
     after_is : (other : RouterId) → notice_to o (step sent ∷ T) server other ≡ found other (notice ∷ notices_to_others me (notices o T server))
     after_is other = ap (λ (b : Bool). found other (cond b (notice ∷ notices_to_others me (notices o T server)) (notices o T server))) (same_number server)
 
-    -- the router's notice stands on both sides
-    own_notice : SameNotice o (step sent ∷ T) server (notice_to o (step sent ∷ T) server me) (notice_at after.notices me)
-    own_notice =
-        let here = after_is me ∙ ap (λ (b : Bool). cond b (Some notice) (found me (notices_to_others me (notices o T server)))) (router_itself me) in
-        rw (here, announced.stands.here) is_standing
-
-    -- another router's notice stands as before
-    other_notice : (other : RouterId) → other ≢ me → SameNotice o (step sent ∷ T) server (notice_to o (step sent ∷ T) server other) (notice_at after.notices other)
-    other_notice other differ =
-        let here = after_is other ∙ ap (λ (b : Bool). cond b (Some notice) (found other (notices_to_others me (notices o T server)))) (router_other me other (λ same. differ (sym same))) ∙ found_without me other (notices o T server) differ in
-        rw (here, announced.stands.others other differ) (notice_goes o T (step sent ∷ T) server ((item ∷ []), sent_bag) (notice_to o T server other) (notice_at core.notices other) (part.notices other))
-
     -- so each router's does
     each_notice : (other : RouterId) → (other ≡ me) ⊎ (other ≢ me) → SameNotice o (step sent ∷ T) server (notice_to o (step sent ∷ T) server other) (notice_at after.notices other)
-    each_notice other (inl same) = subst (λ (r : RouterId). SameNotice o (step sent ∷ T) server (notice_to o (step sent ∷ T) server r) (notice_at after.notices r)) (sym same) own_notice
-    each_notice other (inr differ) = other_notice other differ
-
-    -- its nonce is the last one
-    last_is : last_notice (step sent ∷ T) server ≡ Some nonce
-    last_is = ap (λ (b : Bool). cond b (Some nonce) (last_notice T server)) (same_number server)
-
-    -- the Map-Server stands for the trace with the step
-    sent_part : StandsForServer o (step sent ∷ T) server turn.acts.after
-    sent_part = part_after o T (step sent) server turn.acts.before turn.acts.after part (time sent) refl refl announced.rest (turn.notifies.started ∙ part.started)
-        (λ pair differ. announced.nonces.others pair differ) (announced.nonces.here ∙ sym last_is) (λ other. each_notice other (same_or_other other me))
-
-    -- and so does the network, with the line that names the contact's key and the nonce
-    sent_stands : turn.more ≡ record { from = address_of old server; to = to; bytes = bytes } ∷ [] → Stands new o (step sent ∷ T)
-    sent_stands posts = server_acts old new server turn.more turn.acts o T (step sent) stand refl refl sent_legal (subst (λ (more : List DatagramValue). Adds o T (step sent) more) (sym posts) sent_adds) shows.after sent_part
+    each_notice other (inl same) = subst (λ (r : RouterId). SameNotice o (step sent ∷ T) server (notice_to o (step sent ∷ T) server r) (notice_at after.notices r)) (sym same) (
+        let here = after_is me ∙ ap (λ (b : Bool). cond b (Some notice) (found me (notices_to_others me (notices o T server)))) (router_itself me) in
+        rw (here, announced.stands.here) (record {
+          router = refl;
+          key = refl;
+          nonce = refl;
+          item = item;
+          sent = ap (λ (items : List Item). slice_get items (length old.bag)) sent_bag ∙ at_end (bag o T) item (length old.bag) stand.bag.count;
+          from = refl;
+          to = its_to;
+          bytes = its_bytes;
+          earlier = [];
+          moments = refl;
+          resends = refl;
+        }))
+    each_notice other (inr differ) = (
+        let here = after_is other ∙ ap (λ (b : Bool). cond b (Some notice) (found other (notices_to_others me (notices o T server)))) (router_other me other (λ same. differ (sym same))) ∙ found_without me other (notices o T server) differ in
+        rw (here, announced.stands.others other differ) (notice_goes o T (step sent ∷ T) server ((item ∷ []), sent_bag) (notice_to o T server other) (notice_at core.notices other) (part.notices other)))
 
     -- its line has the Key ID and the nonce that stand in the datagram
     its_head : (head : Head) → head_at bytes ≡ Some head → head ≡ record { key_id = contact.key; nonce = nonce }
@@ -493,7 +443,16 @@ module _ (old new : WorldState) (server router : ℕ) (fate : Fate) (line : Line
     noticed_stands says =
         let head = its_head says.head says.read in
         let said : line ≡ sent = says.said ∙ ap (λ (h : Head). lines.Notice server router h.key_id h.nonce (length old.bag)) head in
-        subst (λ (l : Line). Stands new o (step l ∷ T)) (sym said) (sent_stands says.posts)
+        subst (λ (l : Line). Stands new o (step l ∷ T)) (sym said) (
+            (server_acts old new server turn.more turn.acts o T (step sent) stand refl refl sent_legal (subst (λ (more : List DatagramValue). Adds o T (step sent) more) (sym says.posts)
+                (adds_one o T (step sent) (record { from = address_of old server; to = to; bytes = bytes }) item sent_bag (record {
+                  from = address_is old o T stand server;
+                  to = its_to;
+                  bytes = its_bytes;
+                  message = subst (λ (records : List MapRecordValue). IsMapNotify (notice_of contact.key nonce records)) its_records announced.fits;
+                }))) shows.after (part_after o T (step sent) server turn.acts.before turn.acts.after part (time sent) refl refl announced.rest (turn.notifies.started ∙ part.started)
+                    (λ pair differ. announced.nonces.others pair differ) (announced.nonces.here ∙ sym
+                        (ap (λ (b : Bool). cond b (Some nonce) (last_notice T server)) (same_number server))) (λ other. each_notice other (same_or_other other me)))))
 
   -- none goes out
   module _ (fault : NoticeFault) (refuses : RefusesToTell core armed called me now fault) (same : after ≡ core) where
@@ -532,7 +491,7 @@ module _ (old new : WorldState) (server router : ℕ) (fate : Fate) (line : Line
     why : (f : NoticeFault) → RefusesToTell core armed called me now f → RefusesNotice its_turn router f
     why notice_faults.NotRegistered is = (none_told core.rows (since_start o T server) now turn.notifies.one_each part.rows me is.0, same_store is.1)
     why notice_faults.TooLarge is = (
-      some_told core.rows (since_start o T server) now turn.notifies.one_each part.rows me (λ none. empty_fits (ap fits_message (sym none) ∙ is.0)),
+      some_told core.rows (since_start o T server) now turn.notifies.one_each part.rows me (λ none. (absurd cc)),
       any_order (live_of core.rows me now) (records_of (since_start o T server) me now) told_records ∙ is.0,
       same_store is.1,
     )
@@ -554,27 +513,18 @@ module _ (old new : WorldState) (server router : ℕ) (fate : Fate) (line : Line
     )
     why notice_faults.NotDue is = absurd is
 
-    -- the step is legal
-    refused_legal : Legal o T (step refused)
-    refused_legal = record { faults = λ other. shows.count; obedient = shows.obedient; row = (refl, acting refused, known_router old o T stand router turn.place turn.number turn.node turn.there, why fault refuses) }
-
     -- nothing comes to the bag
     refused_bag : bag o (step refused ∷ T) ≡ bag o T ++ []
     refused_bag = refl
 
-    -- the Map-Server is as it was
-    its_core : after ≡ record core { nonces = after.nonces; notices = after.notices }
-    its_core = same ∙ (λ i. record core { nonces = (sym same i).nonces; notices = (sym same i).notices })
-
-    -- it stands for the trace with the step
-    refused_part : StandsForServer o (step refused ∷ T) server turn.acts.after
-    refused_part = part_after o T (step refused) server turn.acts.before turn.acts.after part (time refused) refl refl its_core (turn.notifies.started ∙ part.started)
-        (λ pair differ. ap (λ (c : ServerState). nonce_at c.nonces pair) same) (ap (λ (c : ServerState). nonce_at c.nonces notice_pair) same ∙ part.notice_nonce)
-        (λ other. subst (λ (c : ServerState). SameNotice o (step refused ∷ T) server (notice_to o T server other) (notice_at c.notices other)) (sym same) (notice_goes o T (step refused ∷ T) server ([], refused_bag) (notice_to o T server other) (notice_at core.notices other) (part.notices other)))
-
     -- and so does the network
     refused_stands : turn.more ≡ [] → Stands new o (step refused ∷ T)
-    refused_stands posts = server_acts old new server turn.more turn.acts o T (step refused) stand refl refl refused_legal (subst (λ (more : List DatagramValue). Adds o T (step refused) more) (sym posts) (adds_none o T (step refused) refused_bag)) shows.after refused_part
+    refused_stands posts = server_acts old new server turn.more turn.acts o T (step refused) stand refl refl
+        (record { faults = λ other. shows.count; obedient = shows.obedient; row = (refl, acting refused, known_router old o T stand router turn.place turn.number turn.node turn.there, why fault refuses) })
+        (subst (λ (more : List DatagramValue). Adds o T (step refused) more) (sym posts) (adds_none o T (step refused) refused_bag)) shows.after (part_after o T (step refused) server turn.acts.before turn.acts.after part (time refused) refl refl
+            (same ∙ (λ i. record core { nonces = (sym same i).nonces; notices = (sym same i).notices })) (turn.notifies.started ∙ part.started)
+            (λ pair differ. ap (λ (c : ServerState). nonce_at c.nonces pair) same) (ap (λ (c : ServerState). nonce_at c.nonces notice_pair) same ∙ part.notice_nonce)
+            (λ other. subst (λ (c : ServerState). SameNotice o (step refused ∷ T) server (notice_to o T server other) (notice_at c.notices other)) (sym same) (notice_goes o T (step refused ∷ T) server ([], refused_bag) (notice_to o T server other) (notice_at core.notices other) (part.notices other))))
 
   -- the notice was sent, or refused
   either : (answer : Result (Addr × List ℕ) NoticeFault) → IfOk answer (λ x. Announces core after armed called me now x.0 x.1) → IfErr answer (λ fault. RefusesToTell core armed called me now fault) → OnErr answer (after ≡ core)

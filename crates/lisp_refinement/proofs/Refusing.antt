@@ -158,16 +158,13 @@ base_in known last store kept pair base honest shown same is =
 
 -- what a look-up finds, where one element alone passes
 module _ {X : Type 0} (p : X → Bool) where
-  some_clash : {x : X} → ◌≡◌ {A = Option X} (Some x) None → ⊥
-  some_clash e = absurd cc
-
   -- where nothing is found, nothing passes
   find_none : (xs : List X) (x : X) → find p xs ≡ None → Contains xs x → p x ≡ false
   find_none [] x e has = absurd (in_none x has)
   find_none (y ∷ ys) x e has = at (p y) refl e (head_or_tail y ys x has) (find_none ys x)
     where
       at : (b : Bool) → p y ≡ b → cond b (Some y) (find p ys) ≡ None → (x ≡ y) ⊎ Contains ys x → (find p ys ≡ None → Contains ys x → p x ≡ false) → p x ≡ false
-      at true is e where_is later = absurd (some_clash e)
+      at true is e where_is later = absurd ((absurd cc))
       at false is e (inl same) later = ap p same ∙ is
       at false is e (inr more) later = later e more
 

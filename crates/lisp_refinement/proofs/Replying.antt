@@ -44,16 +44,13 @@ module _ (w : WorldState) (o : Opening) (T : List Step) (stand : Stands w o T) (
   abbrev part : StandsForServer o T server n
   part = stand.servers server n at
 
-  lists : Lists w server held
-  lists = record {
+  -- a router sent each row of it
+  row_was_sent : Clean o T → (row : RowValue) → Contains held row → (e : SentRegister) × IsSentRow o T server row e
+  row_was_sent clean row has = ((networks_promise w o T stand).over_clean clean).listed_was_sent server held (record {
     core = n.core;
     running = ap (option_map (λ (m : ServerNodeState). m.core)) at;
     held = subst (λ (now : ℕ). IsHeld n.core.rows now held) (sym stand.bag.moment) (lists_held o T server n part);
-  }
-
-  -- a router sent each row of it
-  row_was_sent : Clean o T → (row : RowValue) → Contains held row → (e : SentRegister) × IsSentRow o T server row e
-  row_was_sent clean row has = ((networks_promise w o T stand).over_clean clean).listed_was_sent server held lists row has
+  }) row has
 
   record_was_sent : Clean o T → (addr : Addr) (r : MapRecordValue) → IsAnswered held addr (clock T) r → IsSentRecord o T server addr r
   record_was_sent clean addr r (row, best, is) =

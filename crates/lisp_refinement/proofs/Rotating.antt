@@ -89,13 +89,9 @@ module _ (w : WorldState) (o : Opening) (T : List Step) (stand : Stands w o T) (
   knows : KnowsKey o.config router key
   knows none = none_is_some (sym none ∙ known_here)
 
-  -- with the same secret
-  secret_is : of.secret ≡ secret_at o.config.sites (router_at o.config router).me.site key
-  secret_is = ap (λ found. unwrap_or found []) (sym known_here)
-
   -- so the router's configuration under it is that of the trace
   pub config_under : (c : EtrConfigValue) → c ≡ etr_config o T router → with_key c key of.secret ≡ etr_config_under o.config (router_at o.config router) key
-  config_under c is = λ i. with_key (is i) key (secret_is i)
+  config_under c is = λ i. with_key (is i) key ((ap (λ found. unwrap_or found []) (sym known_here)) i)
 
   -- the router may go over to it
   pub may_rotate : is_used node.used.before_loss key ≡ false → MayRotate o T router key
@@ -130,9 +126,6 @@ module _ (old new : WorldState) (router key : ℕ) (fate : Fate) (line : Line) (
   part : StandsForRouter o T router before
   part = acts_part old new router [] rotates.acts o T stand
 
-  shows : Shows before.store (shown_store o T router)
-  shows = acts_shows old new router [] rotates.acts o T stand
-
   may : MayRotate o T router key
   may = may_rotate old o T stand router before part key rotates.of rotates.unused
 
@@ -163,18 +156,6 @@ module _ (old new : WorldState) (router key : ℕ) (fate : Fate) (line : Line) (
       -- the trace with the step
       abbrev later : List Step
       later = step_of event router (shown_by called) (lines.Rotated router key) ∷ T
-
-      -- the row of the line
-      row : IsRotated turn router key router key
-      row = record {
-        acts = record { kind = kind; acts = refl; state = own.up };
-        names = refl;
-        to = refl;
-        may = may;
-        other = λ is. call.other (is ∙ sym key_is);
-        loads = by_fate (λ x. x ≢ FailedLoads) fate armed (shown_store o T router) uses.armed_shows uses.fated call.loads;
-        same = unmoved;
-      }
 
       -- its configuration under the key is what the trace says
       settled : with_key e.config key rotates.of.secret ≡ etr_config o later router
@@ -210,27 +191,31 @@ module _ (old new : WorldState) (router key : ℕ) (fate : Fate) (line : Line) (
           (rounds_become T router server was.0 (own.rounds i server was.0 lists was.1) later (λ place. refl) (rotated_round old.clock)
           (λ place r stood. round_anew o T later router called.kept begins server place old.clock (rotated_round old.clock r) stand.bag.moment (rounds_keep_time.rotate old.clock r) refl))
 
-      -- the router stands
-      rotated_core : StandsForEtr o later router left
-      rotated_core = record {
-        up = own.up;
-        config = ap (λ (x : EtrState). x.config) call.rotates ∙ settled;
-        database = ap (λ (x : EtrState). x.database) call.rotates ∙ own.database;
-        last = (let is = call.last uses.armed_shows.honest in (is.0, counts is.0 is.1, is.2));
-        safe = λ v has. omega (arith, ap (λ (x : EtrState). x.safe) call.rotates);
-        count = ap (λ (x : EtrState). length x.rounds) call.rotates ∙ length-map e.rounds (rotated_rounds old.clock) ∙ own.count;
-        rounds = λ i server rs lists has. rounds_stand i server rs lists (ap (λ (x : EtrState). slice_get x.rounds i) (sym call.rotates) ∙ has);
-      }
-
       -- its step
       rotated_step : RouterStep o T event router (shown_by called) (MayCome turn event) (lines.Rotated router key) [] (record before { used = after.used; core = Up left; store = after.store })
       rotated_step = record {
-        row = row;
+        row = record {
+          acts = record { kind = kind; acts = refl; state = own.up };
+          names = refl;
+          to = refl;
+          may = may;
+          other = λ is. call.other (is ∙ sym key_is);
+          loads = by_fate (λ x. x ≢ FailedLoads) fate armed (shown_store o T router) uses.armed_shows uses.fated call.loads;
+          same = unmoved;
+        };
         count = uses.count;
         obedient = uses.obedient;
         adds = adds_none o T _ refl;
         shows = uses.after;
-        part = record { me = part.me; servers = part.servers; used = keys; core = rotated_core };
+        part = record { me = part.me; servers = part.servers; used = keys; core = record {
+          up = own.up;
+          config = ap (λ (x : EtrState). x.config) call.rotates ∙ settled;
+          database = ap (λ (x : EtrState). x.database) call.rotates ∙ own.database;
+          last = (let is = call.last uses.armed_shows.honest in (is.0, counts is.0 is.1, is.2));
+          safe = λ v has. omega (arith, ap (λ (x : EtrState). x.safe) call.rotates);
+          count = ap (λ (x : EtrState). length x.rounds) call.rotates ∙ length-map e.rounds (rotated_rounds old.clock) ∙ own.count;
+          rounds = λ i server rs lists has. rounds_stand i server rs lists (ap (λ (x : EtrState). slice_get x.rounds i) (sym call.rotates) ∙ has);
+        } };
       }
 
     -- it was refused
@@ -242,10 +227,6 @@ module _ (old new : WorldState) (router key : ℕ) (fate : Fate) (line : Line) (
       abbrev with_refusal : List Step
       with_refusal = step_of event router (shown_by called) refused ∷ T
 
-      -- a device failed
-      rose : Rises armed called → Rose turn
-      rose is = subst (λ (n : ℕ). (n < called.faults) ⊎ (called.faults ≡ 2 ^ 64 - 1)) uses.armed_shows.faults is
-
       -- each refusal has its row
       refusal : (f : RotateFault) → IsRotateFaultOf e key armed called f → RefusesToRotate turn router key f
       refusal SameKey is = (is.0 ∙ key_is, unmoved)
@@ -253,7 +234,7 @@ module _ (old new : WorldState) (router key : ℕ) (fate : Fate) (line : Line) (
         λ own_key. is.0 (own_key ∙ sym key_is),
         record {
           same = unmoved;
-          cause = λ other. rose (is.1 other);
+          cause = λ other. (subst (λ (n : ℕ). (n < called.faults) ⊎ (called.faults ≡ 2 ^ 64 - 1)) uses.armed_shows.faults (is.1 other));
           may = λ other. by_fate (λ x. x ≡ FailedLoads) fate armed (shown_store o T router) uses.armed_shows uses.fated (is.2 other);
         },
       )
@@ -283,7 +264,8 @@ module _ (old new : WorldState) (router key : ℕ) (fate : Fate) (line : Line) (
   rotates_at (Up e) own up =
       let r = up.rotates in
       answered r.etr r.left (subst (λ (core : RouterCoreState). StandsForCore o T router core) r.was part.core) r.call.armed r.call.called
-      (uses_shown before.store r.call.armed r.call.called after.store fate (shown_store o T router) shows r.call.uses) r.call.same r.is up.answer up.said r.used r.call.call
+      (uses_shown before.store r.call.armed r.call.called after.store fate (shown_store o T router)
+          (acts_shows old new router [] rotates.acts o T stand) r.call.uses) r.call.same r.is up.answer up.said r.used r.call.call
   rotates_at (Down config db) core at = ends (shown_store o T router) (down_step old new router [] rotates.acts o T stand event _ line (at.0, at.1, refl)
       (may, record { acts = record { kind = kind; acts = refl; state = core.0 }; names = refl; same = refl }) refl
       (record { up = refl; under = refl; since_loss = refl; before_loss = refl; given = refl })

@@ -161,24 +161,6 @@ module _ (old : WorldState) (o : Opening) (T : List Step) (stand : Stands old o 
         settled (inl above) = by above (subst (λ (c : EtrConfigValue). Settles (values turn (pair_at o T router)) (values_after turn (pair_at o T router)) (e.last + 1) c.nonce_block) own.config (carried (λ was is. Settles was is (e.last + 1) e.config.nonce_block) (call.settles uses.armed_shows.honest)))
         settled (inr below) = inl (carried (λ was is. is ≡ was) (ap (λ (x : StoreState). kept_at x.kept (sent_pair e.config)) (call.unasked below)))
 
-    -- the row of the line
-    sent_row : IsSent turn router server portion e.config.key_id (e.last + 1) (length old.bag)
-    sent_row = record {
-      acts = record { kind = kind; acts = refl; state = own.up };
-      kind = known;
-      listed = found.1;
-      fits = subst (λ (db : List MapRecordValue). database_of db ≡ Ok db) own.database call.fits;
-      there = has_part call.there;
-      under = ap (λ (c : EtrConfigValue). c.key_id) own.config;
-      base = own.last.0;
-      counts = own.last.1;
-      next = ap (λ n. n + 1) own.last.2;
-      within = (let left = call.left in omega (arith, left));
-      message = known_message;
-      place = stand.bag.count;
-      saves = sent_saves;
-    }
-
     -- the datagram carries the item
     sent_carries : Carries datagram (register_item o T router server portion (e.last + 1))
     unfolding bytes_of
@@ -193,41 +175,41 @@ module _ (old : WorldState) (o : Opening) (T : List Step) (stand : Stands old o 
     sent_counts : CountsFrom o (step_of event router after_it said ∷ T) router (Some (e.last + 1))
     sent_counts = subst (λ b. IsBase (if b then Some (e.last + 1) else last_sent T router) (start_values o T router) (Some (e.last + 1))) (sym (same_number router)) refl
 
-    -- the router has rounds with the server
-    rounds_there : slice_get e.rounds place ≡ Some (rounds_at e.rounds place)
-    rounds_there = slice_get-get_or e.rounds place (record { parts = []; acked = [] }) (let low = slice_get_within (router_at o.config router).servers place server found.0 in let count = own.count in omega (arith, low, count))
-
-    -- the part is one of those that a database may have
-    within_parts : portion < most_parts
-    within_parts = let there = call.there in let few = few_parts e.database call.fits in omega (arith, there, few)
-
-    -- all rounds stand
-    sent_rounds : (i k : ℕ) (rs : Rounds) → slice_get (router_at o.config router).servers i ≡ Some k → slice_get etr.rounds i ≡ Some rs → StandsForRounds (step_of event router after_it said ∷ T) router k rs
-    sent_rounds i k rs listed is = rounds_set T (step_of event router after_it said ∷ T) router (router_at o.config router).servers e.rounds place server (rounds_after_send portion (e.last + 1) old.clock (rounds_at e.rounds place)) once found.0
-        (sent_here T event router after_it server portion e.config.key_id (e.last + 1) (length old.bag) old.clock (rounds_at e.rounds place) stand.bag.moment within_parts (own.rounds place server (rounds_at e.rounds place) found.0 rounds_there))
-        (sent_there T event router after_it server portion e.config.key_id (e.last + 1) (length old.bag)) own.rounds i k rs listed (ap (λ (all : List Rounds). slice_get all i) (sym call.sends.rounds) ∙ is)
-
-    -- and so does the router
-    sent_core : StandsForEtr o (step_of event router after_it said ∷ T) router etr
-    sent_core = record {
-      up = own.up;
-      config = call.sends.config ∙ own.config;
-      database = call.sends.database ∙ own.database;
-      last = (Some (e.last + 1), sent_counts, call.sends.last);
-      safe = safe_now etr.safe said (safe_after etr.safe (call.keeps_safe uses.armed_shows.honest safe_before));
-      count = ap length call.sends.rounds ∙ length-set e.rounds place (rounds_after_send portion (e.last + 1) old.clock (rounds_at e.rounds place)) ∙ own.count;
-      rounds = sent_rounds;
-    }
-
     -- its step
     sent_step : RouterStep o T event router after_it Row said (datagram ∷ []) left
     sent_step = record {
-      row = (refl, refl, refl, sent_row);
+      row = (refl, refl, refl, (record {
+        acts = record { kind = kind; acts = refl; state = own.up };
+        kind = known;
+        listed = found.1;
+        fits = subst (λ (db : List MapRecordValue). database_of db ≡ Ok db) own.database call.fits;
+        there = has_part call.there;
+        under = ap (λ (c : EtrConfigValue). c.key_id) own.config;
+        base = own.last.0;
+        counts = own.last.1;
+        next = ap (λ n. n + 1) own.last.2;
+        within = (let left = call.left in omega (arith, left));
+        message = known_message;
+        place = stand.bag.count;
+        saves = sent_saves;
+      }));
       count = uses.count;
       obedient = uses.obedient;
       adds = adds_one o T (step_of event router after_it said) datagram (register_item o T router server portion (e.last + 1)) refl sent_carries;
       shows = uses.after;
-      part = record { me = part.me; servers = part.servers; used = record { since_loss = part.used.since_loss; before_loss = part.used.before_loss }; core = sent_core };
+      part = record { me = part.me; servers = part.servers; used = record { since_loss = part.used.since_loss; before_loss = part.used.before_loss }; core = record {
+        up = own.up;
+        config = call.sends.config ∙ own.config;
+        database = call.sends.database ∙ own.database;
+        last = (Some (e.last + 1), sent_counts, call.sends.last);
+        safe = safe_now etr.safe said (safe_after etr.safe (call.keeps_safe uses.armed_shows.honest safe_before));
+        count = ap length call.sends.rounds ∙ length-set e.rounds place (rounds_after_send portion (e.last + 1) old.clock (rounds_at e.rounds place)) ∙ own.count;
+        rounds = λ i k rs listed is. rounds_set T (step_of event router after_it said ∷ T) router (router_at o.config router).servers e.rounds place server (rounds_after_send portion (e.last + 1) old.clock (rounds_at e.rounds place)) once found.0
+            (sent_here T event router after_it server portion e.config.key_id (e.last + 1) (length old.bag) old.clock (rounds_at e.rounds place) stand.bag.moment
+                (let there = call.there in let few = few_parts e.database call.fits in omega (arith, there, few)) (own.rounds place server (rounds_at e.rounds place) found.0
+                (slice_get-get_or e.rounds place (record { parts = []; acked = [] }) (let low = slice_get_within (router_at o.config router).servers place server found.0 in let count = own.count in omega (arith, low, count)))))
+            (sent_there T event router after_it server portion e.config.key_id (e.last + 1) (length old.bag)) own.rounds i k rs listed (ap (λ (all : List Rounds). slice_get all i) (sym call.sends.rounds) ∙ is);
+      } };
     }
 
     -- what its line says is what stands in the datagram
@@ -269,13 +251,10 @@ module _ (old : WorldState) (o : Opening) (T : List Step) (stand : Stands old o 
     bound_is : block_end (e.last + 1) e.config.nonce_block ≡ bound
     bound_is = λ i. block_end (own.last.2 i + 1) (own.config i).nonce_block
 
-    -- a device failed
-    rose : ((armed.faults < called.faults) ⊎ (called.faults ≡ 2 ^ 64 - 1)) → Rose turn
-    rose is = subst (λ (n : ℕ). (n < called.faults) ⊎ (called.faults ≡ 2 ^ 64 - 1)) uses.armed_shows.faults is
-
     -- a fault other than out of memory has its cause
     cause_of : (f : StoreFault) → fault ≡ Store f → f ≢ faults.OutOfMemory → Rose turn
-    cause_of faults.Device is other = rose (call.cause is)
+    cause_of faults.Device is other =
+        (subst (λ (n : ℕ). (n < called.faults) ⊎ (called.faults ≡ 2 ^ 64 - 1)) uses.armed_shows.faults (call.cause is))
     cause_of faults.Damaged is other = absurd (call.sound is)
     cause_of faults.OutOfMemory is other = absurd (other refl)
 
@@ -348,9 +327,6 @@ module _ (old new : WorldState) (router server portion : ℕ) (fate : Fate) (lin
   part_here : StandsForRouter o T router sends.acts.before
   part_here = acts_part old new router sends.more sends.acts o T stand
 
-  shows_here : Shows sends.acts.before.store (shown_store o T router)
-  shows_here = acts_shows old new router sends.more sends.acts o T stand
-
   once_here : AllPairs (λ a b. a ≢ b) (router_at o.config router).servers
   once_here = acts_once old new router sends.more sends.acts o T stand
 
@@ -373,7 +349,8 @@ module _ (old new : WorldState) (router server portion : ℕ) (fate : Fate) (lin
   sends_at (Up e) own up =
       let call = up.sends.call in
       sends_ok up.sends.etr (subst (λ (core : RouterCoreState). StandsForCore o T router core) up.sends.was part_here.core) up.sends.left up.sends.is call.armed call.called
-      (uses_shown sends.acts.before.store call.armed call.called sends.acts.after.store fate (shown_store o T router) shows_here call.uses) up.answer call.call up.says
+      (uses_shown sends.acts.before.store call.armed call.called sends.acts.after.store fate (shown_store o T router)
+          (acts_shows old new router sends.more sends.acts o T stand) call.uses) up.answer call.call up.says
   sends_at (Down config db) core at = ends (shown_store o T router) (down_step old new router sends.more sends.acts o T stand (events.Send router server portion fate) _ line at
       (known_server, record { acts = record { kind = kind_here; acts = refl; state = core.0 }; names = refl; same = refl }) refl
       (record { up = refl; under = refl; since_loss = refl; before_loss = refl; given = refl })

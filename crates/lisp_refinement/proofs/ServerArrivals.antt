@@ -147,18 +147,14 @@ module _ (o : Opening) (T : List Step) (node : ℕ) (kind : is_server o.config n
           same = same_store o T node before part armed called shows (fate_of event) fated e.store;
         }
 
-    -- the other notices stand on
-    done_notices : (q : RouterId) → SameNotice o (received_step (lines.Done node router nonce) ∷ T) node (notice_to o (received_step (lines.Done node router nonce) ∷ T) node q) (notice_at after.core.notices q)
-    done_notices q =
-        subst (λ (b : Bool). SameNotice o (received_step (lines.Done node router nonce) ∷ T) node (find (λ n. router_eq n.router q) (if b then notices_to_others router (notices o T node) else notices o T node)) (notice_at after.core.notices q)) (sym (same_number node))
-        (subst (λ (r : RouterId). SameNotice o (received_step (lines.Done node router nonce) ∷ T) node (find (λ n. router_eq n.router q) (notices_to_others r (notices o T node))) (notice_at after.core.notices q)) (sym e.its)
-        (ended_same o T node before.core.notices part.notices (received_step (lines.Done node router nonce) ∷ T) after.core.notices e.notice.router e.ended refl q))
-
     done : Received o T (received_step (lines.Done node router nonce)) (arriving from bytes (Ok (Notifies m))) node after []
     done = record {
       row = done_row;
       adds = adds_none o T (received_step (lines.Done node router nonce)) refl;
-      part = stays (lines.Done node router nonce) refl refl refl e.rest done_notices;
+      part = stays (lines.Done node router nonce) refl refl refl e.rest (λ q. 
+          subst (λ (b : Bool). SameNotice o (received_step (lines.Done node router nonce) ∷ T) node (find (λ n. router_eq n.router q) (if b then notices_to_others router (notices o T node) else notices o T node)) (notice_at after.core.notices q)) (sym (same_number node))
+          (subst (λ (r : RouterId). SameNotice o (received_step (lines.Done node router nonce) ∷ T) node (find (λ n. router_eq n.router q) (notices_to_others r (notices o T node))) (notice_at after.core.notices q)) (sym e.its)
+          (ended_same o T node before.core.notices part.notices (received_step (lines.Done node router nonce) ∷ T) after.core.notices e.notice.router e.ended refl q)));
     }
 
   -- a Map-Register is accepted
@@ -184,32 +180,11 @@ module _ (o : Opening) (T : List Step) (node : ℕ) (kind : is_server o.config n
     taken_is : acceptances_in (arrival_in (bag o T) event) (clock T) ≡ one ∷ []
     taken_is = ap (λ (x : Option Arrival). acceptances_in x (clock T)) arrives ∙ taken_one (arriving from bytes (Ok (Registers m))) (clock T) message admitted.read
 
-    -- that is a legal step
-    accepted_row : IsAccepted (turn_at o T node (fate_of event) called) (arriving from bytes (Ok (Registers m))) node router key nonce (reply_number (length (bag o T)) reply)
-    accepted_row = record {
-      acts = acts;
-      message = message;
-      admits = admitted;
-      who = answers.who;
-      under = answers.under;
-      number = answers.number;
-      fresh = is_fresh o T node before part armed called shows (fate_of event) fated message a.fresh;
-      space = space_in o T node before part armed called shows (fate_of event) fated from bytes (Ok (Registers m)) message a.space;
-      may = by_fate (λ f. f ≢ Doubt) (fate_of event) armed (shown_store o T node) shows fated a.saves;
-      kept = a.kept shows.honest;
-      others = subst (λ (k : Kept). SameElsewhere k called.kept (pair_of message)) shows.kept (a.others shows.honest);
-      reply = ap (reply_number (length (bag o T))) answers.answer ∙ reply_case (length (bag o T)) message.want_notify (signed a.passed.secret (written_notify (reply_to message)));
-    }
-
-    -- the secret of the reply
-    secret_is : a.passed.secret ≡ secret_at (sites o T node) message.site message.key_id
-    secret_is =
-        let passed = is_passed before.core.sites from bytes m a.passed a.checks in
-        sym ((λ i. secret_at (sym part.sites i) (passed.message i).site (passed.message i).key_id) ∙ ap (λ (x : Option (List ℕ)). unwrap_or x []) (its_secret before.core.sites from bytes m a.passed.secret passed.checks))
-
     spelled : (x : List ℕ) → Some x ≡ reply_of a.passed.secret message → x ≡ bytes_of (reply_item o.config (sites o T node) node one)
     unfolding bytes_of
-    spelled x e = asked message.want_notify (signed a.passed.secret (written_notify (reply_to message))) x e ∙ ap (λ (secret : List ℕ). signed secret (written_notify (reply_to message))) secret_is
+    spelled x e = asked message.want_notify (signed a.passed.secret (written_notify (reply_to message))) x e ∙ ap (λ (secret : List ℕ). signed secret (written_notify (reply_to message))) (
+        let passed = is_passed before.core.sites from bytes m a.passed a.checks in
+        sym ((λ i. secret_at (sym part.sites i) (passed.message i).site (passed.message i).key_id) ∙ ap (λ (x : Option (List ℕ)). unwrap_or x []) (its_secret before.core.sites from bytes m a.passed.secret passed.checks)))
 
     -- the reply goes to the bag, where there is one
     adds_reply : (q : Option (List ℕ)) → q ≡ reply_of a.passed.secret message → Adds o T (received_step (said q)) (option_to_list (option_map (λ x. record { from = address_at o.config node; to = from; bytes = x }) q))
@@ -224,25 +199,34 @@ module _ (o : Opening) (T : List Step) (node : ℕ) (kind : is_server o.config n
         ap (λ (b : Bool). if b then acceptances_in (arrival_in (bag o T) event) (clock T) ++ since_start o T node else since_start o T node) (same_number node)
         ∙ ap (λ (xs : List Acceptance). xs ++ since_start o T node) taken_is
 
-    -- the Map-Server goes on to stand
-    accepted_part : Adds o T (received_step (said reply)) (replies {A = A} (address_at o.config node) from (Ok (Accepted router key nonce reply))) → StandsForServer o (received_step (said reply) ∷ T) node after
-    accepted_part adds = record {
-      sites = a.sites ∙ part.sites ∙ sym has;
-      rows = λ q eid. subst (λ (now : ℕ). option_and_then (if_alive now) (row_at after.core.rows q eid) ≡ held_row (since_start o (received_step (said reply) ∷ T) node) q eid now) (sym still)
-          (rows_after message from (clock T) (since_start o T node) q eid before.core.rows after.core.rows a.rows (part.rows q eid) ∙ ap (λ (xs : List Acceptance). held_row xs q eid (clock T)) (sym since_is));
-      nonces = λ pair other. nonces_after message from (clock T) (since_start o T node) before.core.nonces after.core.nonces a.nonces pair (part.nonces pair other) ∙ ap (last_of pair) (sym since_is);
-      notice_nonce = a.nonces.others notice_pair (λ e. not_notices message (sym e)) ∙ part.notice_nonce;
-      contacts = λ q eid h is. contacts_after message from (clock T) (since_start o T node) q eid before.core.contacts after.core.contacts a.contacts (part.contacts q eid) h ((λ i. held_row (sym since_is i) q eid (sym still i)) ∙ is)
-          ∙ ap (λ (xs : List Acceptance). option_map (λ x. contact_of x.message x.from) (heard_last q xs)) (sym since_is);
-      notices = λ q. subst (λ (ns : List StandingNoticeValue). SameNotice o (received_step (said reply) ∷ T) node (notice_to o T node q) (notice_at ns q)) (sym a.notices)
-          (notice_goes o T (received_step (said reply) ∷ T) node (adds.items, adds.added) (notice_to o T node q) (notice_at before.core.notices q) (part.notices q));
-      started = lives ∙ part.started;
-    }
-
     accepted : Received o T (received_step (said reply)) (arriving from bytes (Ok (Registers m))) node after (replies {A = A} (address_at o.config node) from (Ok (Accepted router key nonce reply)))
     accepted =
         let adds = adds_reply reply answers.answer in
-        record { row = accepted_row; adds = adds; part = accepted_part adds }
+        record { row = record {
+          acts = acts;
+          message = message;
+          admits = admitted;
+          who = answers.who;
+          under = answers.under;
+          number = answers.number;
+          fresh = is_fresh o T node before part armed called shows (fate_of event) fated message a.fresh;
+          space = space_in o T node before part armed called shows (fate_of event) fated from bytes (Ok (Registers m)) message a.space;
+          may = by_fate (λ f. f ≢ Doubt) (fate_of event) armed (shown_store o T node) shows fated a.saves;
+          kept = a.kept shows.honest;
+          others = subst (λ (k : Kept). SameElsewhere k called.kept (pair_of message)) shows.kept (a.others shows.honest);
+          reply = ap (reply_number (length (bag o T))) answers.answer ∙ reply_case (length (bag o T)) message.want_notify (signed a.passed.secret (written_notify (reply_to message)));
+        }; adds = adds; part = record {
+          sites = a.sites ∙ part.sites ∙ sym has;
+          rows = λ q eid. subst (λ (now : ℕ). option_and_then (if_alive now) (row_at after.core.rows q eid) ≡ held_row (since_start o (received_step (said reply) ∷ T) node) q eid now) (sym still)
+              (rows_after message from (clock T) (since_start o T node) q eid before.core.rows after.core.rows a.rows (part.rows q eid) ∙ ap (λ (xs : List Acceptance). held_row xs q eid (clock T)) (sym since_is));
+          nonces = λ pair other. nonces_after message from (clock T) (since_start o T node) before.core.nonces after.core.nonces a.nonces pair (part.nonces pair other) ∙ ap (last_of pair) (sym since_is);
+          notice_nonce = a.nonces.others notice_pair (λ e. not_notices message (sym e)) ∙ part.notice_nonce;
+          contacts = λ q eid h is. contacts_after message from (clock T) (since_start o T node) q eid before.core.contacts after.core.contacts a.contacts (part.contacts q eid) h ((λ i. held_row (sym since_is i) q eid (sym still i)) ∙ is)
+              ∙ ap (λ (xs : List Acceptance). option_map (λ x. contact_of x.message x.from) (heard_last q xs)) (sym since_is);
+          notices = λ q. subst (λ (ns : List StandingNoticeValue). SameNotice o (received_step (said reply) ∷ T) node (notice_to o T node q) (notice_at ns q)) (sym a.notices)
+              (notice_goes o T (received_step (said reply) ∷ T) node (adds.items, adds.added) (notice_to o T node q) (notice_at before.core.notices q) (part.notices q));
+          started = lives ∙ part.started;
+        } }
 
   -- whatever it answers
   pub received : {A : Type 0} → LegalTrace o T → (read : Result MessageValue ReadFault) (answer : Result (Took A) Refused) → arrival_in (bag o T) event ≡ Some (arriving from bytes read)
@@ -306,20 +290,15 @@ module _ (A : Type 0) (old new : WorldState) (node : ℕ) (fate : Fate) (from : 
   uses : Shown-in fate at.receives.armed at.receives.called at.acts.after.store (shown_store o T node)
   uses = uses_shown at.acts.before.store at.receives.armed at.receives.called at.acts.after.store fate (shown_store o T node) (stand.steps.server_stores node at.acts.before at.acts.was) at.receives.uses
 
-  -- the Map-Server's part of the step
-  leaves : (event : EventValue) → fate_of event ≡ fate → is_timeless event ≡ true → arrival_in (bag o T) event ≡ Some (junk_arrival from bytes)
-      → Received o T (step event says) (junk_arrival from bytes) node at.acts.after (replies (address_at o.config node) from at.answer)
-  leaves event fated timeless arrives = received o T node (server_is old o T stand node at.acts.before at.acts.was) at.acts.before at.acts.after (stand.servers node at.acts.before at.acts.was) at.receives.started
-      at.receives.armed at.receives.called uses.armed_shows event (λ obeys. uses.fated obeys ∙ sym fated) timeless (same_sites (bag o T) event (junk_arrival from bytes) arrives node (sites o T node)) from bytes stand.steps.legal (message_at bytes) at.answer arrives
-      (subst (λ (now : ℕ). IfOk at.answer (λ took. ServerTakes (message_at bytes) from bytes at.acts.before.core at.acts.after.core at.receives.armed at.receives.called now took)) stand.bag.moment at.receives.taken)
-      (subst (λ (now : ℕ). IfErr at.answer (λ why. ServerRefuses (message_at bytes) from bytes at.acts.before.core at.receives.armed at.receives.called now why)) stand.bag.moment at.receives.refused)
-      at.receives.err at.receives.head
-
   -- the network stands for the trace with that step
   goes_on : (event : EventValue) → fate_of event ≡ fate → is_timeless event ≡ true → arrival_in (bag o T) event ≡ Some (junk_arrival from bytes)
       → (Arrives (context_of o T (step event says)) (junk_arrival from bytes) says → MayCome (context_of o T (step event says)) event says) → Stands new o (step event line ∷ T)
   goes_on event fated timeless arrives comes =
-      let left = leaves event fated timeless arrives in
+      let left = (received o T node (server_is old o T stand node at.acts.before at.acts.was) at.acts.before at.acts.after (stand.servers node at.acts.before at.acts.was) at.receives.started
+          at.receives.armed at.receives.called uses.armed_shows event (λ obeys. uses.fated obeys ∙ sym fated) timeless (same_sites (bag o T) event (junk_arrival from bytes) arrives node (sites o T node)) from bytes stand.steps.legal (message_at bytes) at.answer arrives
+          (subst (λ (now : ℕ). IfOk at.answer (λ took. ServerTakes (message_at bytes) from bytes at.acts.before.core at.acts.after.core at.receives.armed at.receives.called now took)) stand.bag.moment at.receives.taken)
+          (subst (λ (now : ℕ). IfErr at.answer (λ why. ServerRefuses (message_at bytes) from bytes at.acts.before.core at.receives.armed at.receives.called now why)) stand.bag.moment at.receives.refused)
+          at.receives.err at.receives.head) in
       subst (λ (said : Line). Stands new o (step event said ∷ T)) (sym (at.said ∙ ap (λ (next : ℕ). server_line node next at.answer) stand.bag.count))
       (server_acts old new node (replies (address_of old node) from at.answer) at.acts o T (step event says) stand refl timeless
       (record { faults = λ other. uses.count; obedient = uses.obedient; row = comes left.row })
