@@ -26,7 +26,7 @@ use Rattle.lisp_model.specs.Keys.{keys_since_loss, keys_before_loss}
 use Rattle.lisp_model.specs.Held.{Acceptance, last_of, heard_last, held_row}
 use Rattle.lisp_model.specs.Timers.{RoundTimes, Notice, notice_to, round, with_renewal}
 use Rattle.lisp_model.specs.Bag.{Item, bag, since_start}
-use Rattle.lisp_model.specs.Sending.{CountsFrom, last_sent, pair_at, start_values}
+use Rattle.lisp_model.specs.Sending.{last_sent, pair_at, start_values}
 use Rattle.lisp_model.specs.Context.{IsBase, Context}
 use Rattle.lisp_model.specs.Promises.{SameServer, SameRouter, is_timeless, LeavesOthers}
 use Rattle.lisp_model.proofs.Locality.{same_number, leaves_others, other_number}
@@ -44,7 +44,7 @@ use Rattle.lisp_etr.proofs.TimerLaws.{rounds_keep_time}
 use Rattle.lisp_model.specs.declared.line.Line.TheVariants as lines
 use Rattle.lisp_model.specs.Counted.{latest_nonce, acked}
 use Rattle.lisp_refinement.specs.World.{ServerNodeState, RouterCoreState, Up, Down, UsedKeysState, RouterNodeState, DatagramValue, WorldState}
-use Rattle.lisp_refinement.specs.Stands.{StandsForRound, StandsForEtr, StandsForCore, Marks, StandsForKeys, StandsForRouter, SameNotice, StandsForServer, shown_by, Shows, Carries, StandsInSteps, StandsInBag, Stands, StandsForRounds}
+use Rattle.lisp_refinement.specs.Stands.{StandsForRound, StandsForEtr, StandsForCore, Marks, StandsForKeys, StandsForRouter, SameNotice, StandsForServer, shown_by, Shows, Carries, Stands, StandsForRounds}
 use Rattle.lisp_refinement.specs.Calls.{UsesStore}
 use Rattle.lisp_refinement.specs.Events.{ServerActs, RouterActs, address_of}
 use Rattle.lisp_refinement.proofs.Gets.{get_before, none_is_some, same_some, AtSet, get_set, Either, get_both}

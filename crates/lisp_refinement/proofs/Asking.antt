@@ -17,7 +17,7 @@ use Rattle.lisp_records.specs.Row.{RowValue, IsAlive, is_alive}
 use Rattle.lisp_policy.specs.Site.{SiteValue}
 use Rattle.lisp_lookup.specs.declared.answer.Answer.{Answer}
 use Rattle.lisp_lookup.specs.declared.answer.Answer.TheVariants.{NoSite, NotRegistered, Reply, Forward}
-use Rattle.lisp_lookup.specs.Answer.{may_answer, IsBest, NoneAnswers, Answers}
+use Rattle.lisp_lookup.specs.Answer.{IsBest, NoneAnswers, Answers}
 use Rattle.lisp_lookup.specs.Table.{is_row_of, row_key, row_at, row_cmp, if_alive, OneEach, IsHeld}
 use Rattle.lisp_lookup.proofs.Orders.{key_total}
 use Rattle.lisp_lookup.proofs.TableLaws.{found_own, found_holds}
@@ -33,7 +33,6 @@ use Rattle.lisp_admission.specs.NoticeTimer.{gaps, due_after, has_come}
 use Rattle.lisp_server.specs.Notices.{StandingNoticeValue, notice_at, due_at, is_due_at, IsDueRouter}
 use Rattle.lisp_model.specs.Trace.{Step, Opening, router_at, clock}
 use Rattle.lisp_model.specs.Held.{accepted_rows, rows}
-use Rattle.lisp_model.specs.Answer.{IsAnswer}
 use Rattle.lisp_model.specs.Counted.{acked}
 use Rattle.lisp_model.specs.Numbers.{part_numbers}
 use Rattle.lisp_model.specs.Timers.{Notice, due, due_part, notice_to, is_due}

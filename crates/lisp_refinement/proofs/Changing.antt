@@ -1,6 +1,5 @@
 -- A router is given another database: if it is up, new rounds begin; if it is down, nothing changes.
-use Rattle.std.proofs.Common.{◌≡◌, ℕ, true, false, List, [], ◌∷◌, ◌++◌, length, map, Some, refl, sym, ap, subst, ◌∙◌, arith}
-use Rattle.std.specs.Prelude.{slice_get}
+use Rattle.std.proofs.Common.{◌≡◌, ℕ, true, List, [], ◌∷◌, ◌++◌, length, refl, sym, ap, subst, ◌∙◌, arith}
 use Rattle.std.proofs.lemmas.List.{length-map}
 use Rattle.lisp_records.specs.Record.{MapRecordValue}
 use Rattle.lisp_nonces.specs.Kept.{kept_at, NoneBelow}
@@ -13,7 +12,7 @@ use Rattle.lisp_etr.proofs.TimerLaws.{rounds_keep_time}
 use Rattle.lisp_model.specs.declared.event.Event.TheVariants as events
 use Rattle.lisp_model.specs.declared.line.Line.{Line}
 use Rattle.lisp_model.specs.declared.line.Line.TheVariants as lines
-use Rattle.lisp_model.specs.Trace.{ShownStore, Step, Opening, is_router, router_at, shown_store, is_up}
+use Rattle.lisp_model.specs.Trace.{ShownStore, Step, Opening, is_router, shown_store}
 use Rattle.lisp_model.specs.Bag.{bag}
 use Rattle.lisp_model.specs.Timers.{RoundTimes, round}
 use Rattle.lisp_model.specs.Sending.{pair_at}
@@ -84,7 +83,7 @@ module _ (old new : WorldState) (router : ℕ) (db : List MapRecordValue) (line 
           (rounds_become T router server was.0 (part.rounds i server was.0 lists was.1) (up_step ∷ T) (λ place. refl) (new_round old.clock) (begun_round server));
     }
 
-  -- by whether the router is up
+  -- by whether the router is up, the network stands for the trace with the step
   change_case : (core : RouterCoreState) → changes.acts.before.core ≡ core → StandsForCore o T router core → Stands new o (change o T router db line ∷ T)
   change_case (Up e) is part = stands_with (lines.Changed router (length db)) (ap (λ (c : RouterCoreState). change_line router db c) is) (up_legal e part) refl
       (subst (λ (c : RouterCoreState). StandsForCore o (change o T router db (lines.Changed router (length db)) ∷ T) router (changed_core db old.clock c)) (sym is) (up_part e part))
@@ -92,10 +91,5 @@ module _ (old new : WorldState) (router : ℕ) (db : List MapRecordValue) (line 
       (record { faults = λ other. omega arith; obedient = refl; row = record { acts = record { kind = kind; acts = refl; state = part.0 }; names = refl; same = refl } })) refl
       (subst (λ (c : RouterCoreState). StandsForCore o (change o T router db (lines.Down router) ∷ T) router (changed_core db old.clock c)) (sym is) part)
 
--- a network stands for a trace with a change
-pub change_stands : (old new : WorldState) (router : ℕ) (db : List MapRecordValue) (line : Line) → NetworkChanges old new router db line → StandsAfter old new (events.Change router db) line
-change_stands old new router db line changes o T stand = (
-  router,
-  shown_store o T router,
-  change_case old new router db line changes o T stand changes.acts.before.core refl (stood old new router db line changes o T stand).core,
-)
+  pub change_stands : (actor : ℕ) × (s : ShownStore) × Stands new o (record { event = events.Change router db; line = line; actor = actor; shown = s } ∷ T)
+  change_stands = (router, shown_store o T router, change_case changes.acts.before.core refl stood.core)

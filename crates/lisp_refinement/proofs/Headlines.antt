@@ -30,7 +30,7 @@ use Rattle.lisp_model.proofs.RowLaws.{rows_are_held}
 use Rattle.lisp_refinement.specs.World.{WorldState, ServerNodeState, RouterNodeState, RouterCoreState, Up, Down}
 use Rattle.lisp_refinement.specs.Nodes.{up_in, etr_at}
 use Rattle.lisp_refinement.specs.Stands.{Stands}
-use Rattle.lisp_refinement.specs.Headline.{Lists, ListedWasSent, ListedAgree, CountsAreAccepted, OfEachStep, OverClean, Promises}
+use Rattle.lisp_refinement.specs.Headline.{Lists, ListedAgree, OfEachStep, OverClean, Promises}
 use Rattle.lisp_refinement.specs.Asked.{RouterTells}
 use Rattle.lisp_refinement.proofs.Gets.{none_is_some, same_some, get_mapped}
 use Rattle.lisp_refinement.proofs.Asking.{kept_alive, servers_tell, routers_tell}

@@ -12,11 +12,10 @@ use Rattle.lisp_messages.specs.Authentic.{is_authentic, signed}
 use Rattle.lisp_messages.specs.Message.{MessageValue, MapNotifyValue, Registers, Notifies, IsMapNotify}
 use Rattle.lisp_etr.specs.declared.notify_fault.NotifyFault.{NotifyFault}
 use Rattle.lisp_etr.specs.declared.notify_fault.NotifyFault.TheVariants.{NotMine, WrongKey, BadAuth}
-use Rattle.lisp_etr.specs.Config.{EtrConfigValue, sent_pair}
+use Rattle.lisp_etr.specs.Config.{EtrConfigValue}
 use Rattle.lisp_etr.specs.Hearing.{ServerNotify, check, checked_notify, Gives, AnswerFits, HearsNotice, TakesMemory, ack_of, server_at, notify_from as heard_of, first_notice, notice_in, counted_as, counted_in, seen_in, seen_at, etr_after as left_after}
 use Rattle.lisp_records.specs.declared.address.Addr.{Addr}
 use Rattle.lisp_records.specs.Address.{addr_eq}
-use Rattle.lisp_records.specs.Record.{MapRecordValue}
 use Rattle.lisp_messages.specs.Reading.{HasHead, HasRecords, message_at}
 use Rattle.lisp_messages.specs.Written.{written, written_notify}
 use Rattle.lisp_nonces.specs.declared.fate.Fate.{Fate}
@@ -31,21 +30,20 @@ use Rattle.lisp_etr.specs.declared.seen.Seen.TheVariants.{Counted}
 use Rattle.lisp_model.specs.declared.event.Event.TheVariants as events
 use Rattle.lisp_model.specs.declared.line.Line.{Line}
 use Rattle.lisp_model.specs.declared.line.Line.TheVariants as lines
-use Rattle.lisp_model.specs.Trace.{EventValue, ShownStore, Step, Opening, fate_of, address_at, is_router, router_at, etr_config_under, etr_config, key, key_after, database, shown_store, is_up, up_after, database_after, node_at}
-use Rattle.lisp_model.specs.Keys.{keys_since_loss, keys_since_loss_after, keys_before_loss, keys_before_loss_after}
+use Rattle.lisp_model.specs.Trace.{EventValue, ShownStore, Step, Opening, fate_of, address_at, is_router, router_at, etr_config, key, shown_store, node_at}
 use Rattle.lisp_model.specs.Bag.{Arrival, bytes_of, as_notify, ack_item, arrival_in, items_added, past, bag, Item, arrival_of, junk_arrival}
 use Rattle.lisp_model.specs.Counted.{server_from, notify_at, latest_nonces}
 use Rattle.lisp_model.specs.Hearing.{refused_with, counted_line, counted_or_stale, line_of, IsToAnswer, Hears}
 use Rattle.lisp_model.specs.Legal.{Arrives, IsDelivered, MayCome}
-use Rattle.lisp_model.specs.Sending.{last_sent, pair_at, start_values}
-use Rattle.lisp_model.specs.Context.{Context, IsBase}
+use Rattle.lisp_model.specs.Sending.{pair_at}
+use Rattle.lisp_model.specs.Context.{Context}
 use Rattle.lisp_nonces.specs.declared.fate.Fate.TheVariants.{Done}
-use Rattle.lisp_refinement.specs.World.{DatagramValue, UsedKeysState, RouterNodeState, RouterCoreState, Up, Down, WorldState}
-use Rattle.lisp_refinement.specs.Calls.{CoreHears as HearsAs, UsesStore}
-use Rattle.lisp_refinement.specs.Events.{address_of, server_number, router_line, acknowledges, UpRouterHears, RouterHears, ArrivesAtRouter, node_with}
-use Rattle.lisp_refinement.specs.Stands.{Shows, Carries, StandsForRounds, StandsForEtr, StandsForCore, Marks, StandsForKeys, StandsForRouter, Stands, StandsAfter}
+use Rattle.lisp_refinement.specs.World.{DatagramValue, RouterNodeState, RouterCoreState, Up, Down, WorldState}
+use Rattle.lisp_refinement.specs.Calls.{CoreHears as HearsAs}
+use Rattle.lisp_refinement.specs.Events.{address_of, server_number, router_line, acknowledges, RouterHears, ArrivesAtRouter, node_with}
+use Rattle.lisp_refinement.specs.Stands.{Shows, Carries, StandsForRounds, StandsForEtr, StandsForCore, StandsForRouter, Stands, StandsAfter}
 use Rattle.lisp_refinement.proofs.Acting.{adds_none, adds_one, Shown-in, uses_shown, address_is, step_of, turn_at, shown_now, RouterStep, moved, acts_router, acts_part, acts_shows, acts_once, counted_here, counted_there, rounds_set, stands_by, SameLife, SameRounds, up_stays, etr_goes, keys_stay, down_step}
-use Rattle.lisp_refinement.proofs.Places.{latest_known, rounds_stay, found_part, Placed, first_place, position_map}
+use Rattle.lisp_refinement.proofs.Places.{latest_known, found_part, Placed, first_place, position_map}
 use Rattle.lisp_refinement.proofs.Gets.{get_within}
 use Rattle.lisp_refinement.proofs.Heads.{reads_signed}
 

@@ -10,10 +10,9 @@ use Rattle.lisp_etr.specs.declared.start_fault.StartFault.{StartFault}
 use Rattle.lisp_model.specs.declared.event.Event.TheVariants as events
 use Rattle.lisp_model.specs.declared.line.Line.{Line}
 use Rattle.lisp_model.specs.declared.line.Line.TheVariants as lines
-use Rattle.lisp_model.specs.Trace.{EventValue, Step, Opening, router_at, etr_config_under, etr_config, key as key_at, is_up, database, database_after}
+use Rattle.lisp_model.specs.Trace.{EventValue, Step, Opening, router_at, etr_config_under, key as key_at, is_up, database, database_after, ShownStore}
 use Rattle.lisp_model.specs.Keys.{keys_since_loss, keys_before_loss}
 use Rattle.lisp_model.specs.Timers.{round}
-use Rattle.lisp_model.specs.Context.{Context}
 use Rattle.lisp_model.specs.Counted.{latest_nonce, acked}
 use Rattle.lisp_model.specs.Sending.{last_sent, start_values}
 use Rattle.lisp_model.specs.Restarting.{Fits}
@@ -21,7 +20,7 @@ use Rattle.lisp_model.specs.Rotating.{IsLost}
 use Rattle.lisp_refinement.specs.World.{RouterNodeState, WorldState}
 use Rattle.lisp_refinement.specs.Calls.{config_of, database_of}
 use Rattle.lisp_refinement.specs.Events.{NetworkLoses, loss_line}
-use Rattle.lisp_refinement.specs.Stands.{shown_by, Marks, StandsForKeys, StandsForRouter, Stands, StandsAfter}
+use Rattle.lisp_refinement.specs.Stands.{shown_by, Marks, StandsForRouter, Stands, StandsAfter}
 use Rattle.lisp_refinement.proofs.Acting.{here, step_of, turn_at, acts_router, acts_part}
 use Rattle.lisp_refinement.proofs.Restarting.{config_known, database_known, answer_line, goes_on, StartsBy, become_honest, loaded, start_stands}
 use Rattle.lisp_refinement.proofs.Rotating.{lists_one, lists_both, config_under, may_start}
@@ -102,11 +101,7 @@ module _ (old new : WorldState) (node key : ℕ) (db : Option (List MapRecordVal
   said (Ok done) = refl
   said (Err fault) = refl
 
-  -- so the network stands
-  lose_here : Stands new o ((step_of event node (shown_by after.store) line) ∷ T)
-  lose_here = start_stands old new node loses.acts o T stand lost line (goes_on before.store lost line loses.loses.loses.proceeds) config registered loses.answer loses.loses.starts
-      event (lines.Emptied node key) starts_by loses.loses.me loses.loses.servers (loses.said ∙ said loses.answer)
-
--- a network stands for a trace with the loss of a router's store
-pub lose_stands : (old new : WorldState) (node key : ℕ) (db : Option (List MapRecordValue)) (line : Line) → Fits db → NetworkLoses old new node key db line → StandsAfter old new (events.Lose node key db) line
-lose_stands old new node key db line fits loses o T stand = (node, shown_by loses.acts.after.store, lose_here old new node key db line fits loses o T stand)
+  -- so the network stands for the trace with that step
+  pub lose_stands : (actor : ℕ) × (s : ShownStore) × Stands new o (step_of event actor s line ∷ T)
+  lose_stands = (node, shown_by after.store, start_stands old new node loses.acts o T stand lost line (goes_on before.store lost line loses.loses.loses.proceeds) config registered loses.answer loses.loses.starts
+      event (lines.Emptied node key) starts_by loses.loses.me loses.loses.servers (loses.said ∙ said loses.answer))

@@ -2,22 +2,17 @@
 use Rattle.std.proofs.Common.{◌≡◌, ◌≢◌, ℕ, ◌+◌, Bool, true, false, cond, not, List, [], ◌∷◌, length, map, Option, Some, None, refl, sym, ap, subst, ◌∙◌, inl, inr}
 use Rattle.std.specs.Prelude.{◌⊎◌, slice_get}
 use Rattle.std.specs.List.{find}
-use Rattle.std.specs.Option.{option_map, option_and_then}
+use Rattle.std.specs.Option.{option_map}
 use Rattle.lisp_records.specs.declared.router.RouterId.{RouterId}
-use Rattle.lisp_records.specs.Address.{PrefixValue}
 use Rattle.lisp_records.specs.Router.{router_eq}
-use Rattle.lisp_records.specs.Row.{RowValue}
 use Rattle.lisp_records.proofs.RouterLaws.{router_eq-Decides}
 use Rattle.lisp_nonces.specs.declared.pair.Pair.{Pair}
-use Rattle.lisp_lookup.specs.Table.{row_at, if_alive}
 use Rattle.lisp_admission.specs.Pairs.{notice_pair}
 use Rattle.lisp_server.specs.LastNonces.{nonce_at}
-use Rattle.lisp_server.specs.Contacts.{contact_at}
-use Rattle.lisp_server.specs.Receiving.{contact_of}
 use Rattle.lisp_server.specs.Server.{ServerState}
 use Rattle.lisp_server.specs.Notices.{StandingNoticeValue, notice_at}
 use Rattle.lisp_model.specs.Trace.{Step, Opening, router_at, is_router, sites, clock}
-use Rattle.lisp_model.specs.Held.{held_row, last_of, heard_last}
+use Rattle.lisp_model.specs.Held.{last_of}
 use Rattle.lisp_model.specs.Timers.{Notice, notice_to, last_notice, resent_at, notices_to_others}
 use Rattle.lisp_model.specs.Bag.{since_start}
 use Rattle.lisp_model.specs.Life.{began}

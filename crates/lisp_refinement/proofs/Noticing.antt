@@ -28,7 +28,6 @@ use Rattle.lisp_model.specs.Held.{Acceptance, accepted_rows, rows, held_row, rec
 use Rattle.lisp_model.proofs.ListLemmas.{at_head, in_tail, head_or_tail, in_none}
 use Rattle.lisp_model.proofs.RowLaws.{rows_are_held}
 use Rattle.lisp_records.specs.declared.address.Addr.{Addr}
-use Rattle.lisp_records.specs.Parts.{fits_message}
 use Rattle.lisp_records.proofs.DatabaseLaws.{any_order}
 use Rattle.lisp_messages.specs.declared.head.Head.{Head}
 use Rattle.lisp_messages.specs.Authentic.{signed}
@@ -50,23 +49,23 @@ use Rattle.lisp_server.specs.Contacts.{contact_at}
 use Rattle.lisp_server.specs.LastNonces.{nonce_at}
 use Rattle.lisp_server.specs.Receiving.{contact_of}
 use Rattle.lisp_server.specs.Server.{ServerState}
-use Rattle.lisp_server.specs.Notices.{StandingNoticeValue, notice_at}
+use Rattle.lisp_server.specs.Notices.{notice_at}
 use Rattle.lisp_server.specs.SendNotice.{IsRegistered, IsLast, notice_of, Announces, RefusesNotice as RefusesToTell}
 use Rattle.lisp_model.specs.declared.event.Event.TheVariants as events
 use Rattle.lisp_model.specs.declared.line.Line.{Line}
 use Rattle.lisp_model.specs.declared.line.Line.TheVariants as lines
 use Rattle.lisp_model.specs.declared.refusal.Refusal.TheVariants as refusals
-use Rattle.lisp_model.specs.Trace.{Step, Opening, router_at, secret_at, sites, shown_store, clock}
+use Rattle.lisp_model.specs.Trace.{Step, Opening, router_at, sites, shown_store, clock, ShownStore}
 use Rattle.lisp_model.specs.Timers.{Notice, notices, notice_to, last_notice, notices_to_others}
 use Rattle.lisp_model.specs.Bag.{Item, bytes_of, bag, since_start, notice_item}
-use Rattle.lisp_model.specs.Context.{Context, IsAtServer, values, values_after, Same, Rose, HasCause, Saves, IsBase}
+use Rattle.lisp_model.specs.Context.{Context, IsAtServer, values, values_after, Same, Rose, HasCause, IsBase}
 use Rattle.lisp_model.specs.Notifying.{CanNotify, NoticesFrom, HasNonce, RefusesNotice}
 use Rattle.lisp_model.specs.Legal.{Legal, context_of}
 use Rattle.lisp_model.proofs.KeptLemmas.{only_value}
 use Rattle.lisp_model.proofs.Locality.{same_number}
 use Rattle.lisp_refinement.specs.World.{DatagramValue, WorldState}
 use Rattle.lisp_refinement.specs.Events.{address_of, SaysMessage, SaysNoticeAnswer, NetworkNotifies as NoticeTurn}
-use Rattle.lisp_refinement.specs.Stands.{shown_by, IsStanding, SameNotice, StandsForServer, Stands, StandsAfter}
+use Rattle.lisp_refinement.specs.Stands.{shown_by, SameNotice, StandsForServer, Stands, StandsAfter}
 use Rattle.lisp_refinement.proofs.Heads.{head_written}
 use Rattle.lisp_refinement.proofs.Acting.{Adds, adds_none, adds_one, by_fate, Shown-in, uses_shown, server_is, address_is, server_acts, notice_goes}
 use Rattle.lisp_refinement.proofs.NoticeParts.{its_me, known_router, same_or_other, found, found_without, router_itself, router_other, part_after}
@@ -532,13 +531,9 @@ module _ (old new : WorldState) (server router : ℕ) (fate : Fate) (line : Line
   either (Ok sending) announces refuses same says = noticed_stands sending.0 sending.1 announces says
   either (Err fault) announces refuses same says = subst (λ (said : Line). Stands new o (step said ∷ T)) (sym says.0) (refused_stands fault refuses same says.1)
 
-  -- the same by the router and the moment of the trace
-  noticed : Stands new o (step line ∷ T)
-  noticed = either turn.answer
+  -- so the network stands for the trace with that step, by the router and the moment of the trace
+  pub notice_stands : (actor : ℕ) × (s : ShownStore) × Stands new o (record { event = events.Notice server router fate; line = line; actor = actor; shown = s } ∷ T)
+  notice_stands = (server, shown_by called, either turn.answer
       (subst (λ (x : RouterId × ℕ). IfOk turn.answer (λ y. Announces core after armed called x.0 x.1 y.0 y.1)) (λ i. (its_me old o T stand router turn.place turn.number turn.node turn.there i, stand.bag.moment i)) turn.notifies.announces)
       (subst (λ (x : RouterId × ℕ). IfErr turn.answer (λ fault. RefusesToTell core armed called x.0 x.1 fault)) (λ i. (its_me old o T stand router turn.place turn.number turn.node turn.there i, stand.bag.moment i)) turn.notifies.refused)
-      turn.notifies.err turn.says
-
--- a notice that is sent, or isn't, leaves a network that stands for the trace with the step
-pub notice_stands : (old new : WorldState) (server router : ℕ) (fate : Fate) (line : Line) → NoticeTurn old new server router fate line → StandsAfter old new (events.Notice server router fate) line
-notice_stands old new server router fate line turn o T stand = (server, shown_by turn.notifies.called, noticed old new server router fate line turn o T stand)
+      turn.notifies.err turn.says)

@@ -5,8 +5,6 @@ use Rattle.std.specs.List.{find}
 use Rattle.std.specs.Option.{option_and_then}
 use Rattle.std.proofs.lemmas.Bool.{le-ltb, and_right}
 use Rattle.std.proofs.lemmas.Option.{slice_get_within}
-use Rattle.lisp_records.specs.declared.router.RouterId.{RouterId}
-use Rattle.lisp_records.specs.Address.{PrefixValue}
 use Rattle.lisp_records.specs.Moment.{max_moment}
 use Rattle.lisp_records.specs.Row.{RowValue, is_alive}
 use Rattle.lisp_lookup.specs.Table.{row_at, is_row_of, if_alive}
@@ -16,14 +14,14 @@ use Rattle.lisp_model.specs.declared.event.Event.TheVariants as events
 use Rattle.lisp_model.specs.declared.line.Line.{Line}
 use Rattle.lisp_model.specs.declared.line.Line.TheVariants as lines
 use Rattle.lisp_model.specs.Trace.{ShownStore, Step, Opening, is_router, shown_store, clock}
-use Rattle.lisp_model.specs.Held.{Acceptance, held_row, accepted_rows}
+use Rattle.lisp_model.specs.Held.{Acceptance, accepted_rows}
 use Rattle.lisp_model.specs.Bag.{Item, bag, since_start}
 use Rattle.lisp_model.specs.Legal.{Legal}
 use Rattle.lisp_model.specs.Promises.{LeavesOthers, SameServer, SameRouter}
 use Rattle.lisp_model.proofs.Locality.{leaves_others}
 use Rattle.lisp_refinement.specs.World.{ServerNodeState, RouterNodeState, WorldState}
 use Rattle.lisp_refinement.specs.Events.{ExpiresNode, NetworkTicks}
-use Rattle.lisp_refinement.specs.Stands.{Shows, StandsInSteps, StandsInBag, StandsForServer, Stands, StandsAfter}
+use Rattle.lisp_refinement.specs.Stands.{Shows, StandsForServer, Stands, StandsAfter}
 use Rattle.lisp_refinement.proofs.Gets.{none_is_some, same_some, get_within}
 use Rattle.lisp_refinement.proofs.Acting.{StandsForRows, server_rows, server_goes, router_stays, server_is, router_is, router_number}
 use Rattle.lisp_refinement.specs.Passing.{PassesNode, NetworkPasses, PassingStands, TicksArePasses, IdlingPasses}

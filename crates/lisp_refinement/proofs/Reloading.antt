@@ -1,10 +1,6 @@
 -- A Map-Server takes other sites: where they have all that its own had it goes on with what it holds, else as one that has just started.
 use Rattle.std.proofs.Common.{◌≡◌, ℕ, Bool, true, false, List, [], ◌∷◌, ◌++◌, length, None, refl, sym, ap, subst, ◌∙◌, arith}
 use Rattle.std.specs.Prelude.{if◌then◌else◌}
-use Rattle.std.specs.List.{find}
-use Rattle.std.specs.Option.{option_and_then}
-use Rattle.lisp_records.specs.Router.{router_eq}
-use Rattle.lisp_lookup.specs.Table.{row_at, if_alive}
 use Rattle.lisp_policy.specs.Site.{SiteValue}
 use Rattle.lisp_policy.specs.Extends.{extends}
 use Rattle.lisp_admission.specs.Pairs.{notice_pair}
@@ -14,17 +10,15 @@ use Rattle.lisp_server.specs.Notices.{StandingNoticeValue, notice_at}
 use Rattle.lisp_server.specs.Server.{ServerState, empty_server}
 use Rattle.lisp_model.specs.declared.event.Event.TheVariants as events
 use Rattle.lisp_model.specs.declared.line.Line.{Line}
-use Rattle.lisp_model.specs.Trace.{Step, Opening, sites, shown_store, clock}
-use Rattle.lisp_model.specs.Held.{Acceptance, last_of, held_row}
-use Rattle.lisp_model.specs.Timers.{Notice, notices, notice_to, last_notice}
+use Rattle.lisp_model.specs.Trace.{Step, Opening, sites, shown_store, clock, ShownStore}
+use Rattle.lisp_model.specs.Timers.{notices, notice_to, last_notice}
 use Rattle.lisp_model.specs.Bag.{bag, since_start}
 use Rattle.lisp_model.specs.Life.{began}
-use Rattle.lisp_model.specs.Legal.{Legal, MayCome, context_of}
+use Rattle.lisp_model.specs.Legal.{MayCome, context_of}
 use Rattle.lisp_model.specs.Reloading.{IsReloaded}
 use Rattle.lisp_refinement.specs.World.{ServerNodeState, WorldState}
 use Rattle.lisp_refinement.specs.Events.{reload_line, NetworkReloads}
 use Rattle.lisp_refinement.specs.Stands.{Shows, SameNotice, StandsForServer, Stands, StandsAfter}
-use Rattle.lisp_refinement.proofs.Gets.{none_is_some}
 use Rattle.lisp_refinement.proofs.Acting.{here, notice_goes, adds_none, server_is, server_acts}
 use Rattle.lisp_refinement.proofs.Restarting.{fresh_stands}
 
@@ -107,13 +101,9 @@ module _ (old new : WorldState) (server : ℕ) (given : List SiteValue) (line : 
       added true = refl
       added false = refl
 
-  pub stands_here : Stands new o (record { event = events.Reload server given; line = line; actor = server; shown = shown_store o T server } ∷ T)
-  stands_here = by (extends before.core.sites given) refl
+  pub reload_stands : (actor : ℕ) × (s : ShownStore) × Stands new o (record { event = events.Reload server given; line = line; actor = actor; shown = s } ∷ T)
+  reload_stands = (server, shown_store o T server, by (extends before.core.sites given) refl)
     where
       by : (kept : Bool) → extends before.core.sites given ≡ kept → Stands new o (record { event = events.Reload server given; line = line; actor = server; shown = shown_store o T server } ∷ T)
       by true is = stands true is (kept_part is)
       by false is = stands false is (fresh_part is)
-
--- a network stands for a trace with a reload
-pub reload_stands : (old new : WorldState) (server : ℕ) (given : List SiteValue) (line : Line) → NetworkReloads old new server given line → StandsAfter old new (events.Reload server given) line
-reload_stands old new server given line turn o T stand = (server, shown_store o T server, stands_here old new server given line turn o T stand)

@@ -26,7 +26,7 @@ use Rattle.lisp_model.specs.Clean.{Clean}
 use Rattle.lisp_model.specs.Reply.{IsReplyOf}
 use Rattle.lisp_refinement.specs.World.{ServerNodeState, WorldState}
 use Rattle.lisp_refinement.specs.Stands.{StandsForServer, Stands}
-use Rattle.lisp_refinement.specs.Headline.{Lists, IsSentRow}
+use Rattle.lisp_refinement.specs.Headline.{IsSentRow}
 use Rattle.lisp_refinement.specs.Replied.{NodeReplies, IsSentRecord, GoesOn, ReadsWhatWasSent, RepliesArePromised}
 use Rattle.lisp_refinement.proofs.Asking.{lists_held, same_live}
 use Rattle.lisp_refinement.proofs.Headlines.{networks_promise}

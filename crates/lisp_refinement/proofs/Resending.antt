@@ -11,17 +11,17 @@ use Rattle.lisp_admission.specs.Pairs.{notice_pair}
 use Rattle.lisp_server.specs.LastNonces.{nonce_at}
 use Rattle.lisp_server.specs.Server.{ServerState}
 use Rattle.lisp_admission.specs.NoticeTimer.{due_after, gaps, has_come}
-use Rattle.lisp_server.specs.Notices.{StandingNoticeValue, notice_at, is_due_at, is_due as standing_due, resent, Resends, RefusesResend}
+use Rattle.lisp_server.specs.Notices.{StandingNoticeValue, notice_at, is_due_at, is_due as standing_due, Resends, RefusesResend}
 use Rattle.lisp_model.specs.declared.event.Event.TheVariants as events
 use Rattle.lisp_model.specs.declared.line.Line.{Line}
 use Rattle.lisp_model.specs.declared.line.Line.TheVariants as lines
 use Rattle.lisp_model.specs.declared.refusal.Refusal.TheVariants as refusals
-use Rattle.lisp_model.specs.Trace.{Step, Opening, router_at, shown_store, clock}
+use Rattle.lisp_model.specs.Trace.{Step, Opening, router_at, shown_store, clock, ShownStore}
 use Rattle.lisp_model.specs.Timers.{Notice, notices, notice_to, is_due, resent_at}
 use Rattle.lisp_model.specs.Bag.{Item, bag}
 use Rattle.lisp_model.specs.Context.{IsAtServer}
 use Rattle.lisp_model.specs.Notifying.{RefusesToResend}
-use Rattle.lisp_model.specs.Legal.{Legal, context_of}
+use Rattle.lisp_model.specs.Legal.{context_of}
 use Rattle.lisp_model.proofs.Locality.{same_number}
 use Rattle.lisp_messages.specs.Message.{IsMessage}
 use Rattle.lisp_refinement.specs.World.{DatagramValue, ServerNodeState, WorldState}
@@ -192,10 +192,7 @@ module _ (old new : WorldState) (server router : ℕ) (line : Line) (turn : Netw
   either (Ok sending) resends says = subst (λ (said : Line). Stands new o (step said ∷ T)) (sym says.0) (sent_stands sending.0 sending.1 resends says.1)
   either (Err fault) refuses says = subst (λ (said : Line). Stands new o (step said ∷ T)) (sym says.0) (refused_stands fault refuses.0 refuses.1 says.1)
 
-  -- the same by the router of the trace
-  resent_stands : Stands new o (step line ∷ T)
-  resent_stands = either turn.answer (subst (λ (r : RouterId). NodeResends turn.acts.before turn.acts.after old.clock r turn.answer) (its_me old o T stand router turn.place turn.number turn.node turn.there) turn.resends) turn.says
-
--- a notice that is sent again, or isn't, leaves a network that stands for the trace with the step
-pub resend_stands : (old new : WorldState) (server router : ℕ) (line : Line) → NetworkResends old new server router line → StandsAfter old new (events.Resend server router) line
-resend_stands old new server router line turn o T stand = (server, shown_store o T server, resent_stands old new server router line turn o T stand)
+  -- so the network stands for the trace with that step, by the router of the trace
+  pub resend_stands : (actor : ℕ) × (s : ShownStore) × Stands new o (record { event = events.Resend server router; line = line; actor = actor; shown = s } ∷ T)
+  resend_stands = (server, shown_store o T server,
+      either turn.answer (subst (λ (r : RouterId). NodeResends turn.acts.before turn.acts.after old.clock r turn.answer) (its_me old o T stand router turn.place turn.number turn.node turn.there) turn.resends) turn.says)

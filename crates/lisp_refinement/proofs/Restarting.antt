@@ -28,7 +28,7 @@ use Rattle.lisp_model.specs.Bag.{bag, since_start}
 use Rattle.lisp_model.specs.Context.{Rose, IsBase, Context, Restarts, Picks}
 use Rattle.lisp_model.specs.Counted.{latest_nonce, acked}
 use Rattle.lisp_model.specs.Sending.{pair_at, last_sent, start_values, CountsFrom}
-use Rattle.lisp_model.specs.Legal.{MayCome, is_restart, Legal}
+use Rattle.lisp_model.specs.Legal.{MayCome, is_restart}
 use Rattle.lisp_model.specs.Restarting.{StartCause, Fits}
 use Rattle.lisp_model.specs.Promises.{is_timeless}
 use Rattle.lisp_records.specs.declared.router.RouterId.{RouterId}
@@ -49,7 +49,7 @@ use Rattle.lisp_model.specs.Life.{began}
 use Rattle.lisp_refinement.specs.World.{RouterCoreState, Up, Down, UsedKeysState, WorldState, RouterNodeState, ServerNodeState}
 use Rattle.lisp_refinement.specs.Calls.{config_of, database_of, CoreStarts, CoreRefusesToStart, CoreAnswersStart, CoreAnswersStartOver, StoreRestarts}
 use Rattle.lisp_refinement.specs.Events.{RouterActs, NetworkRestartsServer, NetworkRestartsRouter, start_line}
-use Rattle.lisp_refinement.specs.Stands.{shown_by, Shows, StandsForRound, StandsForRounds, StandsForEtr, StandsForCore, StandsForKeys, StandsForRouter, Stands, StandsForServer, Marks, SameNotice, StandsAfter}
+use Rattle.lisp_refinement.specs.Stands.{shown_by, Shows, StandsForRound, StandsForRounds, StandsForCore, StandsForKeys, StandsForRouter, Stands, StandsForServer, Marks, SameNotice, StandsAfter}
 use Rattle.lisp_refinement.specs.Reopening.{StoreReopens, ServerReopens, RouterReopens}
 use Rattle.lisp_refinement.proofs.Gets.{get_replicate, none_is_some}
 use Rattle.lisp_refinement.proofs.Acting.{adds_none, router_acts, step_of, turn_at, RouterStep, acts_part, acts_shows, stands_by, here, server_is, server_acts, acts_router}
@@ -285,9 +285,9 @@ module _ (old new : WorldState) (node pick : ℕ) (line : Line) (restarts : Serv
   store_before : Shows restarts.acts.before.store (shown_store o T node)
   store_before = stand.steps.server_stores node restarts.acts.before restarts.acts.was
 
-  -- and so does all
-  server_here : Stands new o (restart node pick None restarts.acts.after.store line ∷ T)
-  server_here = subst (λ (l : Line). Stands new o (restart node pick None restarts.acts.after.store l ∷ T)) (sym restarts.said)
+  -- so the network stands for the trace with that step
+  pub reopen_server_stands : (actor : ℕ) × (s : ShownStore) × Stands new o (record { event = events.Restart node pick None; line = line; actor = actor; shown = s } ∷ T)
+  reopen_server_stands = (node, shown_by restarts.acts.after.store, subst (λ (l : Line). Stands new o (restart node pick None restarts.acts.after.store l ∷ T)) (sym restarts.said)
       (server_acts old new node [] restarts.acts o T server_step stand refl refl (record {
         faults = λ other. absurd (true≢false other);
         obedient = restarts.reopens.obedient ∙ store_before.obedient;
@@ -302,11 +302,7 @@ module _ (old new : WorldState) (node pick : ℕ) (line : Line) (restarts : Serv
       }) (adds_none o T server_step refl)
       (record { honest = stays_honest restarts.acts.before.store restarts.acts.after.store restarts.reopens.honest store_before.honest; kept = refl; faults = refl; obedient = refl })
       (fresh_stands o (server_step ∷ T) node restarts.acts.after restarts.acts.before.core.sites restarts.core (stand.servers node restarts.acts.before restarts.acts.was).sites
-      (here node [] (since_start o T node)) (here node [] (notices o T node)) (here node None (last_notice T node)) (restarts.started ∙ stand.bag.moment ∙ sym (here node (clock T) (began T node)))))
-
--- a network stands for a trace with a restart of a Map-Server over a store that it opened anew
-pub reopen_server_stands : (old new : WorldState) (node pick : ℕ) (line : Line) → ServerReopens old new node pick line → StandsAfter old new (events.Restart node pick None) line
-reopen_server_stands old new node pick line restarts o T stand = (node, shown_by restarts.acts.after.store, server_here old new node pick line restarts o T stand)
+      (here node [] (since_start o T node)) (here node [] (notices o T node)) (here node None (last_notice T node)) (restarts.started ∙ stand.bag.moment ∙ sym (here node (clock T) (began T node))))))
 
 -- a crash of a schedule leaves a store as one that is opened anew
 reopened : (old new : StoreState) (pick : ℕ) → StoreRestarts old new pick → StoreReopens old new pick
@@ -410,14 +406,10 @@ module _ (old new : WorldState) (node pick : ℕ) (db : Option (List MapRecordVa
   said (Ok done) = refl
   said (Err fault) = refl
 
-  -- so the network stands
-  restart_here : Stands new o (step_of event node (shown_by after.store) line ∷ T)
-  restart_here = start_stands old new node restarts.acts o T stand crashed line becomes config registered restarts.answer restarts.starts
-      event (lines.Restarted node) starts_by restarts.me restarts.servers (restarts.said ∙ said restarts.answer)
-
--- a network stands for a trace with a restart of a router over a store that it opened anew
-pub reopen_router_stands : (old new : WorldState) (node pick : ℕ) (db : Option (List MapRecordValue)) (line : Line) → Fits db → RouterReopens old new node pick db line → StandsAfter old new (events.Restart node pick db) line
-reopen_router_stands old new node pick db line fits restarts o T stand = (node, shown_by restarts.acts.after.store, restart_here old new node pick db line fits restarts o T stand)
+  -- so the network stands for the trace with that step
+  pub reopen_router_stands : (actor : ℕ) × (s : ShownStore) × Stands new o (step_of event actor s line ∷ T)
+  reopen_router_stands = (node, shown_by after.store, start_stands old new node restarts.acts o T stand crashed line becomes config registered restarts.answer restarts.starts
+      event (lines.Restarted node) starts_by restarts.me restarts.servers (restarts.said ∙ said restarts.answer))
 
 -- a store that goes on counts on, whether the router starts or not
 counts_on : {less more : ℕ} (answer : Result (Unit {0}) StartFault) → less ≤ more → IfErr answer (λ fault. less ≤ more)

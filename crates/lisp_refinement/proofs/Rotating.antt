@@ -9,14 +9,13 @@ use Rattle.std.proofs.lemmas.List.Elements.{Contains-append_left, Contains-appen
 use Rattle.std.proofs.lemmas.List.{length-map}
 use Rattle.lisp_etr.specs.Config.{EtrConfigValue, with_key, sent_pair_under}
 use Rattle.lisp_admission.specs.Checks.{secret_at as known_secret}
-use Rattle.lisp_model.specs.Trace.{Step, Opening, router_at, secret_at, etr_config_under, etr_config, EventValue, ShownStore, is_router, key as key_at, shown_store}
+use Rattle.lisp_model.specs.Trace.{Step, Opening, router_at, etr_config_under, etr_config, EventValue, ShownStore, is_router, key as key_at, shown_store}
 use Rattle.lisp_model.specs.Keys.{KnowsKey, keys_since_loss, keys_before_loss, MayRotate, MayStartUnder}
 use Rattle.lisp_model.proofs.ListLemmas.{at_head, in_tail, head_or_tail, in_none}
-use Rattle.lisp_records.specs.Record.{MapRecordValue}
 use Rattle.lisp_nonces.specs.declared.fate.Fate.{Fate}
 use Rattle.lisp_nonces.specs.declared.fate.Fate.TheVariants.{LoadFails as FailedLoads}
 use Rattle.lisp_nonces.specs.Kept.{Kept, kept_at, NoneBelow}
-use Rattle.lisp_nonces.specs.Store.{StoreState, Rose as Rises}
+use Rattle.lisp_nonces.specs.Store.{StoreState}
 use Rattle.lisp_nonces.specs.Promises.{KeepsListsIfHonest}
 use Rattle.lisp_etr.specs.Etr.{EtrState}
 use Rattle.lisp_etr.specs.Round.{rotated_round}
@@ -30,18 +29,18 @@ use Rattle.lisp_model.specs.declared.line.Line.{Line}
 use Rattle.lisp_model.specs.declared.line.Line.TheVariants as lines
 use Rattle.lisp_model.specs.declared.refusal.Refusal.TheVariants as refusals
 use Rattle.lisp_model.specs.Timers.{round}
-use Rattle.lisp_model.specs.Context.{Context, Same, Rose}
+use Rattle.lisp_model.specs.Context.{Context, Same}
 use Rattle.lisp_model.specs.Counted.{latest_nonce}
 use Rattle.lisp_model.specs.Sending.{pair_at, last_sent, start_values, CountsFrom}
-use Rattle.lisp_model.specs.Rotating.{IsRotated, RefusesToRotate}
+use Rattle.lisp_model.specs.Rotating.{RefusesToRotate}
 use Rattle.lisp_model.specs.Legal.{MayCome}
-use Rattle.lisp_refinement.specs.World.{key_count, is_used, RouterNodeState, WorldState, RouterCoreState, Up, Down, UsedKeysState, UsesKey}
-use Rattle.lisp_refinement.specs.Events.{IsKeyOf, UsesKeyIfOk, rotate_line, UpRouterRotates, RouterRotates, NetworkRotates}
-use Rattle.lisp_refinement.specs.Stands.{Marks, StandsForRouter, Stands, shown_by, Shows, StandsForRounds, StandsForEtr, StandsForCore, StandsForKeys, StandsAfter}
+use Rattle.lisp_refinement.specs.World.{key_count, is_used, RouterNodeState, WorldState, RouterCoreState, Up, Down, UsesKey}
+use Rattle.lisp_refinement.specs.Events.{IsKeyOf, UsesKeyIfOk, rotate_line, RouterRotates, NetworkRotates}
+use Rattle.lisp_refinement.specs.Stands.{Marks, StandsForRouter, Stands, shown_by, StandsForRounds, StandsForEtr, StandsForCore, StandsForKeys}
 use Rattle.lisp_refinement.specs.Calls.{CoreRotates, IsRotateFaultOf, CoreAnswersRotate}
 use Rattle.lisp_refinement.proofs.Gets.{none_is_some, get_mapped}
 use Rattle.lisp_refinement.proofs.Acting.{here, adds_none, Shown-in, uses_shown, by_fate, step_of, turn_at, shown_now, RouterStep, moved, acts_router, acts_part, acts_shows, down_step, stands_by, up_stays}
-use Rattle.lisp_refinement.proofs.Places.{rounds_stay, rounds_become}
+use Rattle.lisp_refinement.proofs.Places.{rounds_become}
 use Rattle.lisp_refinement.proofs.Restarting.{BeginsAnew, counts_anew, round_anew}
 
 -- a key that isn't used isn't listed

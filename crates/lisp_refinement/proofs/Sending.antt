@@ -8,7 +8,7 @@ use Rattle.std.proofs.lemmas.Bool.Decides.{Decides-eqb}
 use Rattle.std.proofs.lemmas.List.{length-map, length-set}
 use Rattle.std.proofs.lemmas.Option.{slice_get_within, slice_get-get_or}
 use Rattle.lisp_records.specs.Database.{database_of}
-use Rattle.lisp_records.specs.Parts.{most_parts, part_count, part_at}
+use Rattle.lisp_records.specs.Parts.{part_count, part_at}
 use Rattle.lisp_records.specs.Record.{MapRecordValue}
 use Rattle.lisp_messages.specs.declared.head.Head.{Head}
 use Rattle.lisp_messages.specs.Head.{head_at}
@@ -35,17 +35,17 @@ use Rattle.lisp_model.specs.declared.refusal.Refusal.TheVariants as refusals
 use Rattle.lisp_model.specs.Trace.{EventValue, ShownStore, Step, Opening, address_at, is_server, is_router, is_listed, router_at, etr_config, database, shown_store}
 use Rattle.lisp_model.specs.Bag.{bytes_of, register_item}
 use Rattle.lisp_model.specs.Context.{Context, Same, SameOthers, MaySave, Saves, SaveFails, IsBase, Rose, values, values_after}
-use Rattle.lisp_model.specs.Sending.{pair_at, last_sent, start_values, CountsFrom, HasPart, IsSent, NotSaved, MaySend, RefusesToSend}
+use Rattle.lisp_model.specs.Sending.{pair_at, last_sent, start_values, CountsFrom, HasPart, NotSaved, MaySend, RefusesToSend}
 use Rattle.lisp_model.specs.Legal.{MayCome}
 use Rattle.lisp_model.proofs.HearingLemmas.{find_true}
 use Rattle.lisp_model.proofs.Locality.{same_number}
 use Rattle.lisp_refinement.specs.World.{DatagramValue, RouterNodeState, RouterCoreState, Up, Down, WorldState}
 use Rattle.lisp_refinement.specs.Calls.{CoreSends, IsSendFaultOf, CoreRefusesToSend, CoreAnswersSend}
-use Rattle.lisp_refinement.specs.Events.{address_of, place_of, SaysSendAnswer, UpRouterSends, RouterSends, NetworkSends}
-use Rattle.lisp_refinement.specs.Stands.{shown_by, Shows, Carries, StandsForRounds, StandsForEtr, StandsForCore, StandsForKeys, StandsForRouter, Stands, StandsAfter}
+use Rattle.lisp_refinement.specs.Events.{address_of, place_of, SaysSendAnswer, RouterSends, NetworkSends}
+use Rattle.lisp_refinement.specs.Stands.{shown_by, Carries, StandsForEtr, StandsForCore, StandsForRouter, Stands}
 use Rattle.lisp_refinement.proofs.Acting.{adds_none, adds_one, by_fate, Shown-in, uses_shown, address_is, step_of, turn_at, shown_now, RouterStep, moved, acts_router, acts_part, acts_shows, acts_once, down_step, stands_by, up_stays, sent_here, sent_there, rounds_set}
 use Rattle.lisp_refinement.proofs.Heads.{head_written}
-use Rattle.lisp_refinement.proofs.Places.{few_parts, rounds_stay, Placed, first_place, any_found}
+use Rattle.lisp_refinement.proofs.Places.{few_parts, Placed, first_place, any_found}
 
 -- the place of a server in a list, or none
 abbrev HasPlace : List ℕ → ℕ → ℕ → Type 0

@@ -1,5 +1,5 @@
 -- What arrives at a Map-Server comes to a row of legal steps, and the Map-Server stands for the trace with that step.
-use Rattle.std.proofs.Common.{◌≡◌, ℕ, ◌+◌, Bool, true, false, List, [], ◌∷◌, ◌++◌, length, map, Option, Some, None, Ok, Err, refl, sym, ap, subst, ◌∙◌, true≢false, arith}
+use Rattle.std.proofs.Common.{◌≡◌, ℕ, ◌+◌, Bool, true, false, List, [], ◌∷◌, ◌++◌, length, map, Option, Some, None, Ok, Err, refl, sym, ap, subst, ◌∙◌, arith}
 use Rattle.std.specs.Prelude.{IsTrue, ◌≢◌, if◌then◌else◌, Result, IfOk, IfErr, OnErr, IsErrOf, nat_le, nat_lt, position, slice_get}
 use Rattle.std.specs.List.{find}
 use Rattle.std.specs.Option.{option_map, option_and_then, option_to_list, unwrap_or}
@@ -41,7 +41,7 @@ use Rattle.lisp_model.specs.Bag.{Item, Arrival, bytes_of, arrival_in, acceptance
 use Rattle.lisp_model.specs.Life.{began}
 use Rattle.lisp_model.specs.Legal.{Arrives, LegalTrace, context_of, MayCome, IsDelivered, IsJunk}
 use Rattle.lisp_model.specs.Promises.{is_timeless}
-use Rattle.lisp_model.specs.Receiving.{Admits, IsAccepted, IsDone, RefusesMessage}
+use Rattle.lisp_model.specs.Receiving.{Admits, IsDone, RefusesMessage}
 use Rattle.lisp_model.specs.Context.{IsAtServer, Context}
 use Rattle.lisp_model.proofs.Locality.{same_number, clock_stays}
 use Rattle.lisp_model.proofs.RisingLaws.{taken_one}
