@@ -19,7 +19,7 @@ use Rattle.lisp_model.specs.Sending.{pair_at}
 use Rattle.lisp_model.specs.Legal.{Legal}
 use Rattle.lisp_refinement.specs.World.{RouterNodeState, RouterCoreState, Up, Down, WorldState}
 use Rattle.lisp_refinement.specs.Events.{NetworkChanges, changed_core, change_line}
-use Rattle.lisp_refinement.specs.Stands.{Shows, StandsForRound, StandsForRounds, StandsForEtr, StandsForCore, StandsForRouter, Stands, StandsAfter}
+use Rattle.lisp_refinement.specs.Stands.{Shows, StandsForRound, StandsForRounds, StandsForEtr, StandsForCore, StandsForRouter, Stands}
 use Rattle.lisp_refinement.proofs.Gets.{get_mapped}
 use Rattle.lisp_refinement.proofs.Acting.{here, adds_none, router_is, router_stands, router_shows, router_acts}
 use Rattle.lisp_refinement.proofs.Places.{rounds_become}

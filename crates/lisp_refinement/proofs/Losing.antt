@@ -20,7 +20,7 @@ use Rattle.lisp_model.specs.Rotating.{IsLost}
 use Rattle.lisp_refinement.specs.World.{RouterNodeState, WorldState}
 use Rattle.lisp_refinement.specs.Calls.{config_of, database_of}
 use Rattle.lisp_refinement.specs.Events.{NetworkLoses, loss_line}
-use Rattle.lisp_refinement.specs.Stands.{shown_by, Marks, StandsForRouter, Stands, StandsAfter}
+use Rattle.lisp_refinement.specs.Stands.{shown_by, Marks, StandsForRouter, Stands}
 use Rattle.lisp_refinement.proofs.Acting.{here, step_of, turn_at, acts_router, acts_part}
 use Rattle.lisp_refinement.proofs.Restarting.{config_known, database_known, answer_line, goes_on, StartsBy, become_honest, loaded, start_stands}
 use Rattle.lisp_refinement.proofs.Rotating.{lists_one, lists_both, config_under, may_start}

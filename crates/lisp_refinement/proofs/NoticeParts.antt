@@ -1,5 +1,5 @@
 -- The notices that a Map-Server keeps, after one was sent or sent again; and the rest of its part, which stays.
-use Rattle.std.proofs.Common.{◌≡◌, ◌≢◌, ℕ, ◌+◌, Bool, true, false, cond, not, List, [], ◌∷◌, length, map, Option, Some, None, refl, sym, ap, subst, ◌∙◌, inl, inr}
+use Rattle.std.proofs.Common.{◌≡◌, ◌≢◌, ℕ, ◌+◌, Bool, true, false, cond, not, List, [], ◌∷◌, length, map, Option, Some, None, refl, sym, ap, subst, ◌∙◌, inl, inr, ◌++◌}
 use Rattle.std.specs.Prelude.{◌⊎◌, slice_get}
 use Rattle.std.specs.List.{find}
 use Rattle.std.specs.Option.{option_map}
@@ -13,12 +13,12 @@ use Rattle.lisp_server.specs.Server.{ServerState}
 use Rattle.lisp_server.specs.Notices.{StandingNoticeValue, notice_at}
 use Rattle.lisp_model.specs.Trace.{Step, Opening, router_at, is_router, sites, clock}
 use Rattle.lisp_model.specs.Held.{last_of}
-use Rattle.lisp_model.specs.Timers.{Notice, notice_to, last_notice, resent_at, notices_to_others}
-use Rattle.lisp_model.specs.Bag.{since_start}
+use Rattle.lisp_model.specs.Timers.{Notice, notice_to, last_notice, resent_at, notices_to_others, notices}
+use Rattle.lisp_model.specs.Bag.{since_start, bag}
 use Rattle.lisp_model.specs.Life.{began}
 use Rattle.lisp_refinement.specs.World.{ServerNodeState, RouterNodeState, WorldState}
 use Rattle.lisp_refinement.specs.Stands.{IsStanding, SameNotice, StandsForServer, Stands}
-use Rattle.lisp_refinement.proofs.Acting.{router_is, router_stands}
+use Rattle.lisp_refinement.proofs.Acting.{router_is, router_stands, notice_goes}
 
 -- two routers are one, or they differ
 pub same_or_other : (a b : RouterId) → (a ≡ b) ⊎ (a ≢ b)
@@ -27,6 +27,14 @@ same_or_other a b = by (router_eq a b) refl
     by : (t : Bool) → router_eq a b ≡ t → (a ≡ b) ⊎ (a ≢ b)
     by true is = inl ((router_eq-Decides a b).0 is)
     by false is = inr (λ same. (let clash : true ≡ false = sym ((router_eq-Decides a b).1 same) ∙ is in cc))
+
+-- what holds of a router, and of each other one, holds of each
+pub each_router : (P : RouterId → Type 0) (me : RouterId) → P me → ((other : RouterId) → other ≢ me → P other) → (router : RouterId) → P router
+each_router P me own others router = by (same_or_other router me)
+  where
+    by : (router ≡ me) ⊎ (router ≢ me) → P router
+    by (inl same) = subst P (sym same) own
+    by (inr differ) = others router differ
 
 -- a router is itself
 pub router_itself : (a : RouterId) → router_eq a a ≡ true
@@ -120,6 +128,23 @@ module _ (o : Opening) (T : List Step) (s : Step) (server : ℕ) (n m : ServerNo
     notices = notices;
     started = started;
   }
+
+-- one whose nonces stay too
+pub part_stays : (o : Opening) (T : List Step) (s : Step) (server : ℕ) (n m : ServerNodeState) → StandsForServer o T server n → clock (s ∷ T) ≡ clock T → since_start o (s ∷ T) server ≡ since_start o T server → sites o (s ∷ T) server ≡ sites o T server
+    → m.core ≡ record n.core { notices = m.core.notices } → m.started ≡ n.started → began (s ∷ T) server ≡ began T server → last_notice (s ∷ T) server ≡ last_notice T server
+    → ((router : RouterId) → SameNotice o (s ∷ T) server (notice_to o (s ∷ T) server router) (notice_at m.core.notices router)) → StandsForServer o (s ∷ T) server m
+part_stays o T s server n m stand time quiet has rest lives life last = part_after o T s server n m stand time quiet has
+    (rest ∙ ap (λ nonces. record n.core { nonces = nonces; notices = m.core.notices }) (sym (ap (λ (c : ServerState). c.nonces) rest))) (lives ∙ stand.started ∙ sym life)
+    (λ pair differ. ap (λ (c : ServerState). nonce_at c.nonces pair) rest) (ap (λ (c : ServerState). nonce_at c.nonces notice_pair) rest ∙ stand.notice_nonce ∙ sym last)
+
+-- and one whose notices stay
+pub part_idle : (o : Opening) (T : List Step) (s : Step) (server : ℕ) (n m : ServerNodeState) → StandsForServer o T server n → clock (s ∷ T) ≡ clock T → since_start o (s ∷ T) server ≡ since_start o T server → sites o (s ∷ T) server ≡ sites o T server
+    → m.core ≡ n.core → m.started ≡ n.started → began (s ∷ T) server ≡ began T server → last_notice (s ∷ T) server ≡ last_notice T server → notices o (s ∷ T) server ≡ notices o T server
+    → bag o (s ∷ T) ≡ bag o T ++ [] → StandsForServer o (s ∷ T) server m
+part_idle o T s server n m stand time quiet has core lives life last same grown =
+    part_stays o T s server n m stand time quiet has (ap (λ (c : ServerState). record c { notices = m.core.notices }) core) lives life last
+    (λ router. subst (λ (p : List Notice × ServerState). SameNotice o (s ∷ T) server (found router p.0) (notice_at p.1.notices router)) {x = (notices o T server, n.core)} {y = (notices o (s ∷ T) server, m.core)} (λ i. (sym same i, sym core i))
+    (notice_goes o T (s ∷ T) server ([], grown) (notice_to o T server router) (notice_at n.core.notices router) (stand.notices router)))
 
 -- the router that a turn names by its number among all nodes
 module _ (w : WorldState) (o : Opening) (T : List Step) (stand : Stands w o T) (router place : ℕ) (number : router ≡ length w.servers + place) (node : RouterNodeState) (there : slice_get w.routers place ≡ Some node) where

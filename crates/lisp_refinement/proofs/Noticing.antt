@@ -46,7 +46,6 @@ use Rattle.lisp_admission.specs.Nonces.{nonce_after, KeepsLists, IsBase as IsSto
 use Rattle.lisp_admission.specs.Pairs.{notice_pair}
 use Rattle.lisp_server.specs.declared.contacts.Contact.{Contact}
 use Rattle.lisp_server.specs.Contacts.{contact_at}
-use Rattle.lisp_server.specs.LastNonces.{nonce_at}
 use Rattle.lisp_server.specs.Receiving.{contact_of}
 use Rattle.lisp_server.specs.Server.{ServerState}
 use Rattle.lisp_server.specs.Notices.{notice_at}
@@ -65,10 +64,10 @@ use Rattle.lisp_model.proofs.KeptLemmas.{only_value}
 use Rattle.lisp_model.proofs.Locality.{same_number}
 use Rattle.lisp_refinement.specs.World.{DatagramValue, WorldState}
 use Rattle.lisp_refinement.specs.Events.{address_of, SaysMessage, SaysNoticeAnswer, NetworkNotifies as NoticeTurn}
-use Rattle.lisp_refinement.specs.Stands.{shown_by, SameNotice, StandsForServer, Stands, StandsAfter}
+use Rattle.lisp_refinement.specs.Stands.{shown_by, SameNotice, StandsForServer, Stands}
 use Rattle.lisp_refinement.proofs.Heads.{head_written}
 use Rattle.lisp_refinement.proofs.Acting.{Adds, adds_none, adds_one, by_fate, Shown-in, uses_shown, server_is, address_is, server_acts, notice_goes}
-use Rattle.lisp_refinement.proofs.NoticeParts.{its_me, known_router, same_or_other, found, found_without, router_itself, router_other, part_after}
+use Rattle.lisp_refinement.proofs.NoticeParts.{its_me, known_router, found, found_without, router_itself, router_other, part_after, part_idle, each_router}
 
 -- what holds of each two in a list holds in its tail, and of its head and each in the tail
 module _ {X : Type 0} (P : X → X → Type 0) (x : X) (xs : List X) (all : AllPairs P (x ∷ xs)) where
@@ -409,8 +408,8 @@ module _ (old new : WorldState) (server router : ℕ) (fate : Fate) (line : Line
     after_is other = ap (λ (b : Bool). found other (cond b (notice ∷ notices_to_others me (notices o T server)) (notices o T server))) (same_number server)
 
     -- so each router's does
-    each_notice : (other : RouterId) → (other ≡ me) ⊎ (other ≢ me) → SameNotice o (step sent ∷ T) server (notice_to o (step sent ∷ T) server other) (notice_at after.notices other)
-    each_notice other (inl same) = subst (λ (r : RouterId). SameNotice o (step sent ∷ T) server (notice_to o (step sent ∷ T) server r) (notice_at after.notices r)) (sym same) (
+    each_notice : (other : RouterId) → SameNotice o (step sent ∷ T) server (notice_to o (step sent ∷ T) server other) (notice_at after.notices other)
+    each_notice = each_router (λ r. SameNotice o (step sent ∷ T) server (notice_to o (step sent ∷ T) server r) (notice_at after.notices r)) me (
         let here = after_is me ∙ ap (λ (b : Bool). cond b (Some notice) (found me (notices_to_others me (notices o T server)))) (router_itself me) in
         rw (here, announced.stands.here) (record {
           router = refl;
@@ -425,7 +424,7 @@ module _ (old new : WorldState) (server router : ℕ) (fate : Fate) (line : Line
           moments = refl;
           resends = refl;
         }))
-    each_notice other (inr differ) = (
+      (λ other differ.
         let here = after_is other ∙ ap (λ (b : Bool). cond b (Some notice) (found other (notices_to_others me (notices o T server)))) (router_other me other (λ same. differ (sym same))) ∙ found_without me other (notices o T server) differ in
         rw (here, announced.stands.others other differ) (notice_goes o T (step sent ∷ T) server ((item ∷ []), sent_bag) (notice_to o T server other) (notice_at core.notices other) (part.notices other)))
 
@@ -451,7 +450,7 @@ module _ (old new : WorldState) (server router : ℕ) (fate : Fate) (line : Line
                   message = subst (λ (records : List MapRecordValue). IsMapNotify (notice_of contact.key nonce records)) its_records announced.fits;
                 }))) shows.after (part_after o T (step sent) server turn.acts.before turn.acts.after part (time sent) refl refl announced.rest (turn.notifies.started ∙ part.started)
                     (λ pair differ. announced.nonces.others pair differ) (announced.nonces.here ∙ sym
-                        (ap (λ (b : Bool). cond b (Some nonce) (last_notice T server)) (same_number server))) (λ other. each_notice other (same_or_other other me)))))
+                        (ap (λ (b : Bool). cond b (Some nonce) (last_notice T server)) (same_number server))) each_notice)))
 
   -- none goes out
   module _ (fault : NoticeFault) (refuses : RefusesToTell core armed called me now fault) (same : after ≡ core) where
@@ -512,18 +511,12 @@ module _ (old new : WorldState) (server router : ℕ) (fate : Fate) (line : Line
     )
     why notice_faults.NotDue is = absurd is
 
-    -- nothing comes to the bag
-    refused_bag : bag o (step refused ∷ T) ≡ bag o T ++ []
-    refused_bag = refl
-
     -- and so does the network
     refused_stands : turn.more ≡ [] → Stands new o (step refused ∷ T)
     refused_stands posts = server_acts old new server turn.more turn.acts o T (step refused) stand refl refl
         (record { faults = λ other. shows.count; obedient = shows.obedient; row = (refl, acting refused, known_router old o T stand router turn.place turn.number turn.node turn.there, why fault refuses) })
-        (subst (λ (more : List DatagramValue). Adds o T (step refused) more) (sym posts) (adds_none o T (step refused) refused_bag)) shows.after (part_after o T (step refused) server turn.acts.before turn.acts.after part (time refused) refl refl
-            (same ∙ (λ i. record core { nonces = (sym same i).nonces; notices = (sym same i).notices })) (turn.notifies.started ∙ part.started)
-            (λ pair differ. ap (λ (c : ServerState). nonce_at c.nonces pair) same) (ap (λ (c : ServerState). nonce_at c.nonces notice_pair) same ∙ part.notice_nonce)
-            (λ other. subst (λ (c : ServerState). SameNotice o (step refused ∷ T) server (notice_to o T server other) (notice_at c.notices other)) (sym same) (notice_goes o T (step refused ∷ T) server ([], refused_bag) (notice_to o T server other) (notice_at core.notices other) (part.notices other))))
+        (subst (λ (more : List DatagramValue). Adds o T (step refused) more) (sym posts) (adds_none o T (step refused) refl)) shows.after 
+            (part_idle o T (step refused) server turn.acts.before turn.acts.after part (time refused) refl refl same turn.notifies.started refl refl refl refl)
 
   -- the notice was sent, or refused
   either : (answer : Result (Addr × List ℕ) NoticeFault) → IfOk answer (λ x. Announces core after armed called me now x.0 x.1) → IfErr answer (λ fault. RefusesToTell core armed called me now fault) → OnErr answer (after ≡ core)

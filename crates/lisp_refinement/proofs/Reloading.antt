@@ -18,7 +18,7 @@ use Rattle.lisp_model.specs.Legal.{MayCome, context_of}
 use Rattle.lisp_model.specs.Reloading.{IsReloaded}
 use Rattle.lisp_refinement.specs.World.{ServerNodeState, WorldState}
 use Rattle.lisp_refinement.specs.Events.{reload_line, NetworkReloads}
-use Rattle.lisp_refinement.specs.Stands.{Shows, SameNotice, StandsForServer, Stands, StandsAfter}
+use Rattle.lisp_refinement.specs.Stands.{Shows, SameNotice, StandsForServer, Stands}
 use Rattle.lisp_refinement.proofs.Acting.{here, notice_goes, adds_none, server_is, server_acts}
 use Rattle.lisp_refinement.proofs.Restarting.{fresh_stands}
 

@@ -1,15 +1,12 @@
 -- A Map-Server sends a notice again.
-use Rattle.std.proofs.Common.{◌≡◌, ◌≢◌, ℕ, ◌+◌, Bool, cond, List, [], ◌∷◌, ◌++◌, length, map, slice_index_or, Option, Some, None, Result, Ok, Err, refl, sym, ap, subst, ◌∙◌, inl, inr, arith}
-use Rattle.std.specs.Prelude.{◌⊎◌, slice_get}
+use Rattle.std.proofs.Common.{◌≡◌, ℕ, ◌+◌, Bool, cond, List, [], ◌∷◌, ◌++◌, length, map, slice_index_or, Option, Some, None, Result, Ok, Err, refl, sym, ap, subst, ◌∙◌, arith}
+use Rattle.std.specs.Prelude.{slice_get}
 use Rattle.std.specs.Option.{option_map, option_and_then, option_to_list}
 use Rattle.std.proofs.lemmas.Option.{slice_get_within, slice_get-get_or}
 use Rattle.lisp_records.specs.declared.address.Addr.{Addr}
 use Rattle.lisp_records.specs.declared.router.RouterId.{RouterId}
 use Rattle.lisp_admission.specs.declared.notice_fault.NoticeFault.{NoticeFault}
 use Rattle.lisp_admission.specs.declared.notice_fault.NoticeFault.TheVariants as notice_faults
-use Rattle.lisp_admission.specs.Pairs.{notice_pair}
-use Rattle.lisp_server.specs.LastNonces.{nonce_at}
-use Rattle.lisp_server.specs.Server.{ServerState}
 use Rattle.lisp_admission.specs.NoticeTimer.{due_after, gaps, has_come}
 use Rattle.lisp_server.specs.Notices.{StandingNoticeValue, notice_at, is_due_at, is_due as standing_due, Resends, RefusesResend}
 use Rattle.lisp_model.specs.declared.event.Event.TheVariants as events
@@ -26,10 +23,10 @@ use Rattle.lisp_model.proofs.Locality.{same_number}
 use Rattle.lisp_messages.specs.Message.{IsMessage}
 use Rattle.lisp_refinement.specs.World.{DatagramValue, ServerNodeState, WorldState}
 use Rattle.lisp_refinement.specs.Events.{address_of, NodeResends, SaysResendAnswer, NetworkResends}
-use Rattle.lisp_refinement.specs.Stands.{Shows, IsStanding, SameNotice, StandsForServer, Stands, StandsAfter}
+use Rattle.lisp_refinement.specs.Stands.{Shows, IsStanding, SameNotice, StandsForServer, Stands}
 use Rattle.lisp_refinement.proofs.Acting.{Adds, adds_none, adds_one, server_is, address_is, server_acts, notice_goes}
 use Rattle.lisp_refinement.proofs.Gets.{get_before}
-use Rattle.lisp_refinement.proofs.NoticeParts.{its_me, known_router, same_or_other, found, found_again, its_router, sent_again_own, others_again, kept_stands, part_after}
+use Rattle.lisp_refinement.proofs.NoticeParts.{its_me, known_router, found, found_again, its_router, sent_again_own, others_again, kept_stands, part_stays, part_idle, each_router}
 
 -- the trace's notice is due where the server's is
 same_due : (o : Opening) (T : List Step) (server now : ℕ) (n : Option Notice) (kept : Option StandingNoticeValue) → SameNotice o T server n kept → is_due n now ≡ is_due_at now kept
@@ -63,20 +60,6 @@ module _ (old new : WorldState) (server router : ℕ) (line : Line) (turn : Netw
   -- the store isn't used
   shows : (said : Line) → Shows turn.acts.after.store (step said).shown
   shows said = subst (λ (n : ServerNodeState). Shows n.store (shown_store o T server)) (sym turn.rest) (stand.steps.server_stores server turn.acts.before turn.acts.was)
-
-  -- only its notices changed
-  its_core : turn.acts.after.core ≡ record turn.acts.before.core { nonces = turn.acts.after.core.nonces; notices = turn.acts.after.core.notices }
-  its_core =
-      let rest = ap (λ (n : ServerNodeState). n.core) turn.rest in
-      rest ∙ ap (λ nonces. record turn.acts.before.core { nonces = nonces; notices = turn.acts.after.core.notices }) (sym (ap (λ (c : ServerState). c.nonces) rest))
-
-  -- its nonces stay
-  its_nonces : turn.acts.after.core.nonces ≡ turn.acts.before.core.nonces
-  its_nonces = ap (λ (n : ServerNodeState). n.core.nonces) turn.rest
-
-  -- its life goes on
-  its_start : turn.acts.after.started ≡ turn.acts.before.started
-  its_start = ap (λ (n : ServerNodeState). n.started) turn.rest
 
   -- it is sent again
   module _ (to : Addr) (bytes : List ℕ) (resends : Resends turn.acts.before.core.notices turn.acts.after.core.notices me old.clock to bytes) where
@@ -112,8 +95,8 @@ module _ (old new : WorldState) (server router : ℕ) (line : Line) (turn : Netw
     own_router = its_router me (notices o T server) kept.0 kept.1
 
     -- so each router's does
-    each_notice : (other : RouterId) → (other ≡ me) ⊎ (other ≢ me) → SameNotice o (step sent ∷ T) server (notice_to o (step sent ∷ T) server other) (notice_at turn.acts.after.core.notices other)
-    each_notice other (inl same) = subst (λ (r : RouterId). SameNotice o (step sent ∷ T) server (notice_to o (step sent ∷ T) server r) (notice_at turn.acts.after.core.notices r)) (sym same) (
+    each_notice : (other : RouterId) → SameNotice o (step sent ∷ T) server (notice_to o (step sent ∷ T) server other) (notice_at turn.acts.after.core.notices other)
+    each_notice = each_router (λ r. SameNotice o (step sent ∷ T) server (notice_to o (step sent ∷ T) server r) (notice_at turn.acts.after.core.notices r)) me (
         let here = after_is me ∙ found_again me me (clock T) (notices o T server) ∙ ap (option_map (resent_at me (clock T))) kept.1 ∙ ap Some (sent_again_own me (clock T) kept.0 own_router) in
         let there = ap (notice_at turn.acts.after.core.notices) (sym (kept.2.router ∙ own_router)) ∙ resends.after.here in
         rw (here, there) (record {
@@ -129,7 +112,7 @@ module _ (old new : WorldState) (server router : ℕ) (line : Line) (turn : Netw
           moments = ap (λ (now : ℕ). now ∷ kept.0.moments) (sym stand.bag.moment);
           resends = (let longer = ap length kept.2.moments in omega (arith, longer, kept.2.resends));
         }))
-    each_notice other (inr differ) = (
+      (λ other differ.
         let here = after_is other ∙ others_again me other (clock T) (notices o T server) differ in
         let there = resends.after.others other (λ same. differ (same ∙ kept.2.router ∙ own_router)) in
         rw (here, there) (notice_goes o T (step sent ∷ T) server ((kept.2.item ∷ []), sent_bag) (notice_to o T server other) (notice_at turn.acts.before.core.notices other) (part.notices other)))
@@ -156,8 +139,7 @@ module _ (old new : WorldState) (server router : ℕ) (line : Line) (turn : Netw
           to = resends.address ∙ kept.2.to;
           bytes = resends.datagram ∙ kept.2.bytes;
           message = said_item;
-        }))) (shows sent) (part_after o T (step sent) server turn.acts.before turn.acts.after part (time sent) refl refl its_core (its_start ∙ part.started)
-            (λ pair differ. ap (λ nonces. nonce_at nonces pair) its_nonces) (ap (λ nonces. nonce_at nonces notice_pair) its_nonces ∙ part.notice_nonce) (λ other. each_notice other (same_or_other other me)))
+        }))) (shows sent) (part_stays o T (step sent) server turn.acts.before turn.acts.after part (time sent) refl refl (ap (λ (n : ServerNodeState). n.core) turn.rest) (ap (λ (n : ServerNodeState). n.started) turn.rest) refl refl each_notice)
 
   -- it isn't
   module _ (fault : NoticeFault) (refuses : RefusesResend turn.acts.before.core.notices me old.clock fault) (same : turn.acts.after ≡ turn.acts.before) where
@@ -175,17 +157,12 @@ module _ (old new : WorldState) (server router : ℕ) (line : Line) (turn : Netw
     why notice_faults.OutOfMemory is = (was_due ∙ is, refl)
     why _ is = absurd is
 
-    -- nothing comes to the bag
-    refused_bag : bag o (step refused ∷ T) ≡ bag o T ++ []
-    refused_bag = refl
-
     -- and so does the network
     refused_stands : turn.more ≡ [] → Stands new o (step refused ∷ T)
     refused_stands posts = server_acts old new server turn.more turn.acts o T (step refused) stand refl refl
         (record { faults = λ other. omega arith; obedient = refl; row = (refl, acting refused, known_router old o T stand router turn.place turn.number turn.node turn.there, why fault refuses) })
-        (subst (λ (more : List DatagramValue). Adds o T (step refused) more) (sym posts) (adds_none o T (step refused) refused_bag)) (shows refused) (part_after o T (step refused) server turn.acts.before turn.acts.after part (time refused) refl refl its_core (its_start ∙ part.started)
-            (λ pair differ. ap (λ nonces. nonce_at nonces pair) its_nonces) (ap (λ nonces. nonce_at nonces notice_pair) its_nonces ∙ part.notice_nonce)
-            (λ other. subst (λ (n : ServerNodeState). SameNotice o (step refused ∷ T) server (notice_to o T server other) (notice_at n.core.notices other)) (sym same) (notice_goes o T (step refused ∷ T) server ([], refused_bag) (notice_to o T server other) (notice_at turn.acts.before.core.notices other) (part.notices other))))
+        (subst (λ (more : List DatagramValue). Adds o T (step refused) more) (sym posts) (adds_none o T (step refused) refl)) (shows refused) 
+            (part_idle o T (step refused) server turn.acts.before turn.acts.after part (time refused) refl refl (ap (λ (n : ServerNodeState). n.core) same) (ap (λ (n : ServerNodeState). n.started) same) refl refl refl refl)
 
   -- the notice was sent again, or not
   either : (answer : Result (Addr × List ℕ) NoticeFault) → NodeResends turn.acts.before turn.acts.after old.clock me answer → SaysResendAnswer old server router answer line turn.more → Stands new o (step line ∷ T)

@@ -25,11 +25,8 @@ use Rattle.lisp_server.specs.declared.took.Took.{Took}
 use Rattle.lisp_server.specs.declared.took.Took.TheVariants.{Accepted, NoticeDone}
 use Rattle.lisp_admission.specs.Checks.{reply_to}
 use Rattle.lisp_server.specs.Checks.{register_checked, reply_of, answers_under}
-use Rattle.lisp_server.specs.Contacts.{contact_at}
-use Rattle.lisp_server.specs.LastNonces.{nonce_at}
 use Rattle.lisp_server.specs.Notices.{StandingNoticeValue, notice_at}
 use Rattle.lisp_server.specs.Receiving.{contact_of, Accepts, Ends, ServerTakes, ServerRefuses}
-use Rattle.lisp_server.specs.Server.{ServerState}
 use Rattle.lisp_model.specs.declared.event.Event.TheVariants as events
 use Rattle.lisp_model.specs.declared.line.Line.{Line}
 use Rattle.lisp_model.specs.declared.line.Line.TheVariants as lines
@@ -56,6 +53,7 @@ use Rattle.lisp_refinement.proofs.Acting.{Adds, adds_none, adds_one, by_fate, no
 use Rattle.lisp_refinement.proofs.Refusing.{not_notices, nonces_after, rows_after, contacts_after, is_passed, arriving, turn_at, admits, is_fresh, space_in, same_store, refuses, awaited, signed_same, ended_same}
 use Rattle.lisp_refinement.proofs.Gets.{get_within}
 use Rattle.lisp_refinement.proofs.Hearing.{item_read}
+use Rattle.lisp_refinement.proofs.NoticeParts.{part_stays, part_idle}
 
 -- what arrives brings no sites
 pub same_sites : (items : List Item) (event : EventValue) (a : Arrival) → arrival_in items event ≡ Some a → (k : ℕ) (old : List SiteValue) → sites_after event k old ≡ old
@@ -104,18 +102,7 @@ module _ (o : Opening) (T : List Step) (node : ℕ) (kind : is_server o.config n
   -- all but the notices stays
   module _ (line : Line) (same_since : since_start o (received_step line ∷ T) node ≡ since_start o T node) (same_last : last_notice (received_step line ∷ T) node ≡ last_notice T node) (same_life : began (received_step line ∷ T) node ≡ began T node) (rest : after.core ≡ record before.core { notices = after.core.notices }) where
     stays : ((router : RouterId) → SameNotice o (received_step line ∷ T) node (notice_to o (received_step line ∷ T) node router) (notice_at after.core.notices router)) → StandsForServer o (received_step line ∷ T) node after
-    stays standing = record {
-      sites = ap (λ (c : ServerState). c.sites) rest ∙ part.sites ∙ sym has;
-      rows = λ router eid. subst (λ (now : ℕ). option_and_then (if_alive now) (row_at after.core.rows router eid) ≡ held_row (since_start o (received_step line ∷ T) node) router eid now) (sym still)
-          (ap (λ (c : ServerState). option_and_then (if_alive (clock T)) (row_at c.rows router eid)) rest ∙ part.rows router eid ∙ ap (λ (xs : List Acceptance). held_row xs router eid (clock T)) (sym same_since));
-      nonces = λ pair other. ap (λ (c : ServerState). nonce_at c.nonces pair) rest ∙ part.nonces pair other ∙ ap (last_of pair) (sym same_since);
-      notice_nonce = ap (λ (c : ServerState). nonce_at c.nonces notice_pair) rest ∙ part.notice_nonce ∙ sym same_last;
-      contacts = λ router eid h is. ap (λ (c : ServerState). contact_at c.contacts router) rest
-          ∙ part.contacts router eid h ((λ i. held_row (sym same_since i) router eid (sym still i)) ∙ is)
-          ∙ ap (λ (xs : List Acceptance). option_map (λ a. contact_of a.message a.from) (heard_last router xs)) (sym same_since);
-      notices = standing;
-      started = lives ∙ part.started ∙ sym same_life;
-    }
+    stays = part_stays o T (received_step line) node before after part still same_since has rest lives same_life same_last
 
   -- a refusal changes nothing
   refused : (why : Refused) (read : Result MessageValue ReadFault) → after.core ≡ before.core → RefusesMessage (turn_at o T node (fate_of event) called) (arriving from bytes read) why
@@ -123,9 +110,7 @@ module _ (o : Opening) (T : List Step) (node : ℕ) (kind : is_server o.config n
   refused why read core refusal = record {
     row = (acts, refusal);
     adds = adds_none o T (received_step (lines.Refused node (refusals.Receive why))) refl;
-    part = stays (lines.Refused node (refusals.Receive why)) refl refl refl (ap (λ (c : ServerState). record c { notices = after.core.notices }) core)
-        (λ router. subst (λ (c : ServerState). SameNotice o (received_step (lines.Refused node (refusals.Receive why)) ∷ T) node (notice_to o T node router) (notice_at c.notices router)) (sym core)
-        (notice_goes o T (received_step (lines.Refused node (refusals.Receive why)) ∷ T) node ([], refl) (notice_to o T node router) (notice_at before.core.notices router) (part.notices router)));
+    part = part_idle o T (received_step (lines.Refused node (refusals.Receive why))) node before after part still refl has core lives refl refl refl refl;
   }
 
   -- a Map-Notify-Ack ends a notice
