@@ -1,5 +1,5 @@
 -- The keys that a router used when the network was made: its first one alone.
-use Rattle.std.proofs.Common.{[], ◌≡◌, ℕ, zero, suc, ◌<◌, Bool, true, false, true≢false, List, ◌∷◌, length, replicate, refl, sym, ap, subst, ◌∙◌, arith, ◌⊎◌, inl, inr, ◌+◌, ◌≤◌, ◌++◌, get_or, take, drop, Some, length-set, append-nil, ◌-◌, map, Option, None, Result, Ok, Err}
+use Rattle.std.proofs.Common.{[], ◌≡◌, ℕ, zero, suc, ◌<◌, Bool, true, false, true≢false, List, ◌∷◌, length, replicate, refl, sym, ap, subst, ◌∙◌, arith, ◌⊎◌, inl, inr, ◌+◌, ◌≤◌, ◌++◌, get_or, take, drop, Some, length-set, append-nil, ◌-◌, map, Result, Ok, Err}
 use Rattle.std.proofs.lemmas.List.{length-replicate, length-append, length-map}
 use Rattle.std.proofs.lemmas.Option.{slice_get-get_or, slice_get_within, slice_get-map, get_or_from_slice_get}
 use Rattle.std.proofs.Math.Seq.{take-length}
@@ -8,15 +8,15 @@ use Rattle.std.specs.Prelude.{slice_set, ◌≢◌, slice_get, IsTrue, IfErr, Is
 use Rattle.std.specs.List.{Contains, AllByRecursion}
 use Rattle.std.specs.FinMap.{empty}
 use Rattle.std.specs.Option.{option_map}
-use Rattle.lisp_model.specs.Trace.{Opening, router_at, ShownStore, addresses, address_at, etr_config_of, shown_store}
+use Rattle.lisp_model.specs.Trace.{Opening, router_at, ShownStore, addresses, etr_config_of, shown_store}
 use Rattle.lisp_model.specs.Network.{IsNetwork}
 use Rattle.lisp_model.specs.Sending.{pair_at}
 use Rattle.lisp_model.specs.declared.world_fault.WorldFault.{WorldFault}
 use Rattle.lisp_nodes.{specs.Cores.first_used, proofs.NodeCalls.unused}
-use Rattle.lisp_refinement.specs.World.{UsedKeysState, key_count, is_used, ServerNodeState, RouterNodeState, DatagramValue, RouterCoreState, WorldState}
-use Rattle.lisp_refinement.specs.Stands.{Marks, StandsForKeys, shown_by, Shows, StandsForRound, StandsForRounds, StandsForEtr, StandsForCore, StandsForServer, StandsForRouter, Stands}
+use Rattle.lisp_refinement.specs.World.{UsedKeysState, key_count, is_used, ServerNodeState, RouterNodeState, DatagramValue, WorldState}
+use Rattle.lisp_refinement.specs.Stands.{Marks, StandsForKeys, shown_by, Shows, StandsForServer, StandsForRouter, Stands}
 use Rattle.lisp_refinement.specs.Calls.{CoreStarts}
-use Rattle.lisp_refinement.proofs.Gets.{none_is_some, same_some, get_set, get_before, get_within, get_replicate, get_mapped}
+use Rattle.lisp_refinement.proofs.Gets.{none_is_some, same_some, get_set, get_before, get_within, get_mapped}
 use Rattle.lisp_refinement.proofs.Restarting.{begun_stands, fresh_stands}
 use Rattle.lisp_policy.specs.Configuration.{ConfigValue, RouterEntryValue}
 use Rattle.lisp_nonces.specs.Store.{StoreState, Proceeds, Rose}
@@ -25,15 +25,7 @@ use Rattle.lisp_nonces.specs.declared.fault.StoreFault.{StoreFault}
 use Rattle.lisp_world.specs.Making.{server_over, IsRouterOver, AddsNode, AreServers, AreRouters, AreNodes, HasStarted, HaveStarted, HaveStartedBefore, router_over, HaveStartedBelow, IsUnstarted, IsStartFault, IsNewFault, AllBelowEnd, IsCalmFault, FailsToStartOnlyIf, FailsCalm}
 use Rattle.lisp_world.specs.Openings.{opening, lists_of, IsOpened, KeepsLists, repeats}
 use Rattle.lisp_world.specs.Quiet.{AllHonest, AllCalm, stores_of, failures, StaysCalm}
-use Rattle.lisp_records.specs.Parts.{most_parts}
-use Rattle.lisp_etr.specs.Config.{sent_pair}
-use Rattle.lisp_etr.specs.Etr.{EtrState}
-use Rattle.lisp_etr.specs.Round.{first_round}
-use Rattle.lisp_etr.specs.Rounds.{first_rounds}
-use Rattle.lisp_etr.specs.declared.round.Round.{Round}
-use Rattle.lisp_etr.specs.declared.rounds.Rounds.{Rounds}
 use Rattle.lisp_etr.specs.declared.start_fault.StartFault.{StartFault}
-use Rattle.lisp_etr.proofs.TimerLaws.{rounds_keep_time}
 use Rattle.lisp_nonces.specs.declared.fault.StoreFault.TheVariants as store_faults
 use Rattle.lisp_etr.specs.declared.start_fault.StartFault.TheVariants as start_faults
 use Rattle.lisp_model.specs.declared.world_fault.WorldFault.TheVariants as faults
@@ -521,14 +513,14 @@ module _ (c : ConfigValue) (stores : List StoreState) (Refused StoreRefused : Ty
     pub calm : StaysCalm stores r
     pub calm_faults : FailsCalm stores Refused StoreRefused r
 
-  pub fails : (r : Result WorldState WorldFault) → IsErrAnd r (IsNewFault c stores Refused StoreRefused) → repeats c ≡ false → Fails r
-  fails (Ok w) why once = absurd why
-  fails (Err fault) why once = record {
+  pub fails : (r : Result WorldState WorldFault) → IsErrAnd r (IsNewFault c stores Refused StoreRefused) → (repeats c ≡ true → r ≡ Err faults.Repeated) → Fails r
+  fails (Ok w) why repeated = absurd why
+  fails (Err fault) why repeated = record {
     stands = λ honest. tt;
     headline = tt;
     lists = λ honest. tt;
     fault = why;
-    repeated = (λ is. why_is faults.Repeated is, λ twice. absurd (true≢false (sym twice ∙ once)));
+    repeated = (λ is. why_is faults.Repeated is, repeated);
     memory = λ is. why_is faults.OutOfMemory is;
     start_memory = λ node is. (why_is (faults.Start node start_faults.OutOfMemory) is).4.memory refl;
     store_memory = λ node is. (why_is (faults.Start node (start_faults.Store store_faults.OutOfMemory)) is).4.store_memory refl;

@@ -1,6 +1,6 @@
-use Rattle.std.proofs.Common.{◌≡◌, ℕ, Bool, true, false, true≢false, Result, Ok, Err, ◌+◌, ◌++◌, List, length, map, take, drop, arith, refl, sym, ap, subst, ◌∙◌}
+use Rattle.std.proofs.Common.{◌≡◌, true, false, true≢false, ◌+◌, ◌++◌, List, length, map, take, drop, arith, refl, sym, ap, subst, ◌∙◌, Err}
 use Rattle.std.proofs.lemmas.List.{length-append, length-map}
-use Rattle.std.specs.Prelude.{◌↔◌, ◌≢◌, IsErrAnd, IsErrOf}
+use Rattle.std.specs.Prelude.{◌≢◌}
 use Rattle.lisp_nonces.specs.declared.fault.StoreFault.TheVariants as store_faults
 use Rattle.lisp_etr.specs.declared.start_fault.StartFault.TheVariants as starts
 use Rattle.lisp_nodes.proofs.NodeCalls.{err_is}
@@ -9,7 +9,7 @@ use Rattle.lisp_refinement.specs.World.{RouterNodeState, WorldState}
 use Rattle.lisp_refinement.proofs.Headlines.{networks_promise}
 use Rattle.lisp_world.specs.Making.{HaveStarted, IsStartFault}
 use Rattle.lisp_world.proofs.Making.{written_whole, memory_fault, start_fault, fails, IsMade, lists_same, stays_calm, made_stands}
-use Rattle.lisp_world.proofs.Telling.{taken, repeated_no_memory, repeated_no_start, memory_no_start}
+use Rattle.lisp_world.proofs.Telling.{taken, repeated_no_memory, repeated_no_start}
 use Rattle.lisp_model.specs.declared.world_fault.WorldFault.{WorldFault}
 use Rattle.lisp_model.specs.declared.world_fault.WorldFault.TheVariants as faults
 use Rattle.lisp_world.proofs.world.World.new.Goals as goal
@@ -93,43 +93,31 @@ pub returns-clause-store_memory : goal.returns-clause-store_memory
 returns-clause-store_memory g c = λ node. taken _ _
 
 -- it isn't made: nodes are alike, memory ran out, or a router doesn't start
-pub returns-then-repeats-clause-repeated : goal.returns-then-repeats-clause-repeated
-returns-then-repeats-clause-repeated g c = (λ is. sym c.repeats.ensures.exact ∙ c.if-repeats.true, λ twice. refl)
-
-pub returns-then-repeats-clause-memory : goal.returns-then-repeats-clause-memory
-returns-then-repeats-clause-memory g c = repeated_no_memory
-
-pub returns-then-repeats-clause-start_memory : goal.returns-then-repeats-clause-start_memory
-returns-then-repeats-clause-start_memory g c = λ node. repeated_no_start node _
-
-pub returns-then-repeats-clause-store_memory : goal.returns-then-repeats-clause-store_memory
-returns-then-repeats-clause-store_memory g c = λ node. repeated_no_start node _
-
-pub returns-then-repeats-clause-faults : goal.returns-then-repeats-clause-faults
-returns-then-repeats-clause-faults g c = sym c.repeats.ensures.exact ∙ c.if-repeats.true
-
-pub returns-then-repeats-clause-calm_faults : goal.returns-then-repeats-clause-calm_faults
-returns-then-repeats-clause-calm_faults g c calm below = tt
+pub returns-then-repeats : goal.returns-then-repeats
+returns-then-repeats g c =
+    assumption (fails c.args.config.now (map g.S.NonceStore.seen c.args.stores.items) g.A.Memory.may_refuse g.S.NonceStore.may_refuse (Err faults.Repeated) (sym c.repeats.ensures.exact ∙ c.if-repeats.true) (λ twice. refl))
 
 pub returns-in_err-addresses : goal.returns-in_err-addresses
-returns-in_err-addresses g c = let f = fails c.args.config.now (map g.S.NonceStore.seen c.args.stores.items) g.A.Memory.may_refuse g.S.NonceStore.may_refuse c.from_residual.result (memory_fault _ _ c.from_residual.ensures.1 c.in_err-addresses.ensures.memory) (sym c.repeats.ensures.exact ∙ c.if-repeats.false) in
-    record { stands = f.stands; headline = f.headline; lists = f.lists; faults = f.fault; repeated = f.repeated; memory = f.memory; start_memory = f.start_memory; store_memory = f.store_memory; calm = f.calm; calm_faults = f.calm_faults }
+returns-in_err-addresses g c =
+    assumption (fails c.args.config.now (map g.S.NonceStore.seen c.args.stores.items) g.A.Memory.may_refuse g.S.NonceStore.may_refuse c.from_residual.result (memory_fault _ _ c.from_residual.ensures.1 c.in_err-addresses.ensures.memory)
+    (λ twice. absurd (true≢false (sym twice ∙ sym c.repeats.ensures.exact ∙ c.if-repeats.false))))
 
 pub returns-in_err-sites : goal.returns-in_err-sites
-returns-in_err-sites g c = let f = fails c.args.config.now (map g.S.NonceStore.seen c.args.stores.items) g.A.Memory.may_refuse g.S.NonceStore.may_refuse c.from_residual-in_err-sites.result (memory_fault _ _ c.from_residual-in_err-sites.ensures.1 c.in_err-sites.ensures.memory) (sym c.repeats.ensures.exact ∙ c.if-repeats.false) in
-    record { stands = f.stands; headline = f.headline; lists = f.lists; faults = f.fault; repeated = f.repeated; memory = f.memory; start_memory = f.start_memory; store_memory = f.store_memory; calm = f.calm; calm_faults = f.calm_faults }
+returns-in_err-sites g c =
+    assumption (fails c.args.config.now (map g.S.NonceStore.seen c.args.stores.items) g.A.Memory.may_refuse g.S.NonceStore.may_refuse c.from_residual-in_err-sites.result (memory_fault _ _ c.from_residual-in_err-sites.ensures.1 c.in_err-sites.ensures.memory)
+    (λ twice. absurd (true≢false (sym twice ∙ sym c.repeats.ensures.exact ∙ c.if-repeats.false))))
 
 pub returns-in_err-servers : goal.returns-in_err-servers
-returns-in_err-servers g c = let f = fails c.args.config.now (map g.S.NonceStore.seen c.args.stores.items) g.A.Memory.may_refuse g.S.NonceStore.may_refuse c.from_residual-in_err-servers.result (memory_fault _ _ c.from_residual-in_err-servers.ensures.1 c.in_err-servers.ensures.memory) (sym c.repeats.ensures.exact ∙ c.if-repeats.false) in
-    record { stands = f.stands; headline = f.headline; lists = f.lists; faults = f.fault; repeated = f.repeated; memory = f.memory; start_memory = f.start_memory; store_memory = f.store_memory; calm = f.calm; calm_faults = f.calm_faults }
+returns-in_err-servers g c =
+    assumption (fails c.args.config.now (map g.S.NonceStore.seen c.args.stores.items) g.A.Memory.may_refuse g.S.NonceStore.may_refuse c.from_residual-in_err-servers.result (memory_fault _ _ c.from_residual-in_err-servers.ensures.1 c.in_err-servers.ensures.memory)
+    (λ twice. absurd (true≢false (sym twice ∙ sym c.repeats.ensures.exact ∙ c.if-repeats.false))))
 
 pub returns-in_err-start_all : goal.returns-in_err-start_all
 returns-in_err-start_all g c =
     let first = c.len.ensures ∙ c.in_ok-servers.servers.ok.0 in
-    let f = fails c.args.config.now (map g.S.NonceStore.seen c.args.stores.items) g.A.Memory.may_refuse g.S.NonceStore.may_refuse c.from_residual-in_err-start_all.result
-    (start_fault c.args.config.now (map g.S.NonceStore.seen c.args.stores.items) g.A.Memory.may_refuse g.S.NonceStore.may_refuse c.in_ok-servers.servers.items c.in_ok-servers.routers.items c.in_ok-servers.ensures.nodes
+    let why = start_fault c.args.config.now (map g.S.NonceStore.seen c.args.stores.items) g.A.Memory.may_refuse g.S.NonceStore.may_refuse c.in_ok-servers.servers.items c.in_ok-servers.routers.items c.in_ok-servers.ensures.nodes
     c.start_all.new.routers c.from_residual-in_err-start_all.result c.in_err-start_all.field-0.0 c.len.result first
     (err_is c.from_residual-in_err-start_all.result c.in_err-start_all.field-0.0 c.from_residual-in_err-start_all.ensures.1)
-    (subst (λ (l : List RouterNodeState). IsStartFault c.len.result l c.start_all.new.routers g.A.Memory.may_refuse g.S.NonceStore.may_refuse c.in_err-start_all.field-0.0) c.deref_mut.ensures.value c.in_err-start_all.ensures.faults))
-    (sym c.repeats.ensures.exact ∙ c.if-repeats.false) in
-    record { stands = f.stands; headline = f.headline; lists = f.lists; faults = f.fault; repeated = f.repeated; memory = f.memory; start_memory = f.start_memory; store_memory = f.store_memory; calm = f.calm; calm_faults = f.calm_faults }
+    (subst (λ (l : List RouterNodeState). IsStartFault c.len.result l c.start_all.new.routers g.A.Memory.may_refuse g.S.NonceStore.may_refuse c.in_err-start_all.field-0.0) c.deref_mut.ensures.value c.in_err-start_all.ensures.faults) in
+    assumption (fails c.args.config.now (map g.S.NonceStore.seen c.args.stores.items) g.A.Memory.may_refuse g.S.NonceStore.may_refuse c.from_residual-in_err-start_all.result why
+    (λ twice. absurd (true≢false (sym twice ∙ sym c.repeats.ensures.exact ∙ c.if-repeats.false))))
