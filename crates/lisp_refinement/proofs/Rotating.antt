@@ -9,12 +9,12 @@ use Rattle.std.proofs.lemmas.List.Elements.{Contains-append_left, Contains-appen
 use Rattle.std.proofs.lemmas.List.{length-map}
 use Rattle.lisp_etr.specs.Config.{EtrConfigValue, with_key, sent_pair_under}
 use Rattle.lisp_admission.specs.Checks.{secret_at as known_secret}
-use Rattle.lisp_model.specs.Trace.{Step, Opening, router_at, etr_config_under, etr_config, EventValue, ShownStore, is_router, key as key_at, shown_store}
+use Rattle.lisp_model.specs.Trace.{Step, Opening, router_at, etr_config_under, etr_config, EventValue, ShownStore, is_router, key as key_at, shown_store, is_up, database, database_after}
 use Rattle.lisp_model.specs.Keys.{KnowsKey, keys_since_loss, keys_before_loss, MayRotate, MayStartUnder}
 use Rattle.lisp_model.proofs.ListLemmas.{at_head, in_tail, head_or_tail, in_none}
 use Rattle.lisp_nonces.specs.declared.fate.Fate.{Fate}
-use Rattle.lisp_nonces.specs.declared.fate.Fate.TheVariants.{LoadFails as FailedLoads}
-use Rattle.lisp_nonces.specs.Kept.{Kept, kept_at, NoneBelow}
+use Rattle.lisp_nonces.specs.declared.fate.Fate.TheVariants.{LoadFails as FailedLoads, Done}
+use Rattle.lisp_nonces.specs.Kept.{Kept, kept_at, NoneBelow, KeepsSome}
 use Rattle.lisp_nonces.specs.Store.{StoreState}
 use Rattle.lisp_nonces.specs.Promises.{KeepsListsIfHonest}
 use Rattle.lisp_etr.specs.Etr.{EtrState}
@@ -30,18 +30,21 @@ use Rattle.lisp_model.specs.declared.line.Line.TheVariants as lines
 use Rattle.lisp_model.specs.declared.refusal.Refusal.TheVariants as refusals
 use Rattle.lisp_model.specs.Timers.{round}
 use Rattle.lisp_model.specs.Context.{Context, Same}
-use Rattle.lisp_model.specs.Counted.{latest_nonce}
+use Rattle.lisp_model.specs.Counted.{latest_nonce, acked}
 use Rattle.lisp_model.specs.Sending.{pair_at, last_sent, start_values, CountsFrom}
-use Rattle.lisp_model.specs.Rotating.{RefusesToRotate}
+use Rattle.lisp_model.specs.Rotating.{RefusesToRotate, IsLost}
 use Rattle.lisp_model.specs.Legal.{MayCome}
 use Rattle.lisp_refinement.specs.World.{key_count, is_used, RouterNodeState, WorldState, RouterCoreState, Up, Down, UsesKey}
-use Rattle.lisp_refinement.specs.Events.{IsKeyOf, UsesKeyIfOk, rotate_line, RouterRotates, NetworkRotates}
+use Rattle.lisp_refinement.specs.Events.{IsKeyOf, UsesKeyIfOk, rotate_line, RouterRotates, NetworkRotates, NetworkLoses, loss_line}
 use Rattle.lisp_refinement.specs.Stands.{Marks, StandsForRouter, Stands, shown_by, StandsForRounds, StandsForEtr, StandsForCore, StandsForKeys}
-use Rattle.lisp_refinement.specs.Calls.{CoreRotates, IsRotateFaultOf, CoreAnswersRotate}
+use Rattle.lisp_refinement.specs.Calls.{CoreRotates, IsRotateFaultOf, CoreAnswersRotate, config_of, database_of}
 use Rattle.lisp_refinement.proofs.Gets.{none_is_some, get_mapped}
 use Rattle.lisp_refinement.proofs.Acting.{here, adds_none, Shown-in, uses_shown, by_fate, step_of, turn_at, shown_now, RouterStep, moved, acts_router, acts_part, acts_shows, down_step, stands_by, up_stays}
 use Rattle.lisp_refinement.proofs.Places.{rounds_become}
-use Rattle.lisp_refinement.proofs.Restarting.{BeginsAnew, counts_anew, round_anew}
+use Rattle.lisp_refinement.proofs.Restarting.{BeginsAnew, counts_anew, round_anew, config_known, database_known, answer_line, goes_on, StartsBy, become_honest, loaded, start_stands}
+use Rattle.lisp_records.specs.Record.{MapRecordValue}
+use Rattle.lisp_etr.specs.declared.start_fault.StartFault.{StartFault}
+use Rattle.lisp_model.specs.Restarting.{Fits}
 
 -- a key that isn't used isn't listed
 pub unlisted : (used : List Bool) (keys : List ℕ) (key : ℕ) → Marks used keys → key < key_count → is_used used key ≡ false → Contains keys key → ⊥
@@ -273,3 +276,74 @@ module _ (old new : WorldState) (router key : ℕ) (fate : Fate) (line : Line) (
   -- so the network stands for the trace with that step
   pub rotate_stands : Rotated-after
   rotate_stands = rotates_at before.core part.core rotates.rotates
+
+-- A router's store is lost, and the router starts under a key that it never used, or not at all.
+
+module _ (old new : WorldState) (node key : ℕ) (db : Option (List MapRecordValue)) (line : Line) (fits : Fits db) (loses : NetworkLoses old new node key db line) (o : Opening) (T : List Step) (stand : Stands old o T) where
+  -- its store once it was lost
+  abbrev lost : StoreState
+  lost = loses.loses.lost
+
+  -- it stood loses.acts.before
+  stood : StandsForRouter o T node loses.acts.before
+  stood = acts_part old new node [] loses.acts o T stand
+
+  -- what it starts with, and what it registers from now on
+  abbrev config : EtrConfigValue
+  config = with_key (config_of loses.acts.before.core) key loses.of.secret
+
+  abbrev registered : List MapRecordValue
+  registered = unwrap_or db (database_of loses.acts.before.core)
+
+  -- its store was lost
+  is_lost : IsLost (turn_at o T node Done (shown_by loses.acts.after.store)) node key db
+  is_lost = record {
+    acts = refl;
+    kind = acts_router old new node [] loses.acts o T stand;
+    may = may_start old o T stand node loses.acts.before stood key loses.of loses.unused_since loses.unused_before;
+    fits = fits;
+    some = subst KeepsSome (sym (loaded old new node loses.acts o T stand lost line (goes_on loses.acts.before.store lost line loses.loses.loses.proceeds) config registered loses.answer loses.loses.starts))
+        (loses.loses.loses.some (become_honest old new node loses.acts o T stand lost line (goes_on loses.acts.before.store lost line loses.loses.loses.proceeds) config registered loses.answer loses.loses.starts));
+  }
+
+  -- and so is what it registers, with another database or not
+  given_case : (l : Line) (x : Option (List MapRecordValue)) → unwrap_or x (database_of loses.acts.before.core) ≡ database_after (events.Lose node key x) l node (database o T node)
+  given_case l None = database_known o T node loses.acts.before.core stood.core
+  given_case l (Some other) = sym (here node other (database o T node))
+
+  -- the step is legal, and it starts the router
+  starts_by : StartsBy o T (events.Lose node key db) node (shown_by loses.acts.after.store) (lines.Emptied node key) config registered loses.acts.after.used
+  starts_by = record {
+    timeless = refl;
+    settled = λ l. config_under old o T stand node loses.acts.before stood key loses.of (config_of loses.acts.before.core) (config_known o T node loses.acts.before.core stood.core)
+        ∙ sym (ap (etr_config_under o.config (router_at o.config node)) (here node key (key_at o T node)));
+    given = λ l. given_case l db;
+    keys = λ l. record {
+      since_loss = subst (Marks loses.acts.after.used.since_loss) (sym (here node (key ∷ []) (keys_since_loss o T node))) (lists_one loses.acts.after.used.since_loss key loses.loses.used.since_loss);
+      before_loss = subst (Marks loses.acts.after.used.before_loss) (sym (here node (keys_since_loss o T node ++ keys_before_loss o T node) (keys_before_loss o T node)))
+          (lists_both loses.acts.before.used.since_loss loses.acts.before.used.before_loss loses.acts.after.used.before_loss (keys_since_loss o T node) (keys_before_loss o T node) stood.used.since_loss stood.used.before_loss loses.loses.used.before_loss);
+    };
+    up = here node true (is_up T node);
+    begins = record {
+      last = here node None (last_sent T node);
+      values = here node _ (start_values o T node);
+      rounds = λ server part. here node _ (round T node server part);
+      latest = λ server part. here node 0 (latest_nonce T node server part);
+    };
+    forgets = λ server part. here node None (acked T node server part);
+    up_adds = refl;
+    up_row = record { lost = is_lost; names = refl; to = refl };
+    down = λ fault. here node false (is_up T node);
+    down_adds = λ fault. refl;
+    down_row = λ fault cause. record { lost = is_lost; names = refl; cause = cause };
+  }
+
+  -- the line is that of the answer
+  said : (answer : Result (Unit {0}) StartFault) → loss_line node key answer ≡ answer_line node (lines.Emptied node key) answer
+  said (Ok done) = refl
+  said (Err fault) = refl
+
+  -- so the network stands for the trace with that step
+  pub lose_stands : (actor : ℕ) × (s : ShownStore) × Stands new o (step_of (events.Lose node key db) actor s line ∷ T)
+  lose_stands = (node, shown_by loses.acts.after.store, start_stands old new node loses.acts o T stand lost line (goes_on loses.acts.before.store lost line loses.loses.loses.proceeds) config registered loses.answer loses.loses.starts
+      (events.Lose node key db) (lines.Emptied node key) starts_by loses.loses.me loses.loses.servers (loses.said ∙ said loses.answer))

@@ -13,7 +13,7 @@ use Rattle.lisp_refinement.specs.Events.{node_with, Arrives, ArrivesWhere, Netwo
 use Rattle.lisp_refinement.specs.Stands.{StandsAfter}
 use Rattle.lisp_refinement.specs.Taking.{NetworkTakes}
 use Rattle.lisp_refinement.proofs.Changing.{change_stands}
-use Rattle.lisp_refinement.proofs.Losing.{lose_stands}
+use Rattle.lisp_refinement.proofs.Rotating.{lose_stands}
 use Rattle.lisp_refinement.proofs.Noticing.{notice_stands}
 use Rattle.lisp_refinement.proofs.Reloading.{reload_stands}
 use Rattle.lisp_refinement.proofs.Resending.{resend_stands}

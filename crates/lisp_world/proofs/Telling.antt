@@ -24,7 +24,7 @@ use Rattle.lisp_refinement.specs.Events.{NodeResends, SaysNoticeAnswer, SaysRese
 use Rattle.lisp_refinement.specs.Nodes.{router_at}
 use Rattle.lisp_refinement.specs.Stands.{StandsAfter}
 use Rattle.lisp_refinement.specs.Replied.{IsPromised, NodeReplies, Replies}
-use Rattle.lisp_refinement.proofs.Replying.{replies_are_promised}
+use Rattle.lisp_refinement.proofs.Headlines.{replies_are_promised}
 use Rattle.lisp_nodes.specs.Asked.{asked_rotate_line}
 use Rattle.lisp_world.specs.Asked.{SaysAsked}
 use Rattle.lisp_world.specs.Faults.{Faults, fault_of, key_fault, refusal_of, router_fault, router_key_fault, used_before_loss, used_ever}
