@@ -106,7 +106,7 @@ kept_alive now o h (is, alive) =
     ap (option_and_then (if_alive now)) is ∙ ap (λ (b : Bool). cond b (Some h) None) ((Decides-ltb (now - h.accepted) h.life).1 alive)
 
 -- what stays was found, and is alive
-was_alive : (now : ℕ) (o : Option RowValue) (h : RowValue) → option_and_then (if_alive now) o ≡ Some h → (o ≡ Some h) × IsAlive h now
+pub was_alive : (now : ℕ) (o : Option RowValue) (h : RowValue) → option_and_then (if_alive now) o ≡ Some h → (o ≡ Some h) × IsAlive h now
 was_alive now o h is = option_and_then_some (if_alive now) o h is (λ g at passes. by g at (is_alive g now) refl passes)
   where
     by : (g : RowValue) → o ≡ Some g → (b : Bool) → is_alive g now ≡ b → cond b (Some g) None ≡ Some h → (o ≡ Some h) × IsAlive h now

@@ -114,13 +114,8 @@ heard_life o T _ is node s line = absurd is
 
 -- an answer is what is expected, or out of memory
 given : {X : Type 0} (answer expected : Result X NotifyFault) → Gives (λ x. x) answer expected → (answer ≡ expected) ⊎ (answer ≡ Err faults.OutOfMemory)
-given (Ok x) expected is = inl (sym is)
 given (Err faults.OutOfMemory) expected is = inr refl
-given (Err (faults.Read fault)) expected is = inl (sym is)
-given (Err faults.NotMine) expected is = inl (sym is)
-given (Err faults.WrongKey) expected is = inl (sym is)
-given (Err faults.BadAuth) expected is = inl (sym is)
-given (Err (faults.Stale last)) expected is = inl (sym is)
+given _ expected is = inl (sym is)
 
 -- what is seen in a Map-Notify that passed
 module _ {A : Type 0} (e : EtrState) (h : ServerNotify) where

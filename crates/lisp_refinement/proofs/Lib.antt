@@ -3,7 +3,6 @@ pub mod Places
 pub mod Heads
 pub mod Acting
 pub mod Passing
-pub mod Changing
 pub mod Restarting
 pub mod Rotating
 pub mod Sending

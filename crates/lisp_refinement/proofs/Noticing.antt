@@ -7,7 +7,7 @@ use Rattle.std.specs.Option.{option_and_then, option_map, option_to_list, unwrap
 use Rattle.std.specs.Ordering.{ordering_then, ordering_reverse}
 use Rattle.std.specs.declared.cmp.Ordering.{Ordering}
 use Rattle.std.specs.declared.cmp.Ordering.TheVariants.{Less, Equal, Greater}
-use Rattle.std.proofs.lemmas.Bool.{and_from}
+use Rattle.std.proofs.lemmas.Bool.{and_from, and_parts}
 use Rattle.std.proofs.lemmas.Bool.Decides.{Decides-ltb}
 use Rattle.std.proofs.lemmas.List.{length-map, get_or-map}
 use Rattle.std.proofs.lemmas.List.Elements.{filter_passes}
@@ -68,6 +68,7 @@ use Rattle.lisp_refinement.specs.Stands.{shown_by, SameNotice, StandsForServer, 
 use Rattle.lisp_refinement.proofs.Heads.{head_written}
 use Rattle.lisp_refinement.proofs.Acting.{Adds, adds_none, adds_one, by_fate, Shown-in, uses_shown, server_is, address_is, server_acts, notice_goes}
 use Rattle.lisp_refinement.proofs.NoticeParts.{its_me, known_router, found, found_without, router_itself, router_other, part_after, part_idle, each_router}
+use Rattle.lisp_refinement.proofs.Asking.{kept_alive, was_alive}
 
 -- what holds of each two in a list holds in its tail, and of its head and each in the tail
 module _ {X : Type 0} (P : X → X → Type 0) (x : X) (xs : List X) (all : AllPairs P (x ∷ xs)) where
@@ -109,23 +110,6 @@ module _ {X K : Type 0} (key : X → K) where
       let again : Within (x ∷ left) (x ∷ xs) = λ z has. back z (Contains-permutation (x ∷ left) ys z back_moved has) in
       let rest = some_order xs left (pairs_tail (λ a b. key a ≢ key b) x xs differ) (pairs_tail (λ a b. key a ≢ key b) x left apart) (rest_within x xs left differ forth) (rest_within x left xs apart again) in
       IsPermutation-trans (x ∷ xs) (x ∷ left) ys (IsPermutation-cons x xs left rest) back_moved
-
--- two tests that are passed together
-both_of : (a b : Bool) → (a && b) ≡ true → (a ≡ true) × (b ≡ true)
-both_of true b t = (refl, t)
-both_of false b t = absurd (true≢false (sym t))
-
--- a row that was found and is alive, and what is found where it is alive
-alive_found : (now : ℕ) (h : RowValue) (o : Option RowValue) → o ≡ Some h → is_alive h now ≡ true → option_and_then (if_alive now) o ≡ Some h
-alive_found now h o is alive = ap (option_and_then (if_alive now)) is ∙ ap (λ (b : Bool). cond b (Some h) None) alive
-
-found_alive : (now : ℕ) (h : RowValue) (o : Option RowValue) → option_and_then (if_alive now) o ≡ Some h → (o ≡ Some h) × (is_alive h now ≡ true)
-found_alive now h None is = absurd (let clash : ◌≡◌ {A = Option RowValue} None (Some h) = is in cc)
-found_alive now h (Some g) is = by (is_alive g now) refl is
-  where
-    by : (b : Bool) → is_alive g now ≡ b → cond b (Some g) None ≡ Some h → (◌≡◌ {A = Option RowValue} (Some g) (Some h)) × (is_alive h now ≡ true)
-    by true alive at = (at, (let same : g ≡ h = cc in ap (λ (x : RowValue). is_alive x now) (sym same) ∙ alive))
-    by false dead at = absurd (let clash : ◌≡◌ {A = Option RowValue} None (Some h) = at in cc)
 
 -- an answer of an order that is the same turned round isn't 'before'
 not_before_itself : (o : Ordering) → o ≡ ordering_reverse o → o ≢ Less
@@ -173,26 +157,24 @@ module _ (table : List RowValue) (since : List Acceptance) (now : ℕ) (one : On
   pub live_held : (h : RowValue) → Contains live h → (h.router ≡ router) × (held_row since h.router h.mapping.eid now ≡ Some h)
   live_held h has =
       let was = filtered_holds (is_live_of router now) table h has in
-      let passes = both_of (own h) (is_alive h now) was.1 in
-      ((router_eq-Decides h.router router).0 passes.0, sym (stands h.router h.mapping.eid) ∙ alive_found now h (row_at table h.router h.mapping.eid) (found_own table h one was.0) passes.1)
+      let passes = and_parts (own h) (is_alive h now) was.1 in
+      ((router_eq-Decides h.router router).0 passes.0, sym (stands h.router h.mapping.eid) ∙ kept_alive now (row_at table h.router h.mapping.eid) h (found_own table h one was.0, (Decides-ltb (now - h.accepted) h.life).0 passes.1))
 
   -- it is listed in the trace
   live_told : (h : RowValue) → Contains live h → Contains told h
   unfolding row_at
   live_told h has =
       let is = live_held h has in
-      let at = found_alive now h (row_at (accepted_rows since) h.router h.mapping.eid) is.1 in
-      filter_holds own (rows since now) h (((rows_are_held since now).each h).1 (at.0, (Decides-ltb (now - h.accepted) h.life).0 at.1)) ((router_eq-Decides h.router router).1 is.0)
+      filter_holds own (rows since now) h (((rows_are_held since now).each h).1 (was_alive now (row_at (accepted_rows since) h.router h.mapping.eid) h is.1)) ((router_eq-Decides h.router router).1 is.0)
 
   -- what the trace lists is a live row
   told_live : (h : RowValue) → Contains told h → Contains live h
   unfolding row_at
   told_live h has =
       let was = filtered_holds own (rows since now) h has in
-      let is = ((rows_are_held since now).each h).0 was.0 in
-      let is_held = alive_found now h (row_at (accepted_rows since) h.router h.mapping.eid) is.0 ((Decides-ltb (now - h.accepted) h.life).1 is.1) in
-      let at = found_alive now h (row_at table h.router h.mapping.eid) (stands h.router h.mapping.eid ∙ is_held) in
-      filter_holds (is_live_of router now) table h (found_holds (is_row_of h.router h.mapping.eid) table h at.0).0 (and_from (own h) (is_alive h now) was.1 at.1)
+      let is_held = kept_alive now (row_at (accepted_rows since) h.router h.mapping.eid) h (((rows_are_held since now).each h).0 was.0) in
+      let at = was_alive now (row_at table h.router h.mapping.eid) h (stands h.router h.mapping.eid ∙ is_held) in
+      filter_holds (is_live_of router now) table h (found_holds (is_row_of h.router h.mapping.eid) table h at.0).0 (and_from (own h) (is_alive h now) was.1 ((Decides-ltb (now - h.accepted) h.life).1 at.1))
 
   -- the rows of the trace rise
   told_rise : AllPairs (λ a b. row_cmp a b ≡ Less) told

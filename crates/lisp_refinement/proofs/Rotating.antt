@@ -17,34 +17,36 @@ use Rattle.lisp_nonces.specs.declared.fate.Fate.TheVariants.{LoadFails as Failed
 use Rattle.lisp_nonces.specs.Kept.{Kept, kept_at, NoneBelow, KeepsSome}
 use Rattle.lisp_nonces.specs.Store.{StoreState}
 use Rattle.lisp_nonces.specs.Promises.{KeepsListsIfHonest}
-use Rattle.lisp_etr.specs.Etr.{EtrState}
-use Rattle.lisp_etr.specs.Round.{rotated_round}
+use Rattle.lisp_etr.specs.Etr.{EtrState, etr_changed}
+use Rattle.lisp_etr.specs.Round.{rotated_round, KeepsRoundTime, new_round}
 use Rattle.lisp_etr.specs.declared.rotate_fault.RotateFault.{RotateFault}
 use Rattle.lisp_etr.specs.declared.rotate_fault.RotateFault.TheVariants.{SameKey, Store}
-use Rattle.lisp_etr.specs.Rounds.{rotated_rounds}
+use Rattle.lisp_etr.specs.Rounds.{rotated_rounds, new_rounds}
 use Rattle.lisp_etr.specs.declared.rounds.Rounds.{Rounds}
 use Rattle.lisp_etr.proofs.TimerLaws.{rounds_keep_time}
 use Rattle.lisp_model.specs.declared.event.Event.TheVariants as events
 use Rattle.lisp_model.specs.declared.line.Line.{Line}
 use Rattle.lisp_model.specs.declared.line.Line.TheVariants as lines
 use Rattle.lisp_model.specs.declared.refusal.Refusal.TheVariants as refusals
-use Rattle.lisp_model.specs.Timers.{round}
+use Rattle.lisp_model.specs.Timers.{round, RoundTimes}
 use Rattle.lisp_model.specs.Context.{Context, Same}
 use Rattle.lisp_model.specs.Counted.{latest_nonce, acked}
 use Rattle.lisp_model.specs.Sending.{pair_at, last_sent, start_values, CountsFrom}
 use Rattle.lisp_model.specs.Rotating.{RefusesToRotate, IsLost}
-use Rattle.lisp_model.specs.Legal.{MayCome}
+use Rattle.lisp_model.specs.Legal.{MayCome, Legal}
 use Rattle.lisp_refinement.specs.World.{key_count, is_used, RouterNodeState, WorldState, RouterCoreState, Up, Down, UsesKey}
-use Rattle.lisp_refinement.specs.Events.{IsKeyOf, UsesKeyIfOk, rotate_line, RouterRotates, NetworkRotates, NetworkLoses, loss_line}
-use Rattle.lisp_refinement.specs.Stands.{Marks, StandsForRouter, Stands, shown_by, StandsForRounds, StandsForEtr, StandsForCore, StandsForKeys}
+use Rattle.lisp_refinement.specs.Events.{IsKeyOf, UsesKeyIfOk, rotate_line, RouterRotates, NetworkRotates, NetworkLoses, loss_line, NetworkChanges, changed_core, change_line}
+use Rattle.lisp_refinement.specs.Stands.{Marks, StandsForRouter, Stands, shown_by, StandsForRounds, StandsForEtr, StandsForCore, StandsForKeys, Shows, StandsForRound}
 use Rattle.lisp_refinement.specs.Calls.{CoreRotates, IsRotateFaultOf, CoreAnswersRotate, config_of, database_of}
 use Rattle.lisp_refinement.proofs.Gets.{none_is_some, get_mapped}
-use Rattle.lisp_refinement.proofs.Acting.{here, adds_none, Shown-in, uses_shown, by_fate, step_of, turn_at, shown_now, RouterStep, moved, acts_router, acts_part, acts_shows, down_step, stands_by, up_stays}
+use Rattle.lisp_refinement.proofs.Acting.{here, adds_none, Shown-in, uses_shown, by_fate, step_of, turn_at, shown_now, RouterStep, moved, acts_router, acts_part, acts_shows, down_step, stands_by, up_stays, router_acts}
 use Rattle.lisp_refinement.proofs.Places.{rounds_become}
 use Rattle.lisp_refinement.proofs.Restarting.{BeginsAnew, counts_anew, round_anew, config_known, database_known, answer_line, goes_on, StartsBy, become_honest, loaded, start_stands}
 use Rattle.lisp_records.specs.Record.{MapRecordValue}
 use Rattle.lisp_etr.specs.declared.start_fault.StartFault.{StartFault}
 use Rattle.lisp_model.specs.Restarting.{Fits}
+use Rattle.lisp_etr.specs.declared.round.Round.{Round}
+use Rattle.lisp_model.specs.Bag.{bag}
 
 -- a key that isn't used isn't listed
 pub unlisted : (used : List Bool) (keys : List ℕ) (key : ℕ) → Marks used keys → key < key_count → is_used used key ≡ false → Contains keys key → ⊥
@@ -347,3 +349,70 @@ module _ (old new : WorldState) (node key : ℕ) (db : Option (List MapRecordVal
   pub lose_stands : (actor : ℕ) × (s : ShownStore) × Stands new o (step_of (events.Lose node key db) actor s line ∷ T)
   lose_stands = (node, shown_by loses.acts.after.store, start_stands old new node loses.acts o T stand lost line (goes_on loses.acts.before.store lost line loses.loses.loses.proceeds) config registered loses.answer loses.loses.starts
       (events.Lose node key db) (lines.Emptied node key) starts_by loses.loses.me loses.loses.servers (loses.said ∙ said loses.answer))
+
+-- A router is given another database: if it is up, new rounds begin; if it is down, nothing changes.
+
+-- the step of a change, which leaves the store
+abbrev change : Opening → List Step → ℕ → List MapRecordValue → Line → Step
+change o T router db line = record { event = events.Change router db; line = line; actor = router; shown = shown_store o T router }
+
+module _ (old new : WorldState) (router : ℕ) (db : List MapRecordValue) (line : Line) (changes : NetworkChanges old new router db line) (o : Opening) (T : List Step) (stand : Stands old o T) where
+  -- the router router_stood before
+  router_stood : StandsForRouter o T router changes.acts.before
+  router_stood = acts_part old new router [] changes.acts o T stand
+
+  -- so the network stands, if the step is legal and the router stands after it
+  stands_with : (l : Line) → change_line router db changes.acts.before.core ≡ l → Legal o T (change o T router db l) → bag o (change o T router db l ∷ T) ≡ bag o T ++ []
+      → StandsForCore o (change o T router db l ∷ T) router (changed_core db old.clock changes.acts.before.core) → Stands new o (change o T router db line ∷ T)
+  stands_with l says legal adds core = subst (λ (x : Line). Stands new o (change o T router db x ∷ T)) (sym (changes.said ∙ says))
+      (router_acts old new router [] changes.acts o T (change o T router db l) stand refl refl legal (adds_none o T (change o T router db l) adds)
+          (subst (λ (n : RouterNodeState). Shows n.store (shown_store o T router)) (sym changes.changes) (acts_shows old new router [] changes.acts o T stand))
+      (subst (λ (n : RouterNodeState). StandsForRouter o (change o T router db l ∷ T) router n) (sym changes.changes) (record { me = router_stood.me; servers = router_stood.servers; used = record { since_loss = router_stood.used.since_loss; before_loss = router_stood.used.before_loss }; core = core })))
+
+  -- a router that is up
+  module _ (e : EtrState) (part : StandsForEtr o T router e) where
+    -- the step with its line
+    abbrev up_step : Step
+    up_step = change o T router db (lines.Changed router (length db))
+
+    -- it is legal
+    up_legal : Legal o T up_step
+    up_legal = record {
+      faults = λ other. omega arith;
+      obedient = refl;
+      row = record { acts = record { kind = acts_router old new router [] changes.acts o T stand; acts = refl; state = part.up }; names = refl; fits = changes.fits; count = refl; same = refl };
+    }
+
+    -- a new round has begun
+    begun_round : (server place : ℕ) (x : Round) → StandsForRound T router server place x → StandsForRound (up_step ∷ T) router server place (new_round old.clock x)
+    begun_round server place x was = record {
+      keeps = subst (λ (y : RoundTimes). KeepsRoundTime (new_round old.clock x) y.begin y.moments) (sym (here router _ (round T router server place)))
+          (subst (λ a. KeepsRoundTime (new_round old.clock x) a []) stand.bag.moment (rounds_keep_time.begin old.clock x));
+      latest = was.latest;
+    }
+
+    -- the router stands with its new database
+    up_part : StandsForEtr o (up_step ∷ T) router (etr_changed e db old.clock)
+    up_part = record {
+      up = part.up;
+      config = part.config;
+      database = sym (here router db _);
+      last = part.last;
+      safe = subst (λ (x : ShownStore). NoneBelow e.safe (kept_at x.kept (pair_at o T router))) (sym (
+          (here router (shown_store o T router) (shown_store o T router)))) part.safe;
+      count = length-map e.rounds (new_rounds old.clock) ∙ part.count;
+      rounds = λ i server rs lists has. let was = get_mapped (new_rounds old.clock) e.rounds i rs has in
+          subst (λ (x : Rounds). StandsForRounds (up_step ∷ T) router server x) was.2
+          (rounds_become T router server was.0 (part.rounds i server was.0 lists was.1) (up_step ∷ T) (λ place. refl) (new_round old.clock) (begun_round server));
+    }
+
+  -- by whether the router is up, the network stands for the trace with the step
+  change_case : (core : RouterCoreState) → changes.acts.before.core ≡ core → StandsForCore o T router core → Stands new o (change o T router db line ∷ T)
+  change_case (Up e) is part = stands_with (lines.Changed router (length db)) (ap (λ (c : RouterCoreState). change_line router db c) is) (up_legal e part) refl
+      (subst (λ (c : RouterCoreState). StandsForCore o (change o T router db (lines.Changed router (length db)) ∷ T) router (changed_core db old.clock c)) (sym is) (up_part e part))
+  change_case (Down config database) is part = stands_with (lines.Down router) (ap (λ (c : RouterCoreState). change_line router db c) is) (
+      (record { faults = λ other. omega arith; obedient = refl; row = record { acts = record { kind = acts_router old new router [] changes.acts o T stand; acts = refl; state = part.0 }; names = refl; same = refl } })) refl
+      (subst (λ (c : RouterCoreState). StandsForCore o (change o T router db (lines.Down router) ∷ T) router (changed_core db old.clock c)) (sym is) part)
+
+  pub change_stands : (actor : ℕ) × (s : ShownStore) × Stands new o (record { event = events.Change router db; line = line; actor = actor; shown = s } ∷ T)
+  change_stands = (router, shown_store o T router, change_case changes.acts.before.core refl router_stood.core)

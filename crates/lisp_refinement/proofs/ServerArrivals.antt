@@ -538,11 +538,9 @@ module _ (o : Opening) (T : List Step) (node : ℕ) (before : ServerNodeState) (
 
     -- any message is
     pub refuses : LegalTrace o T → (read : Result MessageValue ReadFault) (why : Refused) → ServerRefuses read from bytes before.core armed called (clock T) why → (why ≡ refuseds.OutOfMemory → HasHead bytes) → RefusesMessage turn (arriving from bytes read) why
-    refuses legal (Ok (Registers m)) refuseds.OutOfMemory (inl untouched) head = (head refl, inl untouched.0, same_store untouched.1)
+    refuses legal read refuseds.OutOfMemory (inl untouched) head = (head refl, inl untouched.0, same_store untouched.1)
     refuses legal (Ok (Registers m)) refuseds.OutOfMemory (inr r) head = refuses_register m refuseds.OutOfMemory r head
-    refuses legal (Ok (Notifies m)) refuseds.OutOfMemory (inl untouched) head = (head refl, inl untouched.0, same_store untouched.1)
     refuses legal (Ok (Notifies m)) refuseds.OutOfMemory (inr r) head = absurd r.0
-    refuses legal (Err fault) refuseds.OutOfMemory (inl untouched) head = (head refl, inl untouched.0, same_store untouched.1)
     refuses legal (Err fault) refuseds.OutOfMemory (inr r) head = absurd (let clash : refuseds.OutOfMemory ≡ refuseds.Read fault = r.0 in cc)
     refuses legal (Ok (Registers m)) why r head = refuses_register m why r head
     refuses legal (Ok (Notifies m)) (refuseds.StoreLoad fault) r head = absurd r.0

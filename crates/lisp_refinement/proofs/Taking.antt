@@ -12,7 +12,7 @@ use Rattle.lisp_refinement.specs.World.{WorldState}
 use Rattle.lisp_refinement.specs.Events.{node_with, Arrives, ArrivesWhere, NetworkDelivers, NetworkRestarts}
 use Rattle.lisp_refinement.specs.Stands.{StandsAfter}
 use Rattle.lisp_refinement.specs.Taking.{NetworkTakes}
-use Rattle.lisp_refinement.proofs.Changing.{change_stands}
+use Rattle.lisp_refinement.proofs.Rotating.{change_stands}
 use Rattle.lisp_refinement.proofs.Rotating.{lose_stands}
 use Rattle.lisp_refinement.proofs.Noticing.{notice_stands}
 use Rattle.lisp_refinement.proofs.Reloading.{reload_stands}
