@@ -44,6 +44,16 @@ use Rattle.lisp_refinement.specs.Asked.{IsNextNotice, ServerTells, RouterTells}
 use Rattle.lisp_refinement.proofs.Gets.{none_is_some, same_some, get_within}
 use Rattle.lisp_refinement.proofs.Places.{list_by_parts, first_by_parts, first_alike}
 
+-- what holds of each two in a list holds in its tail, and of its head and each in the tail
+module _ {X : Type 0} (P : X → X → Type 0) (x : X) (xs : List X) (all : AllPairs P (x ∷ xs)) where
+  -- in the tail
+  pub pairs_tail : AllPairs P xs
+  pairs_tail i j d before lt = all (suc i) (suc j) d (omega (arith, before)) (omega (arith, lt))
+
+  -- of the head and each in the tail
+  pub pairs_head : (z : X) → Contains xs z → P x z
+  pairs_head z (k, lt, is) = subst (P x) is (all 0 (suc k) z (omega arith) (omega (arith, lt)))
+
 -- lists that rise strictly by a comparison
 module _ {X : Type 0} (cmp : X → X → Ordering) (total : IsTotalOrder cmp) where
   -- each element is below all that stand behind it
@@ -58,28 +68,20 @@ module _ {X : Type 0} (cmp : X → X → Ordering) (total : IsTotalOrder cmp) wh
   not_both : (a b : X) → cmp a b ≡ Less → cmp b a ≡ Less → ⊥
   not_both a b less more = (let clash : Less ≡ Greater = sym less ∙ total.antisymm a b ∙ ap ordering_reverse more in absurd cc)
 
-  -- the head is below each element of the tail
-  head_below : (x : X) (xs : List X) → Rises (x ∷ xs) → (z : X) → Contains xs z → cmp x z ≡ Less
-  head_below x xs rises z (j, lt, is) = subst (λ (y : X). cmp x y ≡ Less) is (rises 0 (suc j) z (omega arith) (omega (arith, lt)))
-
-  -- the tail rises too
-  tail_rises : (x : X) (xs : List X) → Rises (x ∷ xs) → Rises xs
-  tail_rises x xs rises i j d before lt = rises (suc i) (suc j) d (omega (arith, before)) (omega (arith, lt))
-
   -- where two heads are one, each element of one tail is one of the other
   tail_within : (x : X) (xs ys : List X) → Rises (x ∷ xs) → Within (x ∷ xs) (x ∷ ys) → Within xs ys
   tail_within x xs ys rises there z has = by (head_or_tail x ys z (there z (in_tail x xs z has)))
     where
       by : (z ≡ x) ⊎ Contains ys z → Contains ys z
       by (inl same) = (let itself = subst (λ (y : X). cmp x y ≡ Less) same
-          (head_below x xs rises z has) in absurd (not_both x x itself itself))
+          (pairs_head (λ a b. cmp a b ≡ Less) x xs rises z has) in absurd (not_both x x itself itself))
       by (inr more) = more
 
   -- the heads of two such lists with the same elements are one
   same_heads : (x y : X) (xs ys : List X) → Rises (x ∷ xs) → Rises (y ∷ ys) → (y ≡ x) ⊎ Contains xs y → (x ≡ y) ⊎ Contains ys x → x ≡ y
   same_heads x y xs ys rises others (inl is) there = sym is
   same_heads x y xs ys rises others (inr here) (inl is) = is
-  same_heads x y xs ys rises others (inr here) (inr there) = absurd (not_both x y (head_below x xs rises y here) (head_below y ys others x there))
+  same_heads x y xs ys rises others (inr here) (inr there) = absurd (not_both x y (pairs_head (λ a b. cmp a b ≡ Less) x xs rises y here) (pairs_head (λ a b. cmp a b ≡ Less) y ys others x there))
 
   -- two such lists with the same elements are one
   pub one_rising_list : (xs ys : List X) → Rises xs → Rises ys → Within xs ys → Within ys xs → xs ≡ ys
@@ -90,7 +92,7 @@ module _ {X : Type 0} (cmp : X → X → Ordering) (total : IsTotalOrder cmp) wh
       let heads : x ≡ y = same_heads x y xs ys rises others (head_or_tail x xs y (back y (at_head y ys))) (head_or_tail y ys x (there x (at_head x xs))) in
       let forth : Within xs ys = tail_within x xs ys rises (subst (λ (h : X). Within (x ∷ xs) (h ∷ ys)) (sym heads) there) in
       let again : Within ys xs = tail_within y ys xs others (subst (λ (h : X). Within (y ∷ ys) (h ∷ xs)) heads back) in
-      let tails : xs ≡ ys = one_rising_list xs ys (tail_rises x xs rises) (tail_rises y ys others) forth again in
+      let tails : xs ≡ ys = one_rising_list xs ys (pairs_tail (λ a b. cmp a b ≡ Less) x xs rises) (pairs_tail (λ a b. cmp a b ≡ Less) y ys others) forth again in
       λ i. heads i ∷ tails i
 
 -- there is one list of the rows that are held

@@ -329,9 +329,6 @@ module _ (A : Type 0) (old : WorldState) (o : Opening) (T : List Step) (stand : 
   comes_by : (bytes : List ℕ) → a.bytes ≡ bytes → a.read ≡ message_at bytes → (etr : EtrState) (ans : Result (Seen A) NotifyFault) → HearsAs e etr from bytes ans → ComesBy ans
   comes_by bytes bytes_are read_is etr ans call = at (given ans (seen_at e from bytes) call.gives)
     where
-      head_of : ans ≡ Err faults.OutOfMemory → HasHead a.bytes
-      head_of is = subst HasHead (sym bytes_are) (subst (λ (x : Result (Seen A) NotifyFault). IsErrOf x faults.OutOfMemory → TakesMemory e.config from bytes) is call.grows refl).0
-
       -- what takes memory is to be read, or a notice that passed all checks on both sides
       answer_of : (h : ServerNotify) (t : Result ServerNotify NotifyFault) → notify_at o T node a ≡ t → Alike (etr_config o T node) a.read from_place (server_from o.config node a.from) (Ok h) t → first_notice ≤ h.message.nonce → IsToAnswer turn a
       answer_of h (Ok g) heard_is same high = record { what = g; hears = heard_is; own = subst (λ (m : MapNotifyValue). first_notice ≤ m.nonce) same.message high }
@@ -344,7 +341,8 @@ module _ (A : Type 0) (old : WorldState) (o : Opening) (T : List Step) (stand : 
 
       at : (ans ≡ seen_at e from bytes) ⊎ (ans ≡ Err faults.OutOfMemory) → ComesBy ans
       at (inl is) = by_both ans (checked_notify (etr_config o T node) a.bytes a.read from_place) (notify_at o T node a) refl both_heard (is ∙ ap (λ (r : Result ServerNotify NotifyFault). r >>= seen_in e) (by_place bytes bytes_are read_is)) call.fits
-      at (inr is) = subst ComesBy (sym is) (refuses faults.OutOfMemory (inr (head_of is,
+      at (inr is) = subst ComesBy (sym is) (refuses faults.OutOfMemory (inr (
+          (subst HasHead (sym bytes_are) (subst (λ (x : Result (Seen A) NotifyFault). IsErrOf x faults.OutOfMemory → TakesMemory e.config from bytes) is call.grows refl).0),
           (takes (subst (λ (x : Result (Seen A) NotifyFault). IsErrOf x faults.OutOfMemory → TakesMemory e.config from bytes) is call.grows refl).1), refl)))
 
 -- what arrives at a router

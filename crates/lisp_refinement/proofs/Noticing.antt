@@ -68,17 +68,7 @@ use Rattle.lisp_refinement.specs.Stands.{shown_by, SameNotice, StandsForServer, 
 use Rattle.lisp_refinement.proofs.Heads.{head_written}
 use Rattle.lisp_refinement.proofs.Acting.{Adds, adds_none, adds_one, by_fate, Shown-in, uses_shown, server_is, address_is, server_acts, notice_goes}
 use Rattle.lisp_refinement.proofs.NoticeParts.{its_me, known_router, found, found_without, router_itself, router_other, part_after, part_idle, each_router}
-use Rattle.lisp_refinement.proofs.Asking.{kept_alive, was_alive}
-
--- what holds of each two in a list holds in its tail, and of its head and each in the tail
-module _ {X : Type 0} (P : X → X → Type 0) (x : X) (xs : List X) (all : AllPairs P (x ∷ xs)) where
-  -- in the tail
-  pairs_tail : AllPairs P xs
-  pairs_tail i j d before lt = all (suc i) (suc j) d (omega (arith, before)) (omega (arith, lt))
-
-  -- of the head and each in the tail
-  pairs_head : (z : X) → Contains xs z → P x z
-  pairs_head z (k, lt, is) = subst (P x) is (all 0 (suc k) z (omega arith) (omega (arith, lt)))
+use Rattle.lisp_refinement.proofs.Asking.{kept_alive, was_alive, pairs_head, pairs_tail}
 
 -- lists of distinct keys with the same elements have them in some order
 module _ {X K : Type 0} (key : X → K) where

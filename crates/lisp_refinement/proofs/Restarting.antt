@@ -376,31 +376,6 @@ module _ (old new : WorldState) (node pick : ℕ) (db : Option (List MapRecordVa
   given_case l None = database_known o T node before.core stood.core
   given_case l (Some other) = sym (here node other (database o T node))
 
-  -- the step is legal, and it starts the router
-  starts_by : StartsBy o T event node (shown_by after.store) (lines.Restarted node) config registered after.used
-  starts_by = record {
-    timeless = refl;
-    settled = λ l. config_known o T node before.core stood.core;
-    given = λ l. given_case l db;
-    keys = λ l. record {
-      since_loss = subst (λ (used : UsedKeysState). Marks used.since_loss (keys_since_loss o T node)) (sym restarts.used) stood.used.since_loss;
-      before_loss = subst (λ (used : UsedKeysState). Marks used.before_loss (keys_before_loss o T node)) (sym restarts.used) stood.used.before_loss;
-    };
-    up = here node true (is_up T node);
-    begins = record {
-      last = here node None (last_sent T node);
-      values = here node (kept_at after.store.kept (pair_at o T node)) (start_values o T node);
-      rounds = λ server part. here node _ (round T node server part);
-      latest = λ server part. here node 0 (latest_nonce T node server part);
-    };
-    forgets = λ server part. here node None (acked T node server part);
-    up_adds = refl;
-    up_row = record { names = refl; acts = refl; kind = inr (acts_router old new node [] restarts.acts o T stand); fits = fits; narrows = narrows; picks = picks };
-    down = λ fault. here node false (is_up T node);
-    down_adds = λ fault. refl;
-    down_row = λ fault cause. record { names = refl; acts = refl; kind = acts_router old new node [] restarts.acts o T stand; fits = fits; narrows = narrows; picks = picks; cause = cause };
-  }
-
   -- the line is that of the answer
   said : (answer : Result (Unit {0}) StartFault) → start_line node answer ≡ answer_line node (lines.Restarted node) answer
   said (Ok done) = refl
@@ -409,7 +384,28 @@ module _ (old new : WorldState) (node pick : ℕ) (db : Option (List MapRecordVa
   -- so the network stands for the trace with that step
   pub reopen_router_stands : (actor : ℕ) × (s : ShownStore) × Stands new o (step_of event actor s line ∷ T)
   reopen_router_stands = (node, shown_by after.store, start_stands old new node restarts.acts o T stand crashed line becomes config registered restarts.answer restarts.starts
-      event (lines.Restarted node) starts_by restarts.me restarts.servers (restarts.said ∙ said restarts.answer))
+      event (lines.Restarted node) (record {
+        timeless = refl;
+        settled = λ l. config_known o T node before.core stood.core;
+        given = λ l. given_case l db;
+        keys = λ l. record {
+          since_loss = subst (λ (used : UsedKeysState). Marks used.since_loss (keys_since_loss o T node)) (sym restarts.used) stood.used.since_loss;
+          before_loss = subst (λ (used : UsedKeysState). Marks used.before_loss (keys_before_loss o T node)) (sym restarts.used) stood.used.before_loss;
+        };
+        up = here node true (is_up T node);
+        begins = record {
+          last = here node None (last_sent T node);
+          values = here node (kept_at after.store.kept (pair_at o T node)) (start_values o T node);
+          rounds = λ server part. here node _ (round T node server part);
+          latest = λ server part. here node 0 (latest_nonce T node server part);
+        };
+        forgets = λ server part. here node None (acked T node server part);
+        up_adds = refl;
+        up_row = record { names = refl; acts = refl; kind = inr (acts_router old new node [] restarts.acts o T stand); fits = fits; narrows = narrows; picks = picks };
+        down = λ fault. here node false (is_up T node);
+        down_adds = λ fault. refl;
+        down_row = λ fault cause. record { names = refl; acts = refl; kind = acts_router old new node [] restarts.acts o T stand; fits = fits; narrows = narrows; picks = picks; cause = cause };
+      }) restarts.me restarts.servers (restarts.said ∙ said restarts.answer))
 
 -- a store that goes on counts on, whether the router starts or not
 counts_on : {less more : ℕ} (answer : Result (Unit {0}) StartFault) → less ≤ more → IfErr answer (λ fault. less ≤ more)

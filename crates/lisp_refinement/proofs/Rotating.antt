@@ -313,33 +313,6 @@ module _ (old new : WorldState) (node key : ℕ) (db : Option (List MapRecordVal
   given_case l None = database_known o T node loses.acts.before.core stood.core
   given_case l (Some other) = sym (here node other (database o T node))
 
-  -- the step is legal, and it starts the router
-  starts_by : StartsBy o T (events.Lose node key db) node (shown_by loses.acts.after.store) (lines.Emptied node key) config registered loses.acts.after.used
-  starts_by = record {
-    timeless = refl;
-    settled = λ l. config_under old o T stand node loses.acts.before stood key loses.of (config_of loses.acts.before.core) (config_known o T node loses.acts.before.core stood.core)
-        ∙ sym (ap (etr_config_under o.config (router_at o.config node)) (here node key (key_at o T node)));
-    given = λ l. given_case l db;
-    keys = λ l. record {
-      since_loss = subst (Marks loses.acts.after.used.since_loss) (sym (here node (key ∷ []) (keys_since_loss o T node))) (lists_one loses.acts.after.used.since_loss key loses.loses.used.since_loss);
-      before_loss = subst (Marks loses.acts.after.used.before_loss) (sym (here node (keys_since_loss o T node ++ keys_before_loss o T node) (keys_before_loss o T node)))
-          (lists_both loses.acts.before.used.since_loss loses.acts.before.used.before_loss loses.acts.after.used.before_loss (keys_since_loss o T node) (keys_before_loss o T node) stood.used.since_loss stood.used.before_loss loses.loses.used.before_loss);
-    };
-    up = here node true (is_up T node);
-    begins = record {
-      last = here node None (last_sent T node);
-      values = here node _ (start_values o T node);
-      rounds = λ server part. here node _ (round T node server part);
-      latest = λ server part. here node 0 (latest_nonce T node server part);
-    };
-    forgets = λ server part. here node None (acked T node server part);
-    up_adds = refl;
-    up_row = record { lost = is_lost; names = refl; to = refl };
-    down = λ fault. here node false (is_up T node);
-    down_adds = λ fault. refl;
-    down_row = λ fault cause. record { lost = is_lost; names = refl; cause = cause };
-  }
-
   -- the line is that of the answer
   said : (answer : Result (Unit {0}) StartFault) → loss_line node key answer ≡ answer_line node (lines.Emptied node key) answer
   said (Ok done) = refl
@@ -348,7 +321,30 @@ module _ (old new : WorldState) (node key : ℕ) (db : Option (List MapRecordVal
   -- so the network stands for the trace with that step
   pub lose_stands : (actor : ℕ) × (s : ShownStore) × Stands new o (step_of (events.Lose node key db) actor s line ∷ T)
   lose_stands = (node, shown_by loses.acts.after.store, start_stands old new node loses.acts o T stand lost line (goes_on loses.acts.before.store lost line loses.loses.loses.proceeds) config registered loses.answer loses.loses.starts
-      (events.Lose node key db) (lines.Emptied node key) starts_by loses.loses.me loses.loses.servers (loses.said ∙ said loses.answer))
+      (events.Lose node key db) (lines.Emptied node key) (record {
+        timeless = refl;
+        settled = λ l. config_under old o T stand node loses.acts.before stood key loses.of (config_of loses.acts.before.core) (config_known o T node loses.acts.before.core stood.core)
+            ∙ sym (ap (etr_config_under o.config (router_at o.config node)) (here node key (key_at o T node)));
+        given = λ l. given_case l db;
+        keys = λ l. record {
+          since_loss = subst (Marks loses.acts.after.used.since_loss) (sym (here node (key ∷ []) (keys_since_loss o T node))) (lists_one loses.acts.after.used.since_loss key loses.loses.used.since_loss);
+          before_loss = subst (Marks loses.acts.after.used.before_loss) (sym (here node (keys_since_loss o T node ++ keys_before_loss o T node) (keys_before_loss o T node)))
+              (lists_both loses.acts.before.used.since_loss loses.acts.before.used.before_loss loses.acts.after.used.before_loss (keys_since_loss o T node) (keys_before_loss o T node) stood.used.since_loss stood.used.before_loss loses.loses.used.before_loss);
+        };
+        up = here node true (is_up T node);
+        begins = record {
+          last = here node None (last_sent T node);
+          values = here node _ (start_values o T node);
+          rounds = λ server part. here node _ (round T node server part);
+          latest = λ server part. here node 0 (latest_nonce T node server part);
+        };
+        forgets = λ server part. here node None (acked T node server part);
+        up_adds = refl;
+        up_row = record { lost = is_lost; names = refl; to = refl };
+        down = λ fault. here node false (is_up T node);
+        down_adds = λ fault. refl;
+        down_row = λ fault cause. record { lost = is_lost; names = refl; cause = cause };
+      }) loses.loses.me loses.loses.servers (loses.said ∙ said loses.answer))
 
 -- A router is given another database: if it is up, new rounds begin; if it is down, nothing changes.
 
