@@ -96,7 +96,7 @@ module _ (o : Opening) (T U : List Step) (k : ℕ) (n : ServerNodeState) (stand 
       stood router = ap (λ (x : ServerNodeState). notice_at x.core.notices router) rest
 
   -- in no time
-  pub server_stays : clock U ≡ clock T → StandsForServer o U k n
+  server_stays : clock U ≡ clock T → StandsForServer o U k n
   server_stays moment = server_goes n refl (subst (λ (p : List Acceptance × ℕ). StandsForRows n p.0 p.1) (λ i. (sym same.since i, sym moment i)) server_rows)
 
 -- what a trace that goes on leaves of a router: how it is configured, and whether it is up; and what it sent, and what was counted
@@ -251,7 +251,7 @@ module _ (w : WorldState) (o : Opening) (T : List Step) (stand : Stands w o T) w
   router_stands place n there = subst (λ node. StandsForRouter o T node n) (sym (router_number place)) (stand.routers place n there)
 
   -- and of its store
-  pub router_shows : (place : ℕ) (n : RouterNodeState) → slice_get w.routers place ≡ Some n → Shows n.store (shown_store o T (length w.servers + place))
+  router_shows : (place : ℕ) (n : RouterNodeState) → slice_get w.routers place ≡ Some n → Shows n.store (shown_store o T (length w.servers + place))
   router_shows place n there = subst (λ node. Shows n.store (shown_store o T node)) (sym (router_number place)) (stand.steps.router_stores place n there)
 
 -- a server of the network after a step: it acted and stands, or it is as it was

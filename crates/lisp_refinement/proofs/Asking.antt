@@ -95,13 +95,6 @@ module _ {X : Type 0} (cmp : X → X → Ordering) (total : IsTotalOrder cmp) wh
       let tails : xs ≡ ys = one_rising_list xs ys (pairs_tail (λ a b. cmp a b ≡ Less) x xs rises) (pairs_tail (λ a b. cmp a b ≡ Less) y ys others) forth again in
       λ i. heads i ∷ tails i
 
--- there is one list of the rows that are held
-pub one_held : (table xs ys : List RowValue) (now : ℕ) → IsHeld table now xs → IsHeld table now ys → xs ≡ ys
-one_held table xs ys now one other =
-    one_rising_list row_cmp (on_total row_key key_total) xs ys one.rising other.rising
-    (λ h has. (other.each h).1 ((one.each h).0 has))
-    (λ h has. (one.each h).1 ((other.each h).0 has))
-
 -- a row that was found stays where it is alive
 pub kept_alive : (now : ℕ) (o : Option RowValue) (h : RowValue) → (o ≡ Some h) × IsAlive h now → option_and_then (if_alive now) o ≡ Some h
 kept_alive now o h (is, alive) =
@@ -125,7 +118,7 @@ module _ (one other : List RowValue) (now : ℕ)
   both_find h = alike h.router h.mapping.eid
 
   -- a list of what is held by one is a list of what is held by the other
-  pub held_alike : (xs : List RowValue) → IsHeld one now xs → IsHeld other now xs
+  held_alike : (xs : List RowValue) → IsHeld one now xs → IsHeld other now xs
   held_alike xs is = record {
     rising = is.rising;
     each = λ h. (
@@ -158,7 +151,7 @@ module _ (table listed : List RowValue) (now : ℕ) (one : OneEach table) (is : 
   none_listed none h has = none h (in_table h has)
 
   -- who answers by the rows answers by the list
-  pub answers_listed : {A : Type 0} (sites : List SiteValue) (answer : Answer A) → Answers table sites addr now answer → Answers listed sites addr now answer
+  answers_listed : {A : Type 0} (sites : List SiteValue) (answer : Answer A) → Answers table sites addr now answer → Answers listed sites addr now answer
   answers_listed sites (Reply record_of) answers = (answers.0, best_listed answers.0 answers.1, answers.2, answers.3)
   answers_listed sites (Forward to) answers = (answers.0, best_listed answers.0 answers.1, answers.2, answers.3)
   answers_listed sites NotRegistered answers = (none_listed answers.0, answers.1)
@@ -208,7 +201,10 @@ module _ (o : Opening) (T : List Step) (k : ℕ) (n : ServerNodeState) (part : S
   -- what it tells at the moment of the trace
   server_tells : (A : Type 0) → ServerTells A o T k n.core (clock T)
   server_tells A = record {
-    held = λ listed is. one_held n.core.rows listed all_held (clock T) is lists_held;
+    held = λ listed is. (
+        one_rising_list row_cmp (on_total row_key key_total) listed all_held is.rising lists_held.rising
+        (λ h has. (lists_held.each h).1 ((is.each h).0 has))
+        (λ h has. (is.each h).1 ((lists_held.each h).0 has)));
     answer = λ addr answer one answers. (
         subst (λ (sites : List SiteValue). Answers all_held sites addr (clock T) answer) part.sites
         (answers_listed n.core.rows all_held (clock T) one lists_held addr n.core.sites answer answers));

@@ -21,7 +21,7 @@ use Rattle.lisp_refinement.specs.Stands.{IsStanding, SameNotice, StandsForServer
 use Rattle.lisp_refinement.proofs.Acting.{router_is, router_stands, notice_goes}
 
 -- two routers are one, or they differ
-pub same_or_other : (a b : RouterId) → (a ≡ b) ⊎ (a ≢ b)
+same_or_other : (a b : RouterId) → (a ≡ b) ⊎ (a ≢ b)
 same_or_other a b = by (router_eq a b) refl
   where
     by : (t : Bool) → router_eq a b ≡ t → (a ≡ b) ⊎ (a ≢ b)
@@ -101,17 +101,14 @@ kept_stands o T server None (Some k) kept is same = absurd is
 pub sent_again_own : (router : RouterId) (now : ℕ) (n : Notice) → n.router ≡ router → resent_at router now n ≡ record n { moments = now ∷ n.moments }
 sent_again_own router now n own = ap (λ (t : Bool). cond t (record n { moments = now ∷ n.moments }) n) (ap (λ (r : RouterId). router_eq r router) own ∙ router_itself router)
 
--- another router's isn't
-pub sent_again_other : (router : RouterId) (now : ℕ) (n : Notice) → n.router ≢ router → resent_at router now n ≡ n
-sent_again_other router now n differ = ap (λ (t : Bool). cond t (record n { moments = now ∷ n.moments }) n) (router_other n.router router differ)
-
 -- another router's notice isn't sent again
 pub others_again : (me router : RouterId) (now : ℕ) (notices : List Notice) → router ≢ me → found router (map (resent_at me now) notices) ≡ found router notices
 others_again me router now notices differ = found_again me router now notices ∙ by (found router notices) (its_router router notices)
   where
     by : (n : Option Notice) → ((x : Notice) → n ≡ Some x → x.router ≡ router) → option_map (resent_at me now) n ≡ n
     by None its = refl
-    by (Some x) its = ap Some (sent_again_other me now x (λ same. differ (sym (its x refl) ∙ same)))
+    by (Some x) its = ap Some (
+        (ap (λ (t : Bool). cond t (record x { moments = now ∷ x.moments }) x) (router_other x.router me (λ same. differ (sym (its x refl) ∙ same)))))
 
 -- a Map-Server whose sites, rows and contacts stay, in a step that accepts nothing
 module _ (o : Opening) (T : List Step) (s : Step) (server : ℕ) (n m : ServerNodeState) (stand : StandsForServer o T server n) (time : clock (s ∷ T) ≡ clock T) (quiet : since_start o (s ∷ T) server ≡ since_start o T server) (has : sites o (s ∷ T) server ≡ sites o T server)

@@ -186,7 +186,7 @@ module _ (table : List RowValue) (since : List Acceptance) (now : ℕ) (one : On
   their_router i d lt = (router_eq-Decides (slice_index_or told i d).router router).0 (filter_passes own (rows since now) i d lt)
 
   -- the records that are told, by prefix, are those of the trace
-  pub told_is : (records : List MapRecordValue) → ByPrefix (live_of table router now) records → records ≡ records_of since router now
+  told_is : (records : List MapRecordValue) → ByPrefix (live_of table router now) records → records ≡ records_of since router now
   told_is records by_prefix = one_rising_order records (records_of since router now) (IsPermutation-trans records (live_of table router now) (records_of since router now) (IsPermutation-sym (live_of table router now) records by_prefix.same) same_records) by_prefix.rising (mapped_rise told
       (λ i j d before lt. 
           let a = slice_index_or told i d in
@@ -195,14 +195,14 @@ module _ (table : List RowValue) (since : List Acceptance) (now : ℕ) (one : On
           sym (ap (λ (o : Ordering). ordering_then o (prefix_cmp a.mapping.eid b.mapping.eid)) routers) ∙ told_rise i j d before lt))
 
   -- there are some, or none, in both
-  pub none_told : live_of table router now ≡ [] → records_of since router now ≡ []
+  none_told : live_of table router now ≡ [] → records_of since router now ≡ []
   none_told none = no_length (records_of since router now) (length_permutation (live_of table router now) (records_of since router now) same_records ∙ ap length none)
 
   pub some_told : live_of table router now ≢ [] → records_of since router now ≢ []
   some_told some none = some (no_length (live_of table router now) (sym (length_permutation (live_of table router now) (records_of since router now) same_records) ∙ ap length none))
 
   -- a router with live records has a row that is held
-  pub row_held : live_of table router now ≢ [] → (eid : PrefixValue) × (h : RowValue) × (held_row since router eid now ≡ Some h)
+  row_held : live_of table router now ≢ [] → (eid : PrefixValue) × (h : RowValue) × (held_row since router eid now ≡ Some h)
   row_held some =
       let one = first_of live (λ none. some (ap (map (λ (h : RowValue). h.mapping)) none)) in
       let is = live_held one.0 one.1 in

@@ -118,7 +118,7 @@ get_from first (suc n) zero k is = let e = same_some first k is in omega (arith,
 get_from first (suc n) (suc i) k is = let e = get_from (suc first) n i k is in omega (arith, e)
 
 -- as many parts as a database may have, and at each place its number
-pub count_of_parts : length part_numbers ≡ most_parts
+count_of_parts : length part_numbers ≡ most_parts
 unfolding numbers_below
 count_of_parts = length_from zero most_parts
 

@@ -246,7 +246,7 @@ crash_picks : (old new : StoreState) (pick : ℕ) (before : ShownStore) → Stor
 crash_picks old new pick before crashes shows obeys q = subst (λ (k : Kept). kept_at new.kept q ≡ picked (kept_at k q) pick ∷ []) shows.kept (crashes.picks (subst (λ (b : Bool). IsTrue b) (sym shows.obedient) obeys) q)
 
 -- a server that has just started holds nothing
-pub no_row : (now : ℕ) (router : RouterId) (eid : PrefixValue) → option_and_then (if_alive now) (row_at [] router eid) ≡ None
+no_row : (now : ℕ) (router : RouterId) (eid : PrefixValue) → option_and_then (if_alive now) (row_at [] router eid) ≡ None
 unfolding row_at
 no_row now router eid = refl
 
@@ -256,7 +256,7 @@ unfolding nonce_at
 no_nonce pair = get-empty pair_cmp pair
 
 -- nor any notice
-pub no_notice : (o : Opening) (T : List Step) (node : ℕ) (router : RouterId) → SameNotice o T node None (notice_at [] router)
+no_notice : (o : Opening) (T : List Step) (node : ℕ) (router : RouterId) → SameNotice o T node None (notice_at [] router)
 unfolding notice_at
 no_notice o T node router = tt
 

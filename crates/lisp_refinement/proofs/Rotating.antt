@@ -53,7 +53,7 @@ pub unlisted : (used : List Bool) (keys : List ℕ) (key : ℕ) → Marks used k
 unlisted used keys key lists bound unused has = true≢false (sym ((lists key bound).1 has) ∙ unused)
 
 -- one key more
-pub lists_more : (old new : List Bool) (keys : List ℕ) (key : ℕ) → Marks old keys → ((k : ℕ) → k < key_count → is_used new k ≡ (k == key || is_used old k)) → Marks new (key ∷ keys)
+lists_more : (old new : List Bool) (keys : List ℕ) (key : ℕ) → Marks old keys → ((k : ℕ) → k < key_count → is_used new k ≡ (k == key || is_used old k)) → Marks new (key ∷ keys)
 lists_more old new keys key lists more k bound = (λ used. to (or_cases (k == key) (is_used old k) (sym (more k bound) ∙ used)), λ has. more k bound ∙ from (head_or_tail key keys k has))
   where
     to : ((k == key) ≡ true) ⊎ (is_used old k ≡ true) → Contains (key ∷ keys) k
@@ -65,7 +65,7 @@ lists_more old new keys key lists more k bound = (λ used. to (or_cases (k == ke
     from (inr has) = or_right (k == key) (is_used old k) ((lists k bound).1 has)
 
 -- one alone
-pub lists_one : (new : List Bool) (key : ℕ) → ((k : ℕ) → k < key_count → is_used new k ≡ (k == key)) → Marks new (key ∷ [])
+lists_one : (new : List Bool) (key : ℕ) → ((k : ℕ) → k < key_count → is_used new k ≡ (k == key)) → Marks new (key ∷ [])
 lists_one new key one k bound = (λ used. subst (Contains (key ∷ [])) (sym ((Decides-eqb k key).0 (sym (one k bound) ∙ used))) (at_head key []), λ has. one k bound ∙ from (head_or_tail key [] k has))
   where
     from : (k ≡ key) ⊎ Contains [] k → (k == key) ≡ true
@@ -73,7 +73,7 @@ lists_one new key one k bound = (λ used. subst (Contains (key ∷ [])) (sym ((D
     from (inr none) = absurd (in_none k none)
 
 -- those of two lists
-pub lists_both : (some others new : List Bool) (xs ys : List ℕ) → Marks some xs → Marks others ys → ((k : ℕ) → k < key_count → is_used new k ≡ (is_used some k || is_used others k)) → Marks new (xs ++ ys)
+lists_both : (some others new : List Bool) (xs ys : List ℕ) → Marks some xs → Marks others ys → ((k : ℕ) → k < key_count → is_used new k ≡ (is_used some k || is_used others k)) → Marks new (xs ++ ys)
 lists_both some others new xs ys in_some in_others both k bound = (λ used. to (or_cases (is_used some k) (is_used others k) (sym (both k bound) ∙ used)), λ has. both k bound ∙ from (Contains-append_cases xs ys k has))
   where
     to : (is_used some k ≡ true) ⊎ (is_used others k ≡ true) → Contains (xs ++ ys) k
@@ -98,11 +98,11 @@ module _ (w : WorldState) (o : Opening) (T : List Step) (stand : Stands w o T) (
   config_under c is = λ i. with_key (is i) key ((ap (λ found. unwrap_or found []) (sym known_here)) i)
 
   -- the router may go over to it
-  pub may_rotate : is_used node.used.before_loss key ≡ false → MayRotate o T router key
+  may_rotate : is_used node.used.before_loss key ≡ false → MayRotate o T router key
   may_rotate unused = record { known = knows; unused = unlisted node.used.before_loss (keys_before_loss o T router) key part.used.before_loss of.bound unused }
 
   -- or start under it, once its store is lost
-  pub may_start : is_used node.used.since_loss key ≡ false → is_used node.used.before_loss key ≡ false → MayStartUnder o T router key
+  may_start : is_used node.used.since_loss key ≡ false → is_used node.used.before_loss key ≡ false → MayStartUnder o T router key
   may_start since before = record { known = knows; unused = λ has. neither (Contains-append_cases (keys_since_loss o T router) (keys_before_loss o T router) key has) }
     where
       neither : Contains (keys_since_loss o T router) key ⊎ Contains (keys_before_loss o T router) key → ⊥

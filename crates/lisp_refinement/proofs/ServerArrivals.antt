@@ -93,7 +93,7 @@ module _ (m : MapRegisterValue) (from : Addr) (now : ℕ) (since : List Acceptan
   one = record { message = m; from = from; moment = now }
 
   -- the last nonces
-  pub nonces_after : (old new : Nonces) → SetsNonce old new (pair_of m) m.nonce → (pair : Pair) → nonce_at old pair ≡ last_of pair since → nonce_at new pair ≡ last_of pair (one ∷ since)
+  nonces_after : (old new : Nonces) → SetsNonce old new (pair_of m) m.nonce → (pair : Pair) → nonce_at old pair ≡ last_of pair since → nonce_at new pair ≡ last_of pair (one ∷ since)
   nonces_after old new sets pair was = at (eq_by_cmp pair_cmp pair (pair_of m)) refl
     where
       at : (b : Bool) → eq_by_cmp pair_cmp pair (pair_of m) ≡ b → nonce_at new pair ≡ option_map (λ a. a.message.nonce) (cond b (Some one) (find (is_of_pair pair) since))
@@ -107,14 +107,14 @@ module _ (m : MapRegisterValue) (from : Addr) (now : ℕ) (since : List Acceptan
     held_with old was = first_or (if_alive now) (last_given (row_values m from now) router eid) (row_at old router eid) (find (is_row_of router eid) (accepted_rows since)) was ∙ held_more m from now since router eid
 
     -- what is held of a router and a prefix
-    pub rows_after : (old new : List RowValue) → Sets old new (row_values m from now) → option_and_then (if_alive now) (row_at old router eid) ≡ held_row since router eid now
+    rows_after : (old new : List RowValue) → Sets old new (row_values m from now) → option_and_then (if_alive now) (row_at old router eid) ≡ held_row since router eid now
         → option_and_then (if_alive now) (row_at new router eid) ≡ held_row (one ∷ since) router eid now
     rows_after old new sets was =
         ap (option_and_then (if_alive now)) (sets router eid)
         ∙ held_with old was
 
     -- where routers were heard
-    pub contacts_after : (old new : List Contact) → SetsContact old new (contact_of m from)
+    contacts_after : (old new : List Contact) → SetsContact old new (contact_of m from)
         → ((h : RowValue) → held_row since router eid now ≡ Some h → contact_at old router ≡ option_map (λ a. contact_of a.message a.from) (heard_last router since))
         → (h : RowValue) → held_row (one ∷ since) router eid now ≡ Some h → contact_at new router ≡ option_map (λ a. contact_of a.message a.from) (heard_last router (one ∷ since))
     contacts_after old new sets was h is = at (router_eq (router_of m) router) refl
@@ -157,7 +157,7 @@ module _ (sites : List SiteValue) (from : Addr) (bytes : List ℕ) (m : MapRegis
   failed_case why (Ok secret) e = absurd (err_clash e)
   failed_case why (Err other) e = ap Err (err_same other why e)
 
-  pub is_failed : (why : Refused) → register_checked sites from bytes m ≡ Err why → secret_under sites from bytes m ≡ Err why
+  is_failed : (why : Refused) → register_checked sites from bytes m ≡ Err why → secret_under sites from bytes m ≡ Err why
   is_failed why e = failed_case why (secret_under sites from bytes m) e
 
 -- a base that an honest store may answer is one by what it keeps
@@ -201,7 +201,7 @@ module _ {X : Type 0} (p : X → Bool) where
       at (Some y) e = absurd (none y (in_find p xs y e) (find_true p xs y e))
 
   -- what a filter leaves passes it
-  pub passes_filter : (xs : List X) (x : X) → Contains (filter p xs) x → p x ≡ true
+  passes_filter : (xs : List X) (x : X) → Contains (filter p xs) x → p x ≡ true
   passes_filter xs x has = All-contains (λ x. p x ≡ true) (filter p xs) x (filter_passes p xs) has
 
   -- a filter that leaves what is looked for leaves the look-up
@@ -273,7 +273,7 @@ module _ (o : Opening) (T : List Step) (node : ℕ) (kept : List StandingNoticeV
     pub is : IsStanding o T node notice n
 
   -- it is found by its router
-  pub stood : (router : RouterId) (n : StandingNoticeValue) → notice_at kept router ≡ Some n → Stood router n
+  stood : (router : RouterId) (n : StandingNoticeValue) → notice_at kept router ≡ Some n → Stood router n
   stood router n at_router = at (notice_to o T node router) (notice_at kept router) refl at_router (same router)
     where
       at : (a : Option Notice) (b : Option StandingNoticeValue) → notice_to o T node router ≡ a → b ≡ Some n → SameNotice o T node a b → Stood router n
@@ -288,7 +288,7 @@ module _ (o : Opening) (T : List Step) (node : ℕ) (kept : List StandingNoticeV
     pub is : IsStanding o T node x standing
 
   -- it too is found by its router
-  pub kept_for : (x : Notice) (router : RouterId) → notice_to o T node router ≡ Some x → KeptFor x router
+  kept_for : (x : Notice) (router : RouterId) → notice_to o T node router ≡ Some x → KeptFor x router
   kept_for x router at_router = at (notice_to o T node router) (notice_at kept router) at_router refl (same router)
     where
       at : (a : Option Notice) (b : Option StandingNoticeValue) → a ≡ Some x → notice_at kept router ≡ b → SameNotice o T node a b → KeptFor x router
@@ -333,7 +333,7 @@ module _ (o : Opening) (T : List Step) (node : ℕ) (kept : List StandingNoticeV
         }
 
     -- what no notice that is kept waits for, none that stands waits for
-    pub none_awaited : NoneAwaits kept from m.key_id m.nonce → awaiting hearing_turn from m ≡ None
+    none_awaited : NoneAwaits kept from m.key_id m.nonce → awaiting hearing_turn from m ≡ None
     none_awaited none = find_nothing (awaits hearing_turn from m) (notices o T node) never
       where
         never : (x : Notice) → Contains (notices o T node) x → awaits hearing_turn from m x ≡ true → ⊥
@@ -348,7 +348,7 @@ module _ (o : Opening) (T : List Step) (node : ℕ) (kept : List StandingNoticeV
   signed_same sites bytes x n is = λ i. signed_by (known_secret sites (sym is.router i).site (sym is.key i)) bytes
 
   -- after one has ended, the others stand
-  pub ended_same : (U : List Step) (new : List StandingNoticeValue) (ended : RouterId) → EndsNotice kept new ended → bag o U ≡ bag o T ++ [] → (router : RouterId) → SameNotice o U node (find (λ x. router_eq x.router router) (notices_to_others ended (notices o T node))) (notice_at new router)
+  ended_same : (U : List Step) (new : List StandingNoticeValue) (ended : RouterId) → EndsNotice kept new ended → bag o U ≡ bag o T ++ [] → (router : RouterId) → SameNotice o U node (find (λ x. router_eq x.router router) (notices_to_others ended (notices o T node))) (notice_at new router)
   ended_same U new ended ends grown router = at (router_eq router ended) refl
     where
       others : Notice → Bool
@@ -559,7 +559,7 @@ module _ (o : Opening) (T : List Step) (node : ℕ) (before : ServerNodeState) (
 -- What is taken and what is refused come to a row of legal steps, after which the Map-Server stands.
 
 -- what arrives brings no sites
-pub same_sites : (items : List Item) (event : EventValue) (a : Arrival) → arrival_in items event ≡ Some a → (k : ℕ) (old : List SiteValue) → sites_after event k old ≡ old
+same_sites : (items : List Item) (event : EventValue) (a : Arrival) → arrival_in items event ≡ Some a → (k : ℕ) (old : List SiteValue) → sites_after event k old ≡ old
 same_sites items (events.Reload server new) a e k old = absurd (let clash : ◌≡◌ {A = Option Arrival} None (Some a) = e in cc)
 same_sites items _ a e k old = refl
 
@@ -717,7 +717,7 @@ module _ (o : Opening) (T : List Step) (node : ℕ) (kind : is_server o.config n
         } }
 
   -- whatever it answers
-  pub received : {A : Type 0} → LegalTrace o T → (read : Result MessageValue ReadFault) (answer : Result (Took A) Refused) → arrival_in (bag o T) event ≡ Some (arriving from bytes read)
+  received : {A : Type 0} → LegalTrace o T → (read : Result MessageValue ReadFault) (answer : Result (Took A) Refused) → arrival_in (bag o T) event ≡ Some (arriving from bytes read)
       → IfOk answer (λ took. ServerTakes read from bytes before.core after.core armed called (clock T) took) → IfErr answer (λ why. ServerRefuses read from bytes before.core armed called (clock T) why) → OnErr answer (after.core ≡ before.core)
       → (IsErrOf answer refuseds.OutOfMemory → HasHead bytes)
       → Received o T (received_step (server_line node (length (bag o T)) answer)) (arriving from bytes read) node after (replies (address_at o.config node) from answer)

@@ -67,7 +67,7 @@ first_since key k low = (
 none_before : (key : ℕ) → Marks (first_used key).before_loss []
 none_before key k low = (λ is. absurd (true≢false (sym is ∙ unused_key key_count k)), λ has. absurd (omega (arith, has.1)))
 
-pub first_keys : (o : Opening) (router key : ℕ) (used : UsedKeysState) → used ≡ first_used key → key ≡ (router_at o.config router).key_id → StandsForKeys o [] router used
+first_keys : (o : Opening) (router key : ℕ) (used : UsedKeysState) → used ≡ first_used key → key ≡ (router_at o.config router).key_id → StandsForKeys o [] router used
 first_keys o router key used first own = record {
   since_loss = subst (λ (p : UsedKeysState × ℕ). Marks p.0.since_loss (p.1 ∷ [])) {x = (first_used key, key)} {y = (used, (router_at o.config router).key_id)} (λ i. (sym first i, own i)) (first_since key);
   before_loss = subst (λ (u : UsedKeysState). Marks u.before_loss []) (sym first) (none_before key);
@@ -146,7 +146,7 @@ module _ (c : ConfigValue) (stores : List StoreState) (made : List ServerNodeSta
             let place : k ≡ length stores = omega (arith, same, none, so_far.count) in
             (s, ap (slice_get stores_now) place ∙ get_end stores s, new ∙ is)
 
-    pub server_more : SoFar c stores_now (made ++ n ∷ []) down
+    server_more : SoFar c stores_now (made ++ n ∷ []) down
     server_more = record {
       count = (let a = one_longer stores s in let b = one_longer made n in omega (arith, a, b, so_far.count));
       few = (let b = one_longer made n in omega (arith, b, low));
@@ -169,7 +169,7 @@ module _ (c : ConfigValue) (stores : List StoreState) (made : List ServerNodeSta
             let place : length c.servers + k ≡ length stores = omega (arith, same, all_servers, so_far.count) in
             (s, ap (slice_get stores_now) place ∙ get_end stores s, (is.0, ap (slice_get c.routers) same ∙ is.1, new ∙ is.2))
 
-    pub router_more : SoFar c stores_now made (down ++ n ∷ [])
+    router_more : SoFar c stores_now made (down ++ n ∷ [])
     router_more = record {
       count = (let a = one_longer stores s in let b = one_longer down n in omega (arith, a, b, so_far.count));
       few = so_far.few;

@@ -92,10 +92,6 @@ datagram_there bag k passes = leb-false (length bag) k (passed _ _ passes)
 pub addressed_there : (addresses : List Addr) (address : Addr) (node : ℕ) → Some node ≡ position (λ a. addr_eq a address) addresses → node < length addresses
 addressed_there addresses address node found = (position-Some (λ a. addr_eq a address) addresses node address (sym found)).0
 
--- it is the same where there is room for more datagrams alone
-pub same_world : (w : WorldState) (bag : List DatagramValue) → bag ≡ w.bag → record w { bag = bag } ≡ w
-same_world w bag same = ap (λ (b : List DatagramValue). record w { bag = b }) same
-
 -- bytes arrived at a node: so they do in the network where its nodes are written over the old ones, and the answer went to
 -- the end of the bag
 module _ (A : Type 0) (w : WorldState) (node : ℕ) (fate : Fate) (from : Addr) (bytes : List ℕ) (line : Line) (reply : Option (List ℕ))
@@ -123,13 +119,9 @@ delivered {A = A} {old = old} {new = new} {k = k} {fate = fate} {line = line} d 
     record { datagram = d; sent = sent; arrives = subst (λ (at : Option ℕ). ArrivesWhere A old new k fate d at line) found arrives }
 
 -- an element that is read once there is room for more is the one that was there
-pub read_still : {X : Type 0} (xs ys : List X) (k : ℕ) (x : X) → k < length xs → ys ≡ xs → x ≡ get_or ys k x → slice_get xs k ≡ Some x
+read_still : {X : Type 0} (xs ys : List X) (k : ℕ) (x : X) → k < length xs → ys ≡ xs → x ≡ get_or ys k x → slice_get xs k ≡ Some x
 read_still {X = X} xs ys k x within same read =
     slice_get-get_or xs k x within ∙ ap (λ (y : X). Some y) (sym (read ∙ ap (λ (zs : List X). get_or zs k x) same))
-
--- an element that is read twice is the same
-pub read_again : {X : Type 0} (xs : List X) (k : ℕ) (x y : X) → k < length xs → x ≡ get_or xs k x → y ≡ get_or xs k y → y ≡ x
-read_again xs k x y within first second = get_or_read xs k y within second x ∙ sym first
 
 -- what a list lends at a place is what stands there, if anything does
 pub element_read : {X : Type 0} (xs : List X) (k : ℕ) (r : Option (Bor X)) → is_some r ≡ nat_lt k (length xs) → IfSome r (λ x. x.now ≡ get_or xs k x.now) → option_map (λ x. x.now) r ≡ slice_get xs k
@@ -355,7 +347,7 @@ module _ (node_may store_may : Type 0) (w : WorldState) (room : List DatagramVal
   -- no node has its address
   pub lost : None ≡ node_with w d.to → TookEvent node_may store_may w (record w { bag = room }) (events.Deliver k fate) (lines.Nowhere k)
   lost nowhere = event_taken node_may store_may (Unit {0}) w (record w { bag = room }) (events.Deliver k fate) (lines.Nowhere k) (sym possible)
-      (delivered d None sent nowhere (same_world w room same, refl)) tt
+      (delivered d None sent nowhere ((ap (λ (b : List DatagramValue). record w { bag = b }) same), refl)) tt
 
   -- a node has it
   pub handed : (A : Type 0) (node : ℕ) (second : DatagramValue) (bytes : List ℕ) (address : Addr) (line : Line) (reply : Option (List ℕ)) (servers : List ServerNodeState) (routers : List RouterNodeState) (servers_long routers_long : ℕ) (bag : List DatagramValue)
@@ -382,4 +374,4 @@ module _ (node_may store_may : Type 0) (w : WorldState) (room : List DatagramVal
       at_node = arrived A w node fate d.from d.bytes line reply servers routers servers_long routers_long bag all_servers all_routers
           (posts ∙ (λ i. same i ++ datagram_to (its i) d.from reply))
           (subst (λ (b : List ℕ). Arrives A w (record w { bag = w.bag ++ datagram_to (address_of w node) d.from reply; servers = servers; routers = routers }) node fate d.from b line)
-              (says ∙ ap (λ (p : DatagramValue). p.bytes) (read_again room k first second within read again ∙ sym is)) arrives)
+              (says ∙ ap (λ (p : DatagramValue). p.bytes) ((get_or_read room k second within again first ∙ sym read) ∙ sym is)) arrives)
