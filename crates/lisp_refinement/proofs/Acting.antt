@@ -21,11 +21,12 @@ use Rattle.lisp_admission.specs.Pairs.{notice_pair}
 use Rattle.lisp_server.specs.LastNonces.{nonce_at}
 use Rattle.lisp_server.specs.Contacts.{contact_at}
 use Rattle.lisp_server.specs.Notices.{StandingNoticeValue, notice_at}
-use Rattle.lisp_model.specs.Trace.{ShownStore, Step, Opening, router_at, etr_config_under, etr_config, clock, address_at, is_server, is_router, shown_store, EventValue, fate_of}
+use Rattle.lisp_model.specs.Trace.{ShownStore, Step, Opening, router_at, etr_config_under, etr_config, clock, address_at, is_server, is_router, is_up, shown_store, key, database, EventValue, fate_of}
+use Rattle.lisp_model.specs.Keys.{keys_since_loss, keys_before_loss}
 use Rattle.lisp_model.specs.Held.{Acceptance, last_of, heard_last, held_row}
 use Rattle.lisp_model.specs.Timers.{RoundTimes, Notice, notice_to, round, with_renewal}
 use Rattle.lisp_model.specs.Bag.{Item, bag, since_start}
-use Rattle.lisp_model.specs.Sending.{CountsFrom}
+use Rattle.lisp_model.specs.Sending.{last_sent, pair_at, start_values}
 use Rattle.lisp_model.specs.Context.{IsBase, Context}
 use Rattle.lisp_model.specs.Promises.{SameServer, SameRouter, is_timeless, LeavesOthers}
 use Rattle.lisp_model.proofs.Locality.{same_number, leaves_others, other_number}
@@ -43,7 +44,7 @@ use Rattle.lisp_etr.proofs.TimerLaws.{rounds_keep_time}
 use Rattle.lisp_model.specs.declared.line.Line.TheVariants as lines
 use Rattle.lisp_model.specs.Counted.{latest_nonce, acked}
 use Rattle.lisp_refinement.specs.World.{ServerNodeState, RouterCoreState, Up, Down, UsedKeysState, RouterNodeState, DatagramValue, WorldState}
-use Rattle.lisp_refinement.specs.Stands.{StandsForRound, StandsForEtr, StandsForCore, Marks, StandsForKeys, StandsForRouter, SameNotice, StandsForServer, shown_by, Shows, Carries, StandsInSteps, StandsInBag, Stands, StandsForRounds}
+use Rattle.lisp_refinement.specs.Stands.{StandsForRound, StandsForEtr, StandsForCore, Marks, StandsForKeys, StandsForRouter, SameNotice, StandsForServer, shown_by, Shows, Carries, Stands, StandsForRounds}
 use Rattle.lisp_refinement.specs.Calls.{UsesStore}
 use Rattle.lisp_refinement.specs.Events.{ServerActs, RouterActs, address_of}
 use Rattle.lisp_refinement.proofs.Gets.{get_before, none_is_some, same_some, AtSet, get_set, Either, get_both}
@@ -59,19 +60,7 @@ Stay o T U = (more : List Item) × (bag o U ≡ bag o T ++ more)
 
 -- a notice stands as long as its datagram is in the bag
 pub notice_goes : (o : Opening) (T U : List Step) (k : ℕ) → Stay o T U → (n : Option Notice) (kept : Option StandingNoticeValue) → SameNotice o T k n kept → SameNotice o U k n kept
-notice_goes o T U k stay (Some n) (Some kept) same = record {
-  router = same.router;
-  key = same.key;
-  nonce = same.nonce;
-  item = same.item;
-  sent = ap (λ (items : List Item). slice_get items n.datagram) stay.1 ∙ get_before (bag o T) stay.0 n.datagram same.item same.sent;
-  from = same.from;
-  to = same.to;
-  bytes = same.bytes;
-  earlier = same.earlier;
-  moments = same.moments;
-  resends = same.resends;
-}
+notice_goes o T U k stay (Some n) (Some kept) same = search (same, ap (λ (items : List Item). slice_get items n.datagram) stay.1 ∙ get_before (bag o T) stay.0 n.datagram same.item same.sent)
 notice_goes o T U k stay None None same = tt
 notice_goes o T U k stay (Some n) None same = absurd same
 notice_goes o T U k stay None (Some kept) same = absurd same
@@ -107,53 +96,83 @@ module _ (o : Opening) (T U : List Step) (k : ℕ) (n : ServerNodeState) (stand 
       stood router = ap (λ (x : ServerNodeState). notice_at x.core.notices router) rest
 
   -- in no time
-  pub server_stays : clock U ≡ clock T → StandsForServer o U k n
+  server_stays : clock U ≡ clock T → StandsForServer o U k n
   server_stays moment = server_goes n refl (subst (λ (p : List Acceptance × ℕ). StandsForRows n p.0 p.1) (λ i. (sym same.since i, sym moment i)) server_rows)
 
--- a router
-module _ (o : Opening) (T U : List Step) (k : ℕ) (same : SameRouter o T U k) where
-  -- each of its rounds goes on to stand
-  round_stays : (server part : ℕ) (r : Round) → StandsForRound T k server part r → StandsForRound U k server part r
-  round_stays server part r stand = record {
-    keeps = subst (λ (x : RoundTimes). KeepsRoundTime r x.begin x.moments) (sym (same.round server part)) stand.keeps;
-    latest = stand.latest ∙ sym (same.latest server part);
-  }
+-- what a trace that goes on leaves of a router: how it is configured, and whether it is up; and what it sent, and what was counted
+pub record SameLife (o : Opening) (T U : List Step) (k : ℕ) : Type 0 where
+  pub up : is_up U k ≡ is_up T k
+  pub under : key o U k ≡ key o T k
+  pub since_loss : keys_since_loss o U k ≡ keys_since_loss o T k
+  pub before_loss : keys_before_loss o U k ≡ keys_before_loss o T k
+  pub given : database o U k ≡ database o T k
 
-  -- so do the numbers that it counts from
-  pub counts_stay : (base : Option ℕ) → CountsFrom o T k base → CountsFrom o U k base
-  counts_stay base counts = subst (λ (p : Option ℕ × List (Option ℕ)). IsBase p.0 p.1 base) (λ i. (sym same.last_sent i, sym same.start_values i)) counts
+pub record SameRounds (o : Opening) (T U : List Step) (k : ℕ) : Type 0 where
+  pub sent : last_sent U k ≡ last_sent T k
+  pub values : start_values o U k ≡ start_values o T k
+  pub times : (server part : ℕ) → round U k server part ≡ round T k server part
+  pub latest : (server part : ℕ) → latest_nonce U k server part ≡ latest_nonce T k server part
+  pub counted : (server part : ℕ) → acked U k server part ≡ acked T k server part
 
+module _ (o : Opening) (T U : List Step) (k : ℕ) (life : SameLife o T U k) where
   -- its configuration stays, since its key does
-  config_stays : etr_config o U k ≡ etr_config o T k
-  config_stays = ap (etr_config_under o.config (router_at o.config k)) same.key
+  pub config_stays : etr_config o U k ≡ etr_config o T k
+  config_stays = ap (etr_config_under o.config (router_at o.config k)) life.under
 
   -- and no other key was used
-  keys_stay : (used : UsedKeysState) → StandsForKeys o T k used → StandsForKeys o U k used
+  pub keys_stay : (used : UsedKeysState) → StandsForKeys o T k used → StandsForKeys o U k used
   keys_stay used stand = record {
-    since_loss = subst (Marks used.since_loss) (sym same.keys_since_loss) stand.since_loss;
-    before_loss = subst (Marks used.before_loss) (sym same.keys_before_loss) stand.before_loss;
+    since_loss = subst (Marks used.since_loss) (sym life.since_loss) stand.since_loss;
+    before_loss = subst (Marks used.before_loss) (sym life.before_loss) stand.before_loss;
   }
 
-  -- all of it while it is up
-  pub etr_stays : (e : EtrState) → StandsForEtr o T k e → StandsForEtr o U k e
-  etr_stays e stand = record {
-    up = same.is_up ∙ stand.up;
+  -- and all of it while it is up, where its rounds are others at most, if what its store keeps stays above what is safe
+  pub etr_goes : (e : EtrState) (all : List Rounds) → StandsForEtr o T k e → last_sent U k ≡ last_sent T k → start_values o U k ≡ start_values o T k
+      → NoneBelow e.safe (kept_at (shown_store o U k).kept (pair_at o T k)) → length all ≡ length e.rounds
+      → ((i server : ℕ) (rs : Rounds) → slice_get (router_at o.config k).servers i ≡ Some server → slice_get all i ≡ Some rs → StandsForRounds U k server rs)
+      → StandsForEtr o U k (record e { rounds = all })
+  etr_goes e all stand sent values safe count each = record {
+    up = life.up ∙ stand.up;
     config = stand.config ∙ sym config_stays;
-    database = stand.database ∙ sym same.database;
-    last = (stand.last.0, counts_stay stand.last.0 stand.last.1, stand.last.2);
-    safe = subst (λ (p : ShownStore × EtrConfigValue). NoneBelow e.safe (kept_at p.0.kept (sent_pair p.1))) (λ i. (sym same.shown i, sym config_stays i)) stand.safe;
-    count = stand.count;
-    rounds = λ i server rs lists has. rounds_stay T k server rs (stand.rounds i server rs lists has) U (same.acked server) (round_stays server);
+    database = stand.database ∙ sym life.given;
+    last = (stand.last.0, subst (λ (p : Option ℕ × List (Option ℕ)). IsBase p.0 p.1 stand.last.0) {x = (last_sent T k, start_values o T k)} {y = (last_sent U k, start_values o U k)} (λ i. (sym sent i, sym values i)) stand.last.1, stand.last.2);
+    safe = subst (λ (c : EtrConfigValue). NoneBelow e.safe (kept_at (shown_store o U k).kept (sent_pair c))) (sym config_stays) safe;
+    count = count ∙ stand.count;
+    rounds = each;
   }
 
-  -- up or down
-  core_stays : (core : RouterCoreState) → StandsForCore o T k core → StandsForCore o U k core
-  core_stays (Up e) stand = etr_stays e stand
-  core_stays (Down config db) stand = (same.is_up ∙ stand.0, stand.1 ∙ sym config_stays, stand.2 ∙ sym same.database)
+  module _ (rounds : SameRounds o T U k) where
+    etr_stays : (e : EtrState) → StandsForEtr o T k e → NoneBelow e.safe (kept_at (shown_store o U k).kept (pair_at o T k)) → StandsForEtr o U k e
+    etr_stays e stand safe = etr_goes e e.rounds stand rounds.sent rounds.values safe refl
+        (λ i server rs lists has. rounds_stay T k server rs (stand.rounds i server rs lists has) U (rounds.counted server) (λ part r was. record {
+          keeps = subst (λ (x : RoundTimes). KeepsRoundTime r x.begin x.moments) (sym (rounds.times server part)) was.keeps;
+          latest = was.latest ∙ sym (rounds.latest server part);
+        }))
 
-  -- and with its name and its list
-  pub router_stays : (n : RouterNodeState) → StandsForRouter o T k n → StandsForRouter o U k n
-  router_stays n stand = record { me = stand.me; servers = stand.servers; used = keys_stay n.used stand.used; core = core_stays n.core stand.core }
+    -- with its name, its list and its keys
+    pub up_stays : (n : RouterNodeState) (used : UsedKeysState) (store : StoreState) (e left : EtrState) → used ≡ n.used → left ≡ e → StandsForRouter o T k n → StandsForEtr o T k e
+        → NoneBelow e.safe (kept_at (shown_store o U k).kept (pair_at o T k)) → StandsForRouter o U k (record n { used = used; core = Up left; store = store })
+    up_stays n used store e left same_used same stand own safe = record {
+      me = stand.me;
+      servers = stand.servers;
+      used = subst (StandsForKeys o U k) (sym same_used) (keys_stay n.used stand.used);
+      core = subst (StandsForEtr o U k) (sym same) (etr_stays e own safe);
+    }
+
+    module _ (shown : shown_store o U k ≡ shown_store o T k) where
+      -- up or down, where its store shows what it showed
+      core_stays : (core : RouterCoreState) → StandsForCore o T k core → StandsForCore o U k core
+      core_stays (Up e) stand = etr_stays e stand (subst (λ (x : ShownStore). NoneBelow e.safe (kept_at x.kept (pair_at o T k))) (sym shown) stand.safe)
+      core_stays (Down config db) stand = (life.up ∙ stand.0, stand.1 ∙ sym config_stays, stand.2 ∙ sym life.given)
+
+      pub idle_stays : (n : RouterNodeState) → StandsForRouter o T k n → StandsForRouter o U k n
+      idle_stays n stand = record { me = stand.me; servers = stand.servers; used = keys_stay n.used stand.used; core = core_stays n.core stand.core }
+
+-- so does all that stands of a router whose part of the trace is as it was
+pub router_stays : (o : Opening) (T U : List Step) (k : ℕ) → SameRouter o T U k → (n : RouterNodeState) → StandsForRouter o T k n → StandsForRouter o U k n
+router_stays o T U k same = idle_stays o T U k
+    (record { up = same.is_up; under = same.key; since_loss = same.keys_since_loss; before_loss = same.keys_before_loss; given = same.database })
+    (record { sent = same.last_sent; values = same.start_values; times = same.round; latest = same.latest; counted = same.acked }) same.shown
 
 -- A node acts, and the network stands for the trace with its step: what each kind of event shares.
 
@@ -232,7 +251,7 @@ module _ (w : WorldState) (o : Opening) (T : List Step) (stand : Stands w o T) w
   router_stands place n there = subst (λ node. StandsForRouter o T node n) (sym (router_number place)) (stand.routers place n there)
 
   -- and of its store
-  pub router_shows : (place : ℕ) (n : RouterNodeState) → slice_get w.routers place ≡ Some n → Shows n.store (shown_store o T (length w.servers + place))
+  router_shows : (place : ℕ) (n : RouterNodeState) → slice_get w.routers place ≡ Some n → Shows n.store (shown_store o T (length w.servers + place))
   router_shows place n there = subst (λ node. Shows n.store (shown_store o T node)) (sym (router_number place)) (stand.steps.router_stores place n there)
 
 -- a server of the network after a step: it acted and stands, or it is as it was
@@ -289,39 +308,31 @@ module _ (old new : WorldState) (o : Opening) (T : List Step) (s : Step) (more :
   router_part k n (inl acted) = acted.2
   router_part k n (inr same) = router_stays o T (s ∷ T) (length o.config.servers + k) (leaves.router (length o.config.servers + k) (router_kind k n same.1) same.0) n (stand.routers k n same.1)
 
-  -- steps and stores stand
-  steps_go : StandsInSteps new o (s ∷ T)
-  steps_go = record {
-    sites = goes.sites ∙ stand.steps.sites;
-    addresses = goes.addresses ∙ stand.steps.addresses;
-    network = stand.steps.network;
-    legal = (legal, stand.steps.legal);
-    servers = goes.server_count ∙ stand.steps.servers;
-    routers = goes.router_count ∙ stand.steps.routers;
-    server_stores = λ k n there. server_shows k n (goes.servers k n there);
-    router_stores = λ k n there. router_shown k n (goes.routers k n there);
-  }
-
   -- each datagram carries its item
   carries : (k : ℕ) (d : DatagramValue) (i : Item) → Either old.bag (bag o T) more adds.items k d i → Carries d i
   carries k d i (inl before) = stand.bag.each k d i before.0 before.1
   carries k d i (inr end) = adds.each end.place d i end.one end.other
 
-  -- clock and bag stand
-  bag_goes : StandsInBag new o (s ∷ T)
-  bag_goes = record {
-    moment = goes.clock ∙ stand.bag.moment ∙ sym (leaves.time timeless);
-    bound = omega (arith, leaves.time timeless, stand.bag.bound);
-    count = ap (λ (ds : List DatagramValue). length ds) goes.bag ∙ length-append old.bag more ∙ omega (arith, stand.bag.count, adds.count) ∙ sym (length-append (bag o T) adds.items) ∙ ap (λ (is : List Item). length is) (sym adds.added);
-    each = λ k d i one other. carries k d i (get_both old.bag (bag o T) more adds.items stand.bag.count k d i
-        (ap (λ (ds : List DatagramValue). slice_get ds k) (sym goes.bag) ∙ one) (ap (λ (is : List Item). slice_get is k) (sym adds.added) ∙ other));
-  }
-
   -- so all stands
   goes_on : Stands new o (s ∷ T)
   goes_on = record {
-    steps = steps_go;
-    bag = bag_goes;
+    steps = record {
+      sites = goes.sites ∙ stand.steps.sites;
+      addresses = goes.addresses ∙ stand.steps.addresses;
+      network = stand.steps.network;
+      legal = (legal, stand.steps.legal);
+      servers = goes.server_count ∙ stand.steps.servers;
+      routers = goes.router_count ∙ stand.steps.routers;
+      server_stores = λ k n there. server_shows k n (goes.servers k n there);
+      router_stores = λ k n there. router_shown k n (goes.routers k n there);
+    };
+    bag = record {
+      moment = goes.clock ∙ stand.bag.moment ∙ sym (leaves.time timeless);
+      bound = omega (arith, leaves.time timeless, stand.bag.bound);
+      count = ap (λ (ds : List DatagramValue). length ds) goes.bag ∙ length-append old.bag more ∙ omega (arith, stand.bag.count, adds.count) ∙ sym (length-append (bag o T) adds.items) ∙ ap (λ (is : List Item). length is) (sym adds.added);
+      each = λ k d i one other. carries k d i (get_both old.bag (bag o T) more adds.items stand.bag.count k d i
+          (ap (λ (ds : List DatagramValue). slice_get ds k) (sym goes.bag) ∙ one) (ap (λ (is : List Item). slice_get is k) (sym adds.added) ∙ other));
+    };
     servers = λ k n there. server_part k n (goes.servers k n there);
     routers = λ k n there. router_part k n (goes.routers k n there);
   }
@@ -443,6 +454,19 @@ module _ (old new : WorldState) (node : ℕ) (more : List DatagramValue) (acts :
       is : HasServers o.config.servers (router_at o.config node)
       is = all_at (HasServers o.config.servers) o.config.routers stand.steps.network.servers (node - length o.config.servers) _ low
 
+  -- a router that is down says so, and stays as it was
+  pub down_step : (event : EventValue) (Row : Line → Type 0) (line : Line) → (acts.after ≡ acts.before) × (line ≡ lines.Down node) × (more ≡ []) → Row (lines.Down node)
+      → bag o (step_of event node (shown_store o T node) (lines.Down node) ∷ T) ≡ bag o T ++ [] → SameLife o T (step_of event node (shown_store o T node) (lines.Down node) ∷ T) node
+      → SameRounds o T (step_of event node (shown_store o T node) (lines.Down node) ∷ T) node → RouterStep o T event node (shown_store o T node) Row line more acts.after
+  down_step event Row line is row adds life rounds = moved o T event node (shown_store o T node) Row line (lines.Down node) more [] acts.after acts.before is.1 is.2 is.0 (record {
+    row = row;
+    count = omega arith;
+    obedient = refl;
+    adds = adds_none o T _ adds;
+    shows = acts_shows;
+    part = idle_stays o T _ node life rounds (shown_now o T event node (shown_store o T node) (lines.Down node)) acts.before acts_part;
+  })
+
   -- with such a step the network stands for the trace
   pub stands_by : (event : EventValue) (s : ShownStore) (line : Line) → is_timeless event ≡ true → RouterStep o T event node s (MayCome (turn_at o T node (fate_of event) s) event) line more acts.after → Stands new o (step_of event node s line ∷ T)
   stands_by event s line timeless step = router_acts old new node more acts o T (step_of event node s line) stand refl timeless (record { faults = λ other. step.count; obedient = step.obedient; row = step.row }) step.adds step.shows step.part
@@ -537,10 +561,6 @@ module _ (T : List Step) (event : EventValue) (node : ℕ) (s : ShownStore) (ser
     latest = old.latest;
   }
 
-  -- what was counted of the part, and of any other
-  acked_part : acked counted_steps node server part ≡ Some (key, nonce)
-  acked_part = ap (λ b. if b then Some (key, nonce) else acked T node server part) (all_same node server part)
-
   acked_other : (k q : ℕ) → (node == node && server == k && part == q) ≡ false → acked counted_steps node k q ≡ acked T node k q
   acked_other k q other = ap (λ b. if b then Some (key, nonce) else acked T node k q) other
 
@@ -555,7 +575,9 @@ module _ (T : List Step) (event : EventValue) (node : ℕ) (s : ShownStore) (ser
   }
     where
       at : (other : ℕ) (pair : Option (ℕ × ℕ)) → ((other ≡ part) × (Some (key, (round_of rs part).latest) ≡ pair)) ⊎ ((other ≢ part) × (slice_get rs.acked other ≡ Some pair)) → pair ≡ acked counted_steps node server other
-      at other pair (inl set) = sym set.1 ∙ ap (λ (n : ℕ). Some (key, n)) (sym is) ∙ sym acked_part ∙ ap (acked counted_steps node server) (sym set.0)
+      at other pair (inl set) = sym set.1 ∙ ap (λ (n : ℕ). Some (key, n)) (sym is) ∙ sym
+          (ap (λ b. if b then Some (key, nonce) else acked T node server part) (all_same node server part))
+          ∙ ap (acked counted_steps node server) (sym set.0)
       at other pair (inr same) = old.acked other pair same.1 ∙ sym (acked_other server other (third_other node server part other (λ part_is. same.0 (sym part_is))))
 
   -- and those with another one
@@ -569,9 +591,7 @@ module _ (T U : List Step) (node : ℕ) (servers : List ℕ) (rounds : List Roun
   pub rounds_set : (i k : ℕ) (rs : Rounds) → slice_get servers i ≡ Some k → slice_get (slice_set rounds place x) i ≡ Some rs → StandsForRounds U node k rs
   rounds_set i k rs listed is = at (get_set rounds place i x rs is)
     where
-      same_server : i ≡ place → server ≡ k
-      same_server same = let both : ◌≡◌ {A = Option ℕ} (Some server) (Some k) = sym there ∙ ap (slice_get servers) (sym same) ∙ listed in cc
-
       at : ((i ≡ place) × (x ≡ rs)) ⊎ ((i ≢ place) × (slice_get rounds i ≡ Some rs)) → StandsForRounds U node k rs
-      at (inl set) = subst (λ (y : Rounds). StandsForRounds U node k y) set.1 (subst (λ (n : ℕ). StandsForRounds U node n x) (same_server set.0) here)
+      at (inl set) = subst (λ (y : Rounds). StandsForRounds U node k y) set.1 (subst (λ (n : ℕ). StandsForRounds U node n x) (
+          (let both : ◌≡◌ {A = Option ℕ} (Some server) (Some k) = sym there ∙ ap (slice_get servers) (sym set.0) ∙ listed in cc)) here)
       at (inr same) = others k rs (other_element servers once place i server k there listed same.0) (old i k rs listed same.1)

@@ -17,7 +17,7 @@ use Rattle.lisp_records.specs.Row.{RowValue, IsAlive, is_alive}
 use Rattle.lisp_policy.specs.Site.{SiteValue}
 use Rattle.lisp_lookup.specs.declared.answer.Answer.{Answer}
 use Rattle.lisp_lookup.specs.declared.answer.Answer.TheVariants.{NoSite, NotRegistered, Reply, Forward}
-use Rattle.lisp_lookup.specs.Answer.{may_answer, IsBest, NoneAnswers, Answers}
+use Rattle.lisp_lookup.specs.Answer.{IsBest, NoneAnswers, Answers}
 use Rattle.lisp_lookup.specs.Table.{is_row_of, row_key, row_at, row_cmp, if_alive, OneEach, IsHeld}
 use Rattle.lisp_lookup.proofs.Orders.{key_total}
 use Rattle.lisp_lookup.proofs.TableLaws.{found_own, found_holds}
@@ -33,7 +33,6 @@ use Rattle.lisp_admission.specs.NoticeTimer.{gaps, due_after, has_come}
 use Rattle.lisp_server.specs.Notices.{StandingNoticeValue, notice_at, due_at, is_due_at, IsDueRouter}
 use Rattle.lisp_model.specs.Trace.{Step, Opening, router_at, clock}
 use Rattle.lisp_model.specs.Held.{accepted_rows, rows}
-use Rattle.lisp_model.specs.Answer.{IsAnswer}
 use Rattle.lisp_model.specs.Counted.{acked}
 use Rattle.lisp_model.specs.Numbers.{part_numbers}
 use Rattle.lisp_model.specs.Timers.{Notice, due, due_part, notice_to, is_due}
@@ -44,6 +43,16 @@ use Rattle.lisp_refinement.specs.Stands.{IsStanding, SameNotice, StandsForServer
 use Rattle.lisp_refinement.specs.Asked.{IsNextNotice, ServerTells, RouterTells}
 use Rattle.lisp_refinement.proofs.Gets.{none_is_some, same_some, get_within}
 use Rattle.lisp_refinement.proofs.Places.{list_by_parts, first_by_parts, first_alike}
+
+-- what holds of each two in a list holds in its tail, and of its head and each in the tail
+module _ {X : Type 0} (P : X → X → Type 0) (x : X) (xs : List X) (all : AllPairs P (x ∷ xs)) where
+  -- in the tail
+  pub pairs_tail : AllPairs P xs
+  pairs_tail i j d before lt = all (suc i) (suc j) d (omega (arith, before)) (omega (arith, lt))
+
+  -- of the head and each in the tail
+  pub pairs_head : (z : X) → Contains xs z → P x z
+  pairs_head z (k, lt, is) = subst (P x) is (all 0 (suc k) z (omega arith) (omega (arith, lt)))
 
 -- lists that rise strictly by a comparison
 module _ {X : Type 0} (cmp : X → X → Ordering) (total : IsTotalOrder cmp) where
@@ -59,30 +68,20 @@ module _ {X : Type 0} (cmp : X → X → Ordering) (total : IsTotalOrder cmp) wh
   not_both : (a b : X) → cmp a b ≡ Less → cmp b a ≡ Less → ⊥
   not_both a b less more = (let clash : Less ≡ Greater = sym less ∙ total.antisymm a b ∙ ap ordering_reverse more in absurd cc)
 
-  -- the head is below each element of the tail
-  head_below : (x : X) (xs : List X) → Rises (x ∷ xs) → (z : X) → Contains xs z → cmp x z ≡ Less
-  head_below x xs rises z (j, lt, is) = subst (λ (y : X). cmp x y ≡ Less) is (rises 0 (suc j) z (omega arith) (omega (arith, lt)))
-
-  -- the tail rises too
-  tail_rises : (x : X) (xs : List X) → Rises (x ∷ xs) → Rises xs
-  tail_rises x xs rises i j d before lt = rises (suc i) (suc j) d (omega (arith, before)) (omega (arith, lt))
-
   -- where two heads are one, each element of one tail is one of the other
   tail_within : (x : X) (xs ys : List X) → Rises (x ∷ xs) → Within (x ∷ xs) (x ∷ ys) → Within xs ys
   tail_within x xs ys rises there z has = by (head_or_tail x ys z (there z (in_tail x xs z has)))
     where
-      below : cmp x z ≡ Less
-      below = head_below x xs rises z has
-
       by : (z ≡ x) ⊎ Contains ys z → Contains ys z
-      by (inl same) = (let itself = subst (λ (y : X). cmp x y ≡ Less) same below in absurd (not_both x x itself itself))
+      by (inl same) = (let itself = subst (λ (y : X). cmp x y ≡ Less) same
+          (pairs_head (λ a b. cmp a b ≡ Less) x xs rises z has) in absurd (not_both x x itself itself))
       by (inr more) = more
 
   -- the heads of two such lists with the same elements are one
   same_heads : (x y : X) (xs ys : List X) → Rises (x ∷ xs) → Rises (y ∷ ys) → (y ≡ x) ⊎ Contains xs y → (x ≡ y) ⊎ Contains ys x → x ≡ y
   same_heads x y xs ys rises others (inl is) there = sym is
   same_heads x y xs ys rises others (inr here) (inl is) = is
-  same_heads x y xs ys rises others (inr here) (inr there) = absurd (not_both x y (head_below x xs rises y here) (head_below y ys others x there))
+  same_heads x y xs ys rises others (inr here) (inr there) = absurd (not_both x y (pairs_head (λ a b. cmp a b ≡ Less) x xs rises y here) (pairs_head (λ a b. cmp a b ≡ Less) y ys others x there))
 
   -- two such lists with the same elements are one
   pub one_rising_list : (xs ys : List X) → Rises xs → Rises ys → Within xs ys → Within ys xs → xs ≡ ys
@@ -93,15 +92,8 @@ module _ {X : Type 0} (cmp : X → X → Ordering) (total : IsTotalOrder cmp) wh
       let heads : x ≡ y = same_heads x y xs ys rises others (head_or_tail x xs y (back y (at_head y ys))) (head_or_tail y ys x (there x (at_head x xs))) in
       let forth : Within xs ys = tail_within x xs ys rises (subst (λ (h : X). Within (x ∷ xs) (h ∷ ys)) (sym heads) there) in
       let again : Within ys xs = tail_within y ys xs others (subst (λ (h : X). Within (y ∷ ys) (h ∷ xs)) heads back) in
-      let tails : xs ≡ ys = one_rising_list xs ys (tail_rises x xs rises) (tail_rises y ys others) forth again in
+      let tails : xs ≡ ys = one_rising_list xs ys (pairs_tail (λ a b. cmp a b ≡ Less) x xs rises) (pairs_tail (λ a b. cmp a b ≡ Less) y ys others) forth again in
       λ i. heads i ∷ tails i
-
--- there is one list of the rows that are held
-pub one_held : (table xs ys : List RowValue) (now : ℕ) → IsHeld table now xs → IsHeld table now ys → xs ≡ ys
-one_held table xs ys now one other =
-    one_rising_list row_cmp (on_total row_key key_total) xs ys one.rising other.rising
-    (λ h has. (other.each h).1 ((one.each h).0 has))
-    (λ h has. (one.each h).1 ((other.each h).0 has))
 
 -- a row that was found stays where it is alive
 pub kept_alive : (now : ℕ) (o : Option RowValue) (h : RowValue) → (o ≡ Some h) × IsAlive h now → option_and_then (if_alive now) o ≡ Some h
@@ -109,7 +101,7 @@ kept_alive now o h (is, alive) =
     ap (option_and_then (if_alive now)) is ∙ ap (λ (b : Bool). cond b (Some h) None) ((Decides-ltb (now - h.accepted) h.life).1 alive)
 
 -- what stays was found, and is alive
-was_alive : (now : ℕ) (o : Option RowValue) (h : RowValue) → option_and_then (if_alive now) o ≡ Some h → (o ≡ Some h) × IsAlive h now
+pub was_alive : (now : ℕ) (o : Option RowValue) (h : RowValue) → option_and_then (if_alive now) o ≡ Some h → (o ≡ Some h) × IsAlive h now
 was_alive now o h is = option_and_then_some (if_alive now) o h is (λ g at passes. by g at (is_alive g now) refl passes)
   where
     by : (g : RowValue) → o ≡ Some g → (b : Bool) → is_alive g now ≡ b → cond b (Some g) None ≡ Some h → (o ≡ Some h) × IsAlive h now
@@ -126,7 +118,7 @@ module _ (one other : List RowValue) (now : ℕ)
   both_find h = alike h.router h.mapping.eid
 
   -- a list of what is held by one is a list of what is held by the other
-  pub held_alike : (xs : List RowValue) → IsHeld one now xs → IsHeld other now xs
+  held_alike : (xs : List RowValue) → IsHeld one now xs → IsHeld other now xs
   held_alike xs is = record {
     rising = is.rising;
     each = λ h. (
@@ -139,12 +131,6 @@ module _ (one other : List RowValue) (now : ℕ)
 
 -- rows of a table, and the list of those that are held
 module _ (table listed : List RowValue) (now : ℕ) (one : OneEach table) (is : IsHeld table now listed) (addr : Addr) where
-  -- a row that may answer is listed
-  in_list : (h : RowValue) → Contains table h → may_answer addr now h ≡ true → Contains listed h
-  in_list h has may =
-      let alive = (and_parts (is_alive h now) (holds h.mapping.eid addr) may).0 in
-      (is.each h).1 (found_own table h one has, (Decides-ltb (now - h.accepted) h.life).0 alive)
-
   -- and what is listed is a row
   in_table : (h : RowValue) → Contains listed h → Contains table h
   unfolding row_at
@@ -153,7 +139,9 @@ module _ (table listed : List RowValue) (now : ℕ) (one : OneEach table) (is : 
   -- the best row is the best of the list
   best_listed : (h : RowValue) → IsBest table addr now h → IsBest listed addr now h
   best_listed h best = record {
-    held = in_list h best.held best.may;
+    held = (
+        let alive = (and_parts (is_alive h now) (holds h.mapping.eid addr) best.may).0 in
+        (is.each h).1 (found_own table h one best.held, (Decides-ltb (now - h.accepted) h.life).0 alive));
     may = best.may;
     most = λ other has may. best.most other (in_table other has) may;
   }
@@ -163,7 +151,7 @@ module _ (table listed : List RowValue) (now : ℕ) (one : OneEach table) (is : 
   none_listed none h has = none h (in_table h has)
 
   -- who answers by the rows answers by the list
-  pub answers_listed : {A : Type 0} (sites : List SiteValue) (answer : Answer A) → Answers table sites addr now answer → Answers listed sites addr now answer
+  answers_listed : {A : Type 0} (sites : List SiteValue) (answer : Answer A) → Answers table sites addr now answer → Answers listed sites addr now answer
   answers_listed sites (Reply record_of) answers = (answers.0, best_listed answers.0 answers.1, answers.2, answers.3)
   answers_listed sites (Forward to) answers = (answers.0, best_listed answers.0 answers.1, answers.2, answers.3)
   answers_listed sites NotRegistered answers = (none_listed answers.0, answers.1)
@@ -190,12 +178,6 @@ module _ (o : Opening) (T : List Step) (k : ℕ) (n : ServerNodeState) (part : S
   unfolding row_at
   lists_held = held_alike (accepted_rows (since_start o T k)) n.core.rows (clock T) (λ router eid. sym (part.rows router eid)) all_held (rows_are_held (since_start o T k) (clock T))
 
-  -- who answers by its rows answers by what it holds
-  answers_held : {A : Type 0} (addr : Addr) (answer : Answer A) → OneEach n.core.rows → Answers n.core.rows n.core.sites addr (clock T) answer → IsAnswer o T k addr answer
-  answers_held addr answer one answers =
-      subst (λ (sites : List SiteValue). Answers all_held sites addr (clock T) answer) part.sites
-      (answers_listed n.core.rows all_held (clock T) one lists_held addr n.core.sites answer answers)
-
   -- a notice that it keeps is due when the trace's is
   due_together : (m : Notice) (kept : StandingNoticeValue) → IsStanding o T k m kept → due_at kept ≡ due_after m.moments
   unfolding due_after
@@ -219,8 +201,13 @@ module _ (o : Opening) (T : List Step) (k : ℕ) (n : ServerNodeState) (part : S
   -- what it tells at the moment of the trace
   server_tells : (A : Type 0) → ServerTells A o T k n.core (clock T)
   server_tells A = record {
-    held = λ listed is. one_held n.core.rows listed all_held (clock T) is lists_held;
-    answer = answers_held;
+    held = λ listed is. (
+        one_rising_list row_cmp (on_total row_key key_total) listed all_held is.rising lists_held.rising
+        (λ h has. (lists_held.each h).1 ((is.each h).0 has))
+        (λ h has. (is.each h).1 ((lists_held.each h).0 has)));
+    answer = λ addr answer one answers. (
+        subst (λ (sites : List SiteValue). Answers all_held sites addr (clock T) answer) part.sites
+        (answers_listed n.core.rows all_held (clock T) one lists_held addr n.core.sites answer answers));
     last_nonce = part.nonces;
     last_notice = part.notice_nonce;
     due_notices = λ router one is. next_notice router is;
@@ -238,32 +225,24 @@ module _ (o : Opening) (T : List Step) (router : ℕ) (etr : EtrState) (part : S
   abbrev servers : List ℕ
   servers = (router_at o.config router).servers
 
-  -- the rounds with each
-  its_rounds : (place server : ℕ) → slice_get servers place ≡ Some server → (rs : Rounds) × (slice_get etr.rounds place ≡ Some rs)
-  its_rounds place server listed =
-      let low = slice_get_within servers place server listed in
-      let count = part.count in
-      get_within etr.rounds place (omega (arith, low, count))
-
   -- a round is due when the trace's is
   round_due : (server : ℕ) (rs : Rounds) → StandsForRounds T router server rs → (number : ℕ) (r : Round) → slice_get rs.parts number ≡ Some r → nat_le r.due (clock T) ≡ nat_le (due T router server number) (clock T)
   round_due server rs stand number r at = ap (λ (moment : ℕ). nat_le moment (clock T)) (stand.round number r at).keeps.due
-
-  -- so the first part that is due is the trace's
-  part_due : (place : ℕ) (rs : Rounds) (server : ℕ) → slice_get etr.rounds place ≡ Some rs → slice_get servers place ≡ Some server → router_part (clock T) (part_count etr.database) rs ≡ due_part o T router server
-  part_due place rs server at listed =
-      let stand = part.rounds place server rs listed at in
-      first_by_parts (λ (r : Round). nat_le r.due (clock T)) (λ number. nat_le (due T router server number) (clock T)) (part_count etr.database) rs.parts stand.parts (round_due server rs stand)
-      ∙ ap (λ (db : List MapRecordValue). position (λ number. nat_le (due T router server number) (clock T)) (take (part_count db) part_numbers)) part.database
 
   -- what it tells at the moment of the trace
   router_tells : RouterTells o T router etr (clock T)
   router_tells = record {
     acked = λ place server listed. (
-        let its = its_rounds place server listed in
+        let its = (
+            let low = slice_get_within servers place server listed in
+            let count = part.count in
+            get_within etr.rounds place (omega (arith, low, count))) in
         let stand = part.rounds place server its.0 listed its.1 in
         ap (λ (all : Option Rounds). unwrap_or (option_map (λ (rs : Rounds). rs.acked) all) []) its.1 ∙ list_by_parts (acked T router server) its.0.acked stand.acked_parts stand.acked);
-    due = first_alike (router_part (clock T) (part_count etr.database)) (due_part o T router) etr.rounds servers part.count part_due;
+    due = first_alike (router_part (clock T) (part_count etr.database)) (due_part o T router) etr.rounds servers part.count (λ place rs server at listed. 
+        let stand = part.rounds place server rs listed at in
+        first_by_parts (λ (r : Round). nat_le r.due (clock T)) (λ number. nat_le (due T router server number) (clock T)) (part_count etr.database) rs.parts stand.parts (round_due server rs stand)
+        ∙ ap (λ (db : List MapRecordValue). position (λ number. nat_le (due T router server number) (clock T)) (take (part_count db) part_numbers)) part.database);
     database = part.database;
   }
 

@@ -65,7 +65,7 @@ tail_head kinds.Notify bytes records tail m e = notify_tail false bytes records 
 tail_head kinds.NotifyAck bytes records tail m e = notify_tail true bytes records tail m e
 
 -- what is read in bytes has the head that stands there
-pub head_read : (bytes : List ℕ) (m : MessageValue) → message_at bytes ≡ Ok m → head_at bytes ≡ Some (head_of m)
+head_read : (bytes : List ℕ) (m : MessageValue) → message_at bytes ≡ Ok m → head_at bytes ≡ Some (head_of m)
 unfolding message_at
 head_read bytes m read =
     let k = bind_ok (kind_at bytes) (λ kind. records_at 0 (slice_index bytes 3) (drop 32 bytes) >>= λ rs. tail_at kind bytes rs.0 rs.1) m read in

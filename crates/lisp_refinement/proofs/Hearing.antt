@@ -12,11 +12,10 @@ use Rattle.lisp_messages.specs.Authentic.{is_authentic, signed}
 use Rattle.lisp_messages.specs.Message.{MessageValue, MapNotifyValue, Registers, Notifies, IsMapNotify}
 use Rattle.lisp_etr.specs.declared.notify_fault.NotifyFault.{NotifyFault}
 use Rattle.lisp_etr.specs.declared.notify_fault.NotifyFault.TheVariants.{NotMine, WrongKey, BadAuth}
-use Rattle.lisp_etr.specs.Config.{EtrConfigValue, sent_pair}
+use Rattle.lisp_etr.specs.Config.{EtrConfigValue}
 use Rattle.lisp_etr.specs.Hearing.{ServerNotify, check, checked_notify, Gives, AnswerFits, HearsNotice, TakesMemory, ack_of, server_at, notify_from as heard_of, first_notice, notice_in, counted_as, counted_in, seen_in, seen_at, etr_after as left_after}
 use Rattle.lisp_records.specs.declared.address.Addr.{Addr}
 use Rattle.lisp_records.specs.Address.{addr_eq}
-use Rattle.lisp_records.specs.Record.{MapRecordValue}
 use Rattle.lisp_messages.specs.Reading.{HasHead, HasRecords, message_at}
 use Rattle.lisp_messages.specs.Written.{written, written_notify}
 use Rattle.lisp_nonces.specs.declared.fate.Fate.{Fate}
@@ -31,21 +30,20 @@ use Rattle.lisp_etr.specs.declared.seen.Seen.TheVariants.{Counted}
 use Rattle.lisp_model.specs.declared.event.Event.TheVariants as events
 use Rattle.lisp_model.specs.declared.line.Line.{Line}
 use Rattle.lisp_model.specs.declared.line.Line.TheVariants as lines
-use Rattle.lisp_model.specs.Trace.{EventValue, ShownStore, Step, Opening, fate_of, address_at, is_router, router_at, etr_config_under, etr_config, key, key_after, database, shown_store, is_up, up_after, database_after, node_at}
-use Rattle.lisp_model.specs.Keys.{keys_since_loss, keys_since_loss_after, keys_before_loss, keys_before_loss_after}
+use Rattle.lisp_model.specs.Trace.{EventValue, ShownStore, Step, Opening, fate_of, address_at, is_router, router_at, etr_config, key, shown_store, node_at}
 use Rattle.lisp_model.specs.Bag.{Arrival, bytes_of, as_notify, ack_item, arrival_in, items_added, past, bag, Item, arrival_of, junk_arrival}
 use Rattle.lisp_model.specs.Counted.{server_from, notify_at, latest_nonces}
 use Rattle.lisp_model.specs.Hearing.{refused_with, counted_line, counted_or_stale, line_of, IsToAnswer, Hears}
 use Rattle.lisp_model.specs.Legal.{Arrives, IsDelivered, MayCome}
-use Rattle.lisp_model.specs.Sending.{last_sent, start_values}
-use Rattle.lisp_model.specs.Context.{Context, IsBase}
+use Rattle.lisp_model.specs.Sending.{pair_at}
+use Rattle.lisp_model.specs.Context.{Context}
 use Rattle.lisp_nonces.specs.declared.fate.Fate.TheVariants.{Done}
-use Rattle.lisp_refinement.specs.World.{DatagramValue, UsedKeysState, RouterNodeState, RouterCoreState, Up, Down, WorldState}
-use Rattle.lisp_refinement.specs.Calls.{CoreHears as HearsAs, UsesStore}
-use Rattle.lisp_refinement.specs.Events.{address_of, server_number, router_line, acknowledges, UpRouterHears, RouterHears, ArrivesAtRouter, node_with}
-use Rattle.lisp_refinement.specs.Stands.{Shows, Carries, StandsForRounds, StandsForEtr, StandsForCore, Marks, StandsForKeys, StandsForRouter, Stands, StandsAfter}
-use Rattle.lisp_refinement.proofs.Acting.{adds_none, adds_one, Shown-in, uses_shown, address_is, step_of, turn_at, shown_now, RouterStep, moved, acts_router, acts_part, acts_shows, acts_once, counted_here, counted_there, rounds_set, stands_by}
-use Rattle.lisp_refinement.proofs.Places.{latest_known, rounds_stay, found_part, Placed, first_place, position_map}
+use Rattle.lisp_refinement.specs.World.{DatagramValue, RouterNodeState, RouterCoreState, Up, Down, WorldState}
+use Rattle.lisp_refinement.specs.Calls.{CoreHears as HearsAs}
+use Rattle.lisp_refinement.specs.Events.{address_of, server_number, router_line, acknowledges, RouterHears, ArrivesAtRouter, node_with}
+use Rattle.lisp_refinement.specs.Stands.{Shows, Carries, StandsForRounds, StandsForEtr, StandsForCore, StandsForRouter, Stands, StandsAfter}
+use Rattle.lisp_refinement.proofs.Acting.{adds_none, adds_one, Shown-in, uses_shown, address_is, step_of, turn_at, shown_now, RouterStep, moved, acts_router, acts_part, acts_shows, acts_once, counted_here, counted_there, rounds_set, stands_by, SameLife, SameRounds, up_stays, etr_goes, keys_stay, down_step}
+use Rattle.lisp_refinement.proofs.Places.{latest_known, found_part, Placed, first_place, position_map}
 use Rattle.lisp_refinement.proofs.Gets.{get_within}
 use Rattle.lisp_refinement.proofs.Heads.{reads_signed}
 
@@ -108,56 +106,16 @@ IsArrival (events.Deliver k fate) = Unit {0}
 IsArrival (events.Junk to from bytes) = Unit {0}
 IsArrival _ = ⊥
 
--- no router goes up or down by that
-same_up : (event : EventValue) → IsArrival event → (line : Line) (r : ℕ) (old : Bool) → up_after event line r old ≡ old
-same_up (events.Deliver k fate) is line r old = refl
-same_up (events.Junk to from bytes) is line r old = refl
-same_up _ is line r old = absurd is
-
--- and none has another database
-same_database : (event : EventValue) → IsArrival event → (line : Line) (r : ℕ) (old : List MapRecordValue) → database_after event line r old ≡ old
-same_database (events.Deliver k fate) is line r old = refl
-same_database (events.Junk to from bytes) is line r old = refl
-same_database _ is line r old = absurd is
-
--- nor another key
-same_key : (event : EventValue) → IsArrival event → (line : Line) (r old : ℕ) → key_after event line r old ≡ old
-same_key (events.Deliver k fate) is line r old = refl
-same_key (events.Junk to from bytes) is line r old = refl
-same_key _ is line r old = absurd is
-
--- and no key was used
-same_since_loss : (event : EventValue) → IsArrival event → (line : Line) (r : ℕ) (old : List ℕ) → keys_since_loss_after event line r old ≡ old
-same_since_loss (events.Deliver k fate) is line r old = refl
-same_since_loss (events.Junk to from bytes) is line r old = refl
-same_since_loss _ is line r old = absurd is
-
--- nor was its store lost
-same_before_loss : (event : EventValue) → IsArrival event → (r : ℕ) (since old : List ℕ) → keys_before_loss_after event r since old ≡ old
-same_before_loss (events.Deliver k fate) is r since old = refl
-same_before_loss (events.Junk to from bytes) is r since old = refl
-same_before_loss _ is r since old = absurd is
-
--- what is kept of a router's configuration and its keys
-module _ (o : Opening) (T : List Step) (event : EventValue) (arrival : IsArrival event) (node : ℕ) (s : ShownStore) (line : Line) where
-  config_heard : etr_config o (step_of event node s line ∷ T) node ≡ etr_config o T node
-  config_heard = ap (etr_config_under o.config (router_at o.config node)) (same_key event arrival line node (key o T node))
-
-  keys_heard : (used : UsedKeysState) → StandsForKeys o T node used → StandsForKeys o (step_of event node s line ∷ T) node used
-  keys_heard used stood = record {
-    since_loss = subst (Marks used.since_loss) (sym (same_since_loss event arrival line node (keys_since_loss o T node))) stood.since_loss;
-    before_loss = subst (Marks used.before_loss) (sym (same_before_loss event arrival node (keys_since_loss o T node) (keys_before_loss o T node))) stood.before_loss;
-  }
+-- that leaves a router its configuration and its keys
+heard_life : (o : Opening) (T : List Step) (event : EventValue) → IsArrival event → (node : ℕ) (s : ShownStore) (line : Line) → SameLife o T (step_of event node s line ∷ T) node
+heard_life o T (events.Deliver k fate) is node s line = record { up = refl; under = refl; since_loss = refl; before_loss = refl; given = refl }
+heard_life o T (events.Junk to from bytes) is node s line = record { up = refl; under = refl; since_loss = refl; before_loss = refl; given = refl }
+heard_life o T _ is node s line = absurd is
 
 -- an answer is what is expected, or out of memory
 given : {X : Type 0} (answer expected : Result X NotifyFault) → Gives (λ x. x) answer expected → (answer ≡ expected) ⊎ (answer ≡ Err faults.OutOfMemory)
-given (Ok x) expected is = inl (sym is)
 given (Err faults.OutOfMemory) expected is = inr refl
-given (Err (faults.Read fault)) expected is = inl (sym is)
-given (Err faults.NotMine) expected is = inl (sym is)
-given (Err faults.WrongKey) expected is = inl (sym is)
-given (Err faults.BadAuth) expected is = inl (sym is)
-given (Err (faults.Stale last)) expected is = inl (sym is)
+given _ expected is = inl (sym is)
 
 -- what is seen in a Map-Notify that passed
 module _ {A : Type 0} (e : EtrState) (h : ServerNotify) where
@@ -213,23 +171,16 @@ module _ (A : Type 0) (old : WorldState) (o : Opening) (T : List Step) (stand : 
   hears_row : (line : Line) → (line ≡ line_of turn (notify_at o T node a)) ⊎ (HasHead a.bytes × (HasRecords a.bytes ⊎ IsToAnswer turn a) × (line ≡ refused_with turn faults.OutOfMemory)) → Hears turn a line
   hears_row line comes = record { acts = record { kind = kind; acts = refl; state = own.up }; same = refl; comes = comes }
 
-  -- the router goes on, with other rounds at most
-  goes_on : (line : Line) (all : List Rounds) → last_sent (step line ∷ T) node ≡ last_sent T node → start_values o (step line ∷ T) node ≡ start_values o T node → length all ≡ length e.rounds
-      → ((i k : ℕ) (rs : Rounds) → slice_get servers i ≡ Some k → slice_get all i ≡ Some rs → StandsForRounds (step line ∷ T) node k rs) → StandsForEtr o (step line ∷ T) node (record e { rounds = all })
-  goes_on line all last start count each = record {
-    up = same_up event arrival line node (is_up T node) ∙ own.up;
-    config = own.config ∙ sym (config_heard o T event arrival node (shown_store o T node) line);
-    database = own.database ∙ sym (same_database event arrival line node (database o T node));
-    last = (own.last.0, subst (λ (p : Option ℕ × List (Option ℕ)). IsBase p.0 p.1 own.last.0) {x = (last_sent T node, start_values o T node)} {y = (last_sent (step line ∷ T) node, start_values o (step line ∷ T) node)} (λ i. (sym last i, sym start i)) own.last.1, own.last.2);
-    safe = subst (λ (p : ShownStore × EtrConfigValue). NoneBelow e.safe (kept_at p.0.kept (sent_pair p.1)))
-        (λ i. (sym (shown_now o T event node (shown_store o T node) line) i, sym (config_heard o T event arrival node (shown_store o T node) line) i)) own.safe;
-    count = count ∙ own.count;
-    rounds = each;
-  }
+  -- the router goes on: its configuration, and what is safe
+  life : (line : Line) → SameLife o T (step line ∷ T) node
+  life line = heard_life o T event arrival node (shown_store o T node) line
 
-  -- the node around it
-  router_part : (line : Line) (etr : EtrState) → StandsForEtr o (step line ∷ T) node etr → StandsForRouter o (step line ∷ T) node (record before { core = Up etr; store = store })
-  router_part line etr core = record { me = part.me; servers = part.servers; used = keys_heard o T event arrival node (shown_store o T node) line before.used part.used; core = core }
+  safe : (line : Line) → NoneBelow e.safe (kept_at (shown_store o (step line ∷ T) node).kept (pair_at o T node))
+  safe line = subst (λ (x : ShownStore). NoneBelow e.safe (kept_at x.kept (pair_at o T node))) (sym (shown_now o T event node (shown_store o T node) line)) own.safe
+
+  -- with the rounds that it had
+  still : (line : Line) → SameRounds o T (step line ∷ T) node → StandsForRouter o (step line ∷ T) node (record before { core = Up e; store = store })
+  still line rounds = up_stays o T (step line ∷ T) node (life line) rounds before before.used store e e refl refl part own (safe line)
 
   -- it is refused
   refuses : (fault : NotifyFault) → (refused_with turn fault ≡ line_of turn (notify_at o T node a)) ⊎ (HasHead a.bytes × (HasRecords a.bytes ⊎ IsToAnswer turn a) × (refused_with turn fault ≡ refused_with turn faults.OutOfMemory)) → ComesBy (Err fault)
@@ -239,7 +190,7 @@ module _ (A : Type 0) (old : WorldState) (o : Opening) (T : List Step) (stand : 
     obedient = refl;
     adds = adds_none o T (step (refused_with turn fault)) refl;
     shows = shows;
-    part = router_part (refused_with turn fault) e (goes_on (refused_with turn fault) e.rounds refl refl refl (λ i k rs listed is. rounds_stay T node k rs (own.rounds i k rs listed is) (step (refused_with turn fault) ∷ T) (λ p. refl) (λ p r was. record { keeps = was.keeps; latest = was.latest })));
+    part = still (refused_with turn fault) (record { sent = refl; values = refl; times = λ k p. refl; latest = λ k p. refl; counted = λ k p. refl });
   }
 
   -- a Map-Notify passed all checks
@@ -259,11 +210,9 @@ module _ (A : Type 0) (old : WorldState) (o : Opening) (T : List Step) (stand : 
     abbrev rounds : Rounds
     rounds = rounds_at e.rounds h.server
 
-    rounds_there : slice_get e.rounds h.server ≡ Some rounds
-    rounds_there = slice_get-get_or e.rounds h.server (record { parts = []; acked = [] }) (let low = slice_get_within servers h.server g.server there in let count = own.count in omega (arith, low, count))
-
     rounds_stand : StandsForRounds T node g.server rounds
-    rounds_stand = own.rounds h.server g.server rounds there rounds_there
+    rounds_stand = own.rounds h.server g.server rounds there
+        (slice_get-get_or e.rounds h.server (record { parts = []; acked = [] }) (let low = slice_get_within servers h.server g.server there in let count = own.count in omega (arith, low, count)))
 
     -- the line of a notice
     abbrev noticed : Line
@@ -273,19 +222,6 @@ module _ (A : Type 0) (old : WorldState) (o : Opening) (T : List Step) (stand : 
     abbrev answered : DatagramValue
     answered = record { from = address_of old node; to = from; bytes = signed e.config.secret (written_notify (ack_of h.message)) }
 
-    -- the key is the router's
-    key_is : e.config.key_id ≡ g.message.key_id
-    key_is = ap (λ (c : EtrConfigValue). c.key_id) own.config ∙ sym same.under
-
-    -- the line is the trace's
-    noticed_is : nat_le first_notice h.message.nonce ≡ true → noticed ≡ line_of turn (notify_at o T node a)
-    noticed_is high = (λ i. lines.Noticed node (number_is i) (nonce_is i) (stand.bag.count i))
-        ∙ sym (ap (line_of turn) hears ∙ ap (λ b. if b then lines.Noticed node g.server g.message.nonce (length (bag o T)) else counted_or_stale turn g (latest_nonces T node g.server)) (ap (nat_le first_notice) (sym nonce_is) ∙ high))
-
-    -- the bag has the item of the answer
-    notice_added : bag o (step noticed ∷ T) ≡ bag o T ++ ack_item o T node a g.message ∷ []
-    notice_added = ap (λ (x : Option Arrival). bag o T ++ items_added o T (past o T) x noticed) arrives ∙ ap (λ (x : Option MapNotifyValue). bag o T ++ option_to_list (option_map (ack_item o T node a) x)) (ap as_notify same.says)
-
     -- which the answer carries
     notice_carries : IsMapNotify (record { ack = true; nonce = h.message.nonce; key_id = e.config.key_id; records = h.message.records }) → Carries answered (ack_item o T node a g.message)
     unfolding bytes_of
@@ -293,32 +229,20 @@ module _ (A : Type 0) (old : WorldState) (o : Opening) (T : List Step) (stand : 
       from = address_is old o T stand node;
       to = sym from_is;
       bytes = λ i. signed (own.config i).secret (written (Notifies (ack_of (same.message i))));
-      message = subst IsMapNotify {x = record { ack = true; nonce = h.message.nonce; key_id = e.config.key_id; records = h.message.records }} {y = ack_of g.message} (λ i. record { ack = true; nonce = (same.message i).nonce; key_id = key_is i; records = (same.message i).records }) fits;
-    }
-
-    -- a notice and its answer
-    notices : nat_le first_notice h.message.nonce ≡ true → IsMapNotify (record { ack = true; nonce = h.message.nonce; key_id = e.config.key_id; records = h.message.records }) → ComesBy (Ok (notice_in e.config h))
-    notices high fits = record {
-      row = hears_row noticed (inl (noticed_is high));
-      count = omega arith;
-      obedient = refl;
-      adds = adds_one o T (step noticed) answered (ack_item o T node a g.message) notice_added (notice_carries fits);
-      shows = shows;
-      part = router_part noticed e (goes_on noticed e.rounds refl refl refl (λ i k rs listed is. rounds_stay T node k rs (own.rounds i k rs listed is) (step noticed ∷ T) (λ p. refl) (λ p r was. record { keeps = was.keeps; latest = was.latest })));
+      message = subst IsMapNotify {x = record { ack = true; nonce = h.message.nonce; key_id = e.config.key_id; records = h.message.records }} {y = ack_of g.message} (λ i. record { ack = true; nonce = (same.message i).nonce; key_id =
+          (ap (λ (c : EtrConfigValue). c.key_id) own.config ∙ sym same.under) i; records = (same.message i).records }) fits;
     }
 
     -- an acknowledgement
     module _ (low : nat_le first_notice h.message.nonce ≡ false) where
-      -- the trace's line, by the last nonces to that server
-      counted_by : line_of turn (notify_at o T node a) ≡ counted_or_stale turn g (latest_nonces T node g.server)
-      counted_by = ap (line_of turn) hears ∙ ap (λ b. if b then lines.Noticed node g.server g.message.nonce (length (bag o T)) else counted_or_stale turn g (latest_nonces T node g.server)) (ap (nat_le first_notice) (sym nonce_is) ∙ low)
-
       -- the router's last nonces to it are the trace's, and so is the part with the nonce
       latest_is : latest_of rounds ≡ latest_nonces T node g.server
       latest_is = latest_known T node g.server rounds rounds_stand
 
       line_is : (found : Option ℕ) → part_with h.message.nonce (latest_of rounds) ≡ found → line_of turn (notify_at o T node a) ≡ counted_line turn g (latest_nonces T node g.server) found
-      line_is found is = counted_by ∙ ap (counted_line turn g (latest_nonces T node g.server)) ((λ i. part_with (sym nonce_is i) (sym latest_is i)) ∙ is)
+      line_is found is =
+          (ap (line_of turn) hears ∙ ap (λ b. if b then lines.Noticed node g.server g.message.nonce (length (bag o T)) else counted_or_stale turn g (latest_nonces T node g.server)) (ap (nat_le first_notice) (sym nonce_is) ∙ low))
+          ∙ ap (counted_line turn g (latest_nonces T node g.server)) ((λ i. part_with (sym nonce_is i) (sym latest_is i)) ∙ is)
 
       -- it is that of a part
       module _ (place : ℕ) (last : part_with h.message.nonce (latest_of rounds) ≡ Some place) where
@@ -329,32 +253,29 @@ module _ (A : Type 0) (old : WorldState) (o : Opening) (T : List Step) (stand : 
         abbrev counted_rounds : Rounds
         counted_rounds = rounds_after_count e.config.key_id place rounds
 
-        abbrev new_rounds : List Rounds
-        new_rounds = slice_set e.rounds h.server counted_rounds
-
-        -- the line is the trace's
-        said_is : said ≡ line_of turn (notify_at o T node a)
-        said_is = (λ i. lines.Counted node g.server place (own.config i).key_id (nonce_is i)) ∙ sym (line_is (Some place) last)
-
         -- the nonce is the last one of that part
         last_of : (slice_get rounds.parts place ≡ Some (round_of rounds place)) × (h.message.nonce ≡ (round_of rounds place).latest)
         last_of = found_part rounds h.message.nonce place last
 
-        -- the rounds stand
-        counts_rounds : (i k : ℕ) (rs : Rounds) → slice_get servers i ≡ Some k → slice_get new_rounds i ≡ Some rs → StandsForRounds (step said ∷ T) node k rs
-        counts_rounds = rounds_set T (step said ∷ T) node servers e.rounds h.server g.server counted_rounds once there
-            (counted_here T event node (shown_store o T node) g.server place e.config.key_id h.message.nonce rounds last_of.1 last_of.0 rounds_stand)
-            (counted_there T event node (shown_store o T node) g.server place e.config.key_id h.message.nonce) own.rounds
-
         -- it counts
         counts : ComesBy (Ok (Counted h.server place h.message.nonce))
         counts = moved o T event node (shown_store o T node) (Arrives turn a) (line_by (Ok (Counted h.server place h.message.nonce))) said [] [] _ _ (ap (λ n. lines.Counted node n place e.config.key_id h.message.nonce) number_is) refl refl (record {
-          row = hears_row said (inl said_is);
+          row = hears_row said (inl
+              ((λ i. lines.Counted node g.server place (own.config i).key_id (nonce_is i)) ∙ sym (line_is (Some place) last)));
           count = omega arith;
           obedient = refl;
           adds = adds_none o T (step said) refl;
           shows = shows;
-          part = router_part said (record e { rounds = new_rounds }) (goes_on said new_rounds refl refl (length-set e.rounds h.server counted_rounds) counts_rounds);
+          part = record {
+            me = part.me;
+            servers = part.servers;
+            used = keys_stay o T (step said ∷ T) node (life said) before.used part.used;
+            core = etr_goes o T (step said ∷ T) node (life said) e
+                (slice_set e.rounds h.server counted_rounds) own refl refl (safe said) (length-set e.rounds h.server counted_rounds)
+                (rounds_set T (step said ∷ T) node servers e.rounds h.server g.server counted_rounds once there
+                    (counted_here T event node (shown_store o T node) g.server place e.config.key_id h.message.nonce rounds last_of.1 last_of.0 rounds_stand)
+                    (counted_there T event node (shown_store o T node) g.server place e.config.key_id h.message.nonce) own.rounds);
+          };
         })
 
       -- it is stale
@@ -369,7 +290,17 @@ module _ (A : Type 0) (old : WorldState) (o : Opening) (T : List Step) (stand : 
     passes : (ans : Result (Seen A) NotifyFault) → ans ≡ seen_in e h → Fits ans → (b : Bool) (found : Option ℕ) → nat_le first_notice h.message.nonce ≡ b → part_with h.message.nonce (latest_of rounds) ≡ found → ComesBy ans
     passes ans is fits true found high last =
         let now : ans ≡ Ok (notice_in e.config h) = is ∙ seen_notice e h high in
-        subst ComesBy (sym now) (notices high (subst Fits now fits))
+        subst ComesBy (sym now) ((record {
+          row = hears_row noticed (inl (((λ i. lines.Noticed node (number_is i) (nonce_is i) (stand.bag.count i))
+              ∙ sym (ap (line_of turn) hears ∙ ap (λ b. if b then lines.Noticed node g.server g.message.nonce (length (bag o T)) else counted_or_stale turn g (latest_nonces T node g.server)) (ap (nat_le first_notice) (sym nonce_is) ∙ high)))));
+          count = omega arith;
+          obedient = refl;
+          adds = adds_one o T (step noticed) answered (ack_item o T node a g.message)
+              (ap (λ (x : Option Arrival). bag o T ++ items_added o T (past o T) x noticed) arrives ∙ ap (λ (x : Option MapNotifyValue). bag o T ++ option_to_list (option_map (ack_item o T node a) x)) (ap as_notify same.says))
+              (notice_carries (subst Fits now fits));
+          shows = shows;
+          part = still noticed (record { sent = refl; values = refl; times = λ k p. refl; latest = λ k p. refl; counted = λ k p. refl });
+        }))
     passes ans is fits false (Some place) low last = subst ComesBy (sym (is ∙ seen_counted e h low place last)) (counts low place last)
     passes ans is fits false None low last = subst ComesBy (sym (is ∙ seen_stale e h low last)) (stale low last)
 
@@ -398,9 +329,6 @@ module _ (A : Type 0) (old : WorldState) (o : Opening) (T : List Step) (stand : 
   comes_by : (bytes : List ℕ) → a.bytes ≡ bytes → a.read ≡ message_at bytes → (etr : EtrState) (ans : Result (Seen A) NotifyFault) → HearsAs e etr from bytes ans → ComesBy ans
   comes_by bytes bytes_are read_is etr ans call = at (given ans (seen_at e from bytes) call.gives)
     where
-      head_of : ans ≡ Err faults.OutOfMemory → HasHead a.bytes
-      head_of is = subst HasHead (sym bytes_are) (subst (λ (x : Result (Seen A) NotifyFault). IsErrOf x faults.OutOfMemory → TakesMemory e.config from bytes) is call.grows refl).0
-
       -- what takes memory is to be read, or a notice that passed all checks on both sides
       answer_of : (h : ServerNotify) (t : Result ServerNotify NotifyFault) → notify_at o T node a ≡ t → Alike (etr_config o T node) a.read from_place (server_from o.config node a.from) (Ok h) t → first_notice ≤ h.message.nonce → IsToAnswer turn a
       answer_of h (Ok g) heard_is same high = record { what = g; hears = heard_is; own = subst (λ (m : MapNotifyValue). first_notice ≤ m.nonce) same.message high }
@@ -411,12 +339,11 @@ module _ (A : Type 0) (old : WorldState) (o : Opening) (T : List Step) (stand : 
       takes (inr notice) = inr (answer_of notice.0 (notify_at o T node a) refl
           (subst (λ (r : Result ServerNotify NotifyFault). Alike (etr_config o T node) a.read from_place (server_from o.config node a.from) r (notify_at o T node a)) (sym (by_place bytes bytes_are read_is) ∙ notice.1) both_heard) notice.2)
 
-      taken_of : ans ≡ Err faults.OutOfMemory → HasRecords a.bytes ⊎ IsToAnswer turn a
-      taken_of is = takes (subst (λ (x : Result (Seen A) NotifyFault). IsErrOf x faults.OutOfMemory → TakesMemory e.config from bytes) is call.grows refl).1
-
       at : (ans ≡ seen_at e from bytes) ⊎ (ans ≡ Err faults.OutOfMemory) → ComesBy ans
       at (inl is) = by_both ans (checked_notify (etr_config o T node) a.bytes a.read from_place) (notify_at o T node a) refl both_heard (is ∙ ap (λ (r : Result ServerNotify NotifyFault). r >>= seen_in e) (by_place bytes bytes_are read_is)) call.fits
-      at (inr is) = subst ComesBy (sym is) (refuses faults.OutOfMemory (inr (head_of is, taken_of is, refl)))
+      at (inr is) = subst ComesBy (sym is) (refuses faults.OutOfMemory (inr (
+          (subst HasHead (sym bytes_are) (subst (λ (x : Result (Seen A) NotifyFault). IsErrOf x faults.OutOfMemory → TakesMemory e.config from bytes) is call.grows refl).0),
+          (takes (subst (λ (x : Result (Seen A) NotifyFault). IsErrOf x faults.OutOfMemory → TakesMemory e.config from bytes) is call.grows refl).1), refl)))
 
 -- what arrives at a router
 module _ (A : Type 0) (old new : WorldState) (o : Opening) (T : List Step) (stand : Stands old o T) (node : ℕ) (fate : Fate) (from : Addr) (bytes : List ℕ) (line : Line) (arrived : ArrivesAtRouter A old new node fate from bytes line)
@@ -432,49 +359,24 @@ module _ (A : Type 0) (old new : WorldState) (o : Opening) (T : List Step) (stan
   kind_here : is_router o.config node ≡ true
   kind_here = acts_router old new node arrived.more arrived.acts o T stand
 
-  shows_here : Shows arrived.acts.before.store (shown_store o T node)
-  shows_here = acts_shows old new node arrived.more arrived.acts o T stand
-
-  -- a router that is down says so
-  hears_down : (config : EtrConfigValue) (db : List MapRecordValue) → arrived.acts.before.core ≡ Down config db → StandsForCore o T node (Down config db) → RouterHears A old node arrived.acts.before arrived.acts.after fate from bytes (Down config db) line arrived.more → Goes
-  hears_down config db is core at = moved o T event node (shown_store o T node) _ line (lines.Down node) arrived.more [] arrived.acts.after arrived.acts.before at.1 at.2 at.0 (record {
-    row = record { acts = record { kind = kind_here; acts = refl; state = core.0 }; names = refl; same = refl };
-    count = omega arith;
-    obedient = refl;
-    adds = adds_none o T _ refl;
-    shows = shows_here;
-    part = record {
-      me = part_here.me;
-      servers = part_here.servers;
-      used = keys_heard o T event arrival node (shown_store o T node) (lines.Down node) arrived.acts.before.used part_here.used;
-      core = subst (λ (c : RouterCoreState). StandsForCore o (step_of event node (shown_store o T node) (lines.Down node) ∷ T) node c) (sym is)
-          (same_up event arrival (lines.Down node) node (is_up T node) ∙ core.0, core.1 ∙ sym (config_heard o T event arrival node (shown_store o T node) (lines.Down node)), core.2 ∙ sym (same_database event arrival (lines.Down node) node (database o T node)));
-    };
-  })
-
-  -- what a store shows that was armed and used for nothing
-  shows_after : (armed : StoreState) → UsesStore arrived.acts.before.store fate armed armed arrived.acts.after.store → Shows arrived.acts.after.store (shown_store o T node)
-  shows_after armed uses =
-      let x : Shown-in fate armed armed arrived.acts.after.store (shown_store o T node) = uses_shown arrived.acts.before.store armed armed arrived.acts.after.store fate (shown_store o T node) shows_here uses in
-      record { honest = x.after.honest; kept = x.after.kept ∙ x.armed_shows.kept; faults = x.after.faults ∙ x.armed_shows.faults; obedient = x.after.obedient ∙ x.armed_shows.obedient }
-
-  -- one that is up hears it
-  hears_up : UpRouterHears A old node arrived.acts.before arrived.acts.after fate from bytes line arrived.more → Goes
-  hears_up up =
+  -- one that is up hears it, and one that is down says so
+  hears_at : (core : RouterCoreState) → StandsForCore o T node core → RouterHears A old node arrived.acts.before arrived.acts.after fate from bytes core line arrived.more → Goes
+  hears_at (Up e) own up =
       let h = up.hears in
       moved o T event node (shown_store o T node) _ line _ arrived.more _ arrived.acts.after _ up.said up.posts (h.is ∙ ap (λ (x : EtrState). record arrived.acts.before { core = Up x; store = arrived.acts.after.store }) h.call.after)
       (comes_by A old o T stand node event arrival a arrives arrived.acts.before kind_here part_here (acts_once old new node arrived.more arrived.acts o T stand) h.etr
-      (subst (λ (core : RouterCoreState). StandsForCore o T node core) h.was part_here.core) arrived.acts.after.store (shows_after h.armed h.uses) from from_is
+      (subst (λ (core : RouterCoreState). StandsForCore o T node core) h.was part_here.core) arrived.acts.after.store ((
+          let x : Shown-in fate h.armed h.armed arrived.acts.after.store (shown_store o T node) = uses_shown arrived.acts.before.store h.armed h.armed arrived.acts.after.store fate (shown_store o T node)
+              (acts_shows old new node arrived.more arrived.acts o T stand) h.uses in
+          record { honest = x.after.honest; kept = x.after.kept ∙ x.armed_shows.kept; faults = x.after.faults ∙ x.armed_shows.faults; obedient = x.after.obedient ∙ x.armed_shows.obedient })) from from_is
       bytes bytes_are read_is h.left up.answer h.call)
-
-  -- up or down
-  hears_at : (core : RouterCoreState) → arrived.acts.before.core ≡ core → StandsForCore o T node core → RouterHears A old node arrived.acts.before arrived.acts.after fate from bytes core line arrived.more → Goes
-  hears_at (Up e) is own at = hears_up at
-  hears_at (Down config db) is core at = hears_down config db is core at
+  hears_at (Down config db) core at = down_step old new node arrived.more arrived.acts o T stand event _ line at
+      (record { acts = record { kind = kind_here; acts = refl; state = core.0 }; names = refl; same = refl }) refl (heard_life o T event arrival node (shown_store o T node) (lines.Down node))
+      (record { sent = refl; values = refl; times = λ k p. refl; latest = λ k p. refl; counted = λ k p. refl })
 
   -- its row, and what stands of the router afterwards
   pub router_hears : Goes
-  router_hears = hears_at arrived.acts.before.core refl part_here.core arrived.hears
+  router_hears = hears_at arrived.acts.before.core part_here.core arrived.hears
 
 -- A datagram or bytes from outside arrive at a router: the network stands for the trace with that step.
 

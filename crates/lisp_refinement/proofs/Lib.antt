@@ -3,13 +3,10 @@ pub mod Places
 pub mod Heads
 pub mod Acting
 pub mod Passing
-pub mod Changing
 pub mod Restarting
-pub mod Losing
 pub mod Rotating
 pub mod Sending
 pub mod Hearing
-pub mod Refusing
 pub mod ServerArrivals
 pub mod NoticeParts
 pub mod Reloading
@@ -18,4 +15,3 @@ pub mod Noticing
 pub mod Taking
 pub mod Asking
 pub mod Headlines
-pub mod Replying

@@ -7,7 +7,7 @@ use Rattle.std.specs.Option.{option_and_then, option_map, option_to_list, unwrap
 use Rattle.std.specs.Ordering.{ordering_then, ordering_reverse}
 use Rattle.std.specs.declared.cmp.Ordering.{Ordering}
 use Rattle.std.specs.declared.cmp.Ordering.TheVariants.{Less, Equal, Greater}
-use Rattle.std.proofs.lemmas.Bool.{and_from}
+use Rattle.std.proofs.lemmas.Bool.{and_from, and_parts}
 use Rattle.std.proofs.lemmas.Bool.Decides.{Decides-ltb}
 use Rattle.std.proofs.lemmas.List.{length-map, get_or-map}
 use Rattle.std.proofs.lemmas.List.Elements.{filter_passes}
@@ -28,7 +28,6 @@ use Rattle.lisp_model.specs.Held.{Acceptance, accepted_rows, rows, held_row, rec
 use Rattle.lisp_model.proofs.ListLemmas.{at_head, in_tail, head_or_tail, in_none}
 use Rattle.lisp_model.proofs.RowLaws.{rows_are_held}
 use Rattle.lisp_records.specs.declared.address.Addr.{Addr}
-use Rattle.lisp_records.specs.Parts.{fits_message}
 use Rattle.lisp_records.proofs.DatabaseLaws.{any_order}
 use Rattle.lisp_messages.specs.declared.head.Head.{Head}
 use Rattle.lisp_messages.specs.Authentic.{signed}
@@ -47,39 +46,29 @@ use Rattle.lisp_admission.specs.Nonces.{nonce_after, KeepsLists, IsBase as IsSto
 use Rattle.lisp_admission.specs.Pairs.{notice_pair}
 use Rattle.lisp_server.specs.declared.contacts.Contact.{Contact}
 use Rattle.lisp_server.specs.Contacts.{contact_at}
-use Rattle.lisp_server.specs.LastNonces.{nonce_at}
 use Rattle.lisp_server.specs.Receiving.{contact_of}
 use Rattle.lisp_server.specs.Server.{ServerState}
-use Rattle.lisp_server.specs.Notices.{StandingNoticeValue, notice_at}
+use Rattle.lisp_server.specs.Notices.{notice_at}
 use Rattle.lisp_server.specs.SendNotice.{IsRegistered, IsLast, notice_of, Announces, RefusesNotice as RefusesToTell}
 use Rattle.lisp_model.specs.declared.event.Event.TheVariants as events
 use Rattle.lisp_model.specs.declared.line.Line.{Line}
 use Rattle.lisp_model.specs.declared.line.Line.TheVariants as lines
 use Rattle.lisp_model.specs.declared.refusal.Refusal.TheVariants as refusals
-use Rattle.lisp_model.specs.Trace.{Step, Opening, router_at, secret_at, sites, shown_store, clock}
+use Rattle.lisp_model.specs.Trace.{Step, Opening, router_at, sites, shown_store, clock, ShownStore}
 use Rattle.lisp_model.specs.Timers.{Notice, notices, notice_to, last_notice, notices_to_others}
 use Rattle.lisp_model.specs.Bag.{Item, bytes_of, bag, since_start, notice_item}
-use Rattle.lisp_model.specs.Context.{Context, IsAtServer, values, values_after, Same, Rose, HasCause, Saves, IsBase}
+use Rattle.lisp_model.specs.Context.{Context, IsAtServer, values, values_after, Same, Rose, HasCause, IsBase}
 use Rattle.lisp_model.specs.Notifying.{CanNotify, NoticesFrom, HasNonce, RefusesNotice}
 use Rattle.lisp_model.specs.Legal.{Legal, context_of}
 use Rattle.lisp_model.proofs.KeptLemmas.{only_value}
 use Rattle.lisp_model.proofs.Locality.{same_number}
 use Rattle.lisp_refinement.specs.World.{DatagramValue, WorldState}
 use Rattle.lisp_refinement.specs.Events.{address_of, SaysMessage, SaysNoticeAnswer, NetworkNotifies as NoticeTurn}
-use Rattle.lisp_refinement.specs.Stands.{shown_by, IsStanding, SameNotice, StandsForServer, Stands, StandsAfter}
+use Rattle.lisp_refinement.specs.Stands.{shown_by, SameNotice, StandsForServer, Stands}
 use Rattle.lisp_refinement.proofs.Heads.{head_written}
 use Rattle.lisp_refinement.proofs.Acting.{Adds, adds_none, adds_one, by_fate, Shown-in, uses_shown, server_is, address_is, server_acts, notice_goes}
-use Rattle.lisp_refinement.proofs.NoticeParts.{its_me, known_router, same_or_other, found, found_without, router_itself, router_other, part_after}
-
--- what holds of each two in a list holds in its tail, and of its head and each in the tail
-module _ {X : Type 0} (P : X → X → Type 0) (x : X) (xs : List X) (all : AllPairs P (x ∷ xs)) where
-  -- in the tail
-  pairs_tail : AllPairs P xs
-  pairs_tail i j d before lt = all (suc i) (suc j) d (omega (arith, before)) (omega (arith, lt))
-
-  -- of the head and each in the tail
-  pairs_head : (z : X) → Contains xs z → P x z
-  pairs_head z (k, lt, is) = subst (P x) is (all 0 (suc k) z (omega arith) (omega (arith, lt)))
+use Rattle.lisp_refinement.proofs.NoticeParts.{its_me, known_router, found, found_without, router_itself, router_other, part_after, part_idle, each_router}
+use Rattle.lisp_refinement.proofs.Asking.{kept_alive, was_alive, pairs_head, pairs_tail}
 
 -- lists of distinct keys with the same elements have them in some order
 module _ {X K : Type 0} (key : X → K) where
@@ -111,23 +100,6 @@ module _ {X K : Type 0} (key : X → K) where
       let again : Within (x ∷ left) (x ∷ xs) = λ z has. back z (Contains-permutation (x ∷ left) ys z back_moved has) in
       let rest = some_order xs left (pairs_tail (λ a b. key a ≢ key b) x xs differ) (pairs_tail (λ a b. key a ≢ key b) x left apart) (rest_within x xs left differ forth) (rest_within x left xs apart again) in
       IsPermutation-trans (x ∷ xs) (x ∷ left) ys (IsPermutation-cons x xs left rest) back_moved
-
--- two tests that are passed together
-both_of : (a b : Bool) → (a && b) ≡ true → (a ≡ true) × (b ≡ true)
-both_of true b t = (refl, t)
-both_of false b t = absurd (true≢false (sym t))
-
--- a row that was found and is alive, and what is found where it is alive
-alive_found : (now : ℕ) (h : RowValue) (o : Option RowValue) → o ≡ Some h → is_alive h now ≡ true → option_and_then (if_alive now) o ≡ Some h
-alive_found now h o is alive = ap (option_and_then (if_alive now)) is ∙ ap (λ (b : Bool). cond b (Some h) None) alive
-
-found_alive : (now : ℕ) (h : RowValue) (o : Option RowValue) → option_and_then (if_alive now) o ≡ Some h → (o ≡ Some h) × (is_alive h now ≡ true)
-found_alive now h None is = absurd (let clash : ◌≡◌ {A = Option RowValue} None (Some h) = is in cc)
-found_alive now h (Some g) is = by (is_alive g now) refl is
-  where
-    by : (b : Bool) → is_alive g now ≡ b → cond b (Some g) None ≡ Some h → (◌≡◌ {A = Option RowValue} (Some g) (Some h)) × (is_alive h now ≡ true)
-    by true alive at = (at, (let same : g ≡ h = cc in ap (λ (x : RowValue). is_alive x now) (sym same) ∙ alive))
-    by false dead at = absurd (let clash : ◌≡◌ {A = Option RowValue} None (Some h) = at in cc)
 
 -- an answer of an order that is the same turned round isn't 'before'
 not_before_itself : (o : Ordering) → o ≡ ordering_reverse o → o ≢ Less
@@ -175,26 +147,24 @@ module _ (table : List RowValue) (since : List Acceptance) (now : ℕ) (one : On
   pub live_held : (h : RowValue) → Contains live h → (h.router ≡ router) × (held_row since h.router h.mapping.eid now ≡ Some h)
   live_held h has =
       let was = filtered_holds (is_live_of router now) table h has in
-      let passes = both_of (own h) (is_alive h now) was.1 in
-      ((router_eq-Decides h.router router).0 passes.0, sym (stands h.router h.mapping.eid) ∙ alive_found now h (row_at table h.router h.mapping.eid) (found_own table h one was.0) passes.1)
+      let passes = and_parts (own h) (is_alive h now) was.1 in
+      ((router_eq-Decides h.router router).0 passes.0, sym (stands h.router h.mapping.eid) ∙ kept_alive now (row_at table h.router h.mapping.eid) h (found_own table h one was.0, (Decides-ltb (now - h.accepted) h.life).0 passes.1))
 
   -- it is listed in the trace
   live_told : (h : RowValue) → Contains live h → Contains told h
   unfolding row_at
   live_told h has =
       let is = live_held h has in
-      let at = found_alive now h (row_at (accepted_rows since) h.router h.mapping.eid) is.1 in
-      filter_holds own (rows since now) h (((rows_are_held since now).each h).1 (at.0, (Decides-ltb (now - h.accepted) h.life).0 at.1)) ((router_eq-Decides h.router router).1 is.0)
+      filter_holds own (rows since now) h (((rows_are_held since now).each h).1 (was_alive now (row_at (accepted_rows since) h.router h.mapping.eid) h is.1)) ((router_eq-Decides h.router router).1 is.0)
 
   -- what the trace lists is a live row
   told_live : (h : RowValue) → Contains told h → Contains live h
   unfolding row_at
   told_live h has =
       let was = filtered_holds own (rows since now) h has in
-      let is = ((rows_are_held since now).each h).0 was.0 in
-      let is_held = alive_found now h (row_at (accepted_rows since) h.router h.mapping.eid) is.0 ((Decides-ltb (now - h.accepted) h.life).1 is.1) in
-      let at = found_alive now h (row_at table h.router h.mapping.eid) (stands h.router h.mapping.eid ∙ is_held) in
-      filter_holds (is_live_of router now) table h (found_holds (is_row_of h.router h.mapping.eid) table h at.0).0 (and_from (own h) (is_alive h now) was.1 at.1)
+      let is_held = kept_alive now (row_at (accepted_rows since) h.router h.mapping.eid) h (((rows_are_held since now).each h).0 was.0) in
+      let at = was_alive now (row_at table h.router h.mapping.eid) h (stands h.router h.mapping.eid ∙ is_held) in
+      filter_holds (is_live_of router now) table h (found_holds (is_row_of h.router h.mapping.eid) table h at.0).0 (and_from (own h) (is_alive h now) was.1 ((Decides-ltb (now - h.accepted) h.life).1 at.1))
 
   -- the rows of the trace rise
   told_rise : AllPairs (λ a b. row_cmp a b ≡ Less) told
@@ -215,27 +185,24 @@ module _ (table : List RowValue) (since : List Acceptance) (now : ℕ) (one : On
   their_router : (i : ℕ) (d : RowValue) → i < length told → (slice_index_or told i d).router ≡ router
   their_router i d lt = (router_eq-Decides (slice_index_or told i d).router router).0 (filter_passes own (rows since now) i d lt)
 
-  -- so their prefixes rise
-  prefixes_rise : (i j : ℕ) (d : RowValue) → i < j → j < length told → prefix_cmp (slice_index_or told i d).mapping.eid (slice_index_or told j d).mapping.eid ≡ Less
-  prefixes_rise i j d before lt =
-      let a = slice_index_or told i d in
-      let b = slice_index_or told j d in
-      let routers : router_cmp a.router b.router ≡ Equal = ap (λ (r : RouterId). router_cmp r b.router) (their_router i d (omega (arith, before, lt)) ∙ sym (their_router j d lt)) ∙ tied (router_cmp b.router b.router) (router_total.antisymm b.router b.router) in
-      sym (ap (λ (o : Ordering). ordering_then o (prefix_cmp a.mapping.eid b.mapping.eid)) routers) ∙ told_rise i j d before lt
-
   -- the records that are told, by prefix, are those of the trace
-  pub told_is : (records : List MapRecordValue) → ByPrefix (live_of table router now) records → records ≡ records_of since router now
-  told_is records by_prefix = one_rising_order records (records_of since router now) (IsPermutation-trans records (live_of table router now) (records_of since router now) (IsPermutation-sym (live_of table router now) records by_prefix.same) same_records) by_prefix.rising (mapped_rise told prefixes_rise)
+  told_is : (records : List MapRecordValue) → ByPrefix (live_of table router now) records → records ≡ records_of since router now
+  told_is records by_prefix = one_rising_order records (records_of since router now) (IsPermutation-trans records (live_of table router now) (records_of since router now) (IsPermutation-sym (live_of table router now) records by_prefix.same) same_records) by_prefix.rising (mapped_rise told
+      (λ i j d before lt. 
+          let a = slice_index_or told i d in
+          let b = slice_index_or told j d in
+          let routers : router_cmp a.router b.router ≡ Equal = ap (λ (r : RouterId). router_cmp r b.router) (their_router i d (omega (arith, before, lt)) ∙ sym (their_router j d lt)) ∙ tied (router_cmp b.router b.router) (router_total.antisymm b.router b.router) in
+          sym (ap (λ (o : Ordering). ordering_then o (prefix_cmp a.mapping.eid b.mapping.eid)) routers) ∙ told_rise i j d before lt))
 
   -- there are some, or none, in both
-  pub none_told : live_of table router now ≡ [] → records_of since router now ≡ []
+  none_told : live_of table router now ≡ [] → records_of since router now ≡ []
   none_told none = no_length (records_of since router now) (length_permutation (live_of table router now) (records_of since router now) same_records ∙ ap length none)
 
   pub some_told : live_of table router now ≢ [] → records_of since router now ≢ []
   some_told some none = some (no_length (live_of table router now) (sym (length_permutation (live_of table router now) (records_of since router now) same_records) ∙ ap length none))
 
   -- a router with live records has a row that is held
-  pub row_held : live_of table router now ≢ [] → (eid : PrefixValue) × (h : RowValue) × (held_row since router eid now ≡ Some h)
+  row_held : live_of table router now ≢ [] → (eid : PrefixValue) × (h : RowValue) × (held_row since router eid now ≡ Some h)
   row_held some =
       let one = first_of live (λ none. some (ap (map (λ (h : RowValue). h.mapping)) none)) in
       let is = live_held one.0 one.1 in
@@ -249,10 +216,6 @@ at_end [] x zero is = refl
 at_end [] x (suc k) is = absurd (omega (arith, is))
 at_end (y ∷ ys) x zero is = absurd (omega (arith, is))
 at_end (y ∷ ys) x (suc k) is = at_end ys x k (omega (arith, is))
-
--- no records at all fit a message
-empty_fits : fits_message [] ≡ false → ⊥
-empty_fits is = absurd cc
 
 module _ (old new : WorldState) (server router : ℕ) (fate : Fate) (line : Line) (turn : NoticeTurn old new server router fate line) (o : Opening) (T : List Step) (stand : Stands old o T) where
   -- the router that is told; the moment; the Map-Server before and after; its store armed, and after the call
@@ -355,14 +318,6 @@ module _ (old new : WorldState) (server router : ℕ) (fate : Fate) (line : Line
     kept_now : kept_at called.kept notice_pair ≡ Some nonce ∷ []
     kept_now = announced.kept is_honest
 
-    -- the store keeps that nonce alone for notices
-    saves : Saves (context_of o T (step sent)) notice_pair nonce nonce
-    saves = record {
-      here = inr (kept_now, by (λ f. f ≢ Doubt) announced.saves);
-      none_below = λ v has. subst (λ (w : Option ℕ). nonce ≤ number w) (sym (only_value (Some nonce) v (subst (λ (vs : List (Option ℕ)). Contains vs v) kept_now has))) (omega arith);
-      others = λ q differ. announced.others is_honest q differ ∙ ap (λ (kept : Kept). kept_at kept q) shows.armed_shows.kept;
-    }
-
     -- the step is legal
     sent_legal : Legal o T (step sent)
     sent_legal = record {
@@ -384,7 +339,11 @@ module _ (old new : WorldState) (server router : ℕ) (fate : Fate) (line : Line
           next = refl;
           bound = announced.fits.nonce;
           place = stand.bag.count;
-          saves = saves;
+          saves = record {
+            here = inr (kept_now, by (λ f. f ≢ Doubt) announced.saves);
+            none_below = λ v has. subst (λ (w : Option ℕ). nonce ≤ number w) (sym (only_value (Some nonce) v (subst (λ (vs : List (Option ℕ)). Contains vs v) kept_now has))) (omega arith);
+            others = λ q differ. announced.others is_honest q differ ∙ ap (λ (kept : Kept). kept_at kept q) shows.armed_shows.kept;
+          };
         },
       );
     }
@@ -401,84 +360,45 @@ module _ (old new : WorldState) (server router : ℕ) (fate : Fate) (line : Line
     its_records : announced.records ≡ records_of (since_start o T server) me now
     its_records = told_is core.rows (since_start o T server) now turn.notifies.one_each part.rows me announced.records announced.by_prefix
 
-    -- the secret is that of the router's site and key
-    its_secret : announced.registered.heard.secret ≡ secret_at (sites o T server) me.site contact.key
-    its_secret = ap (λ (s : Option (List ℕ)). unwrap_or s []) (sym announced.registered.heard.signs) ∙ ap (λ sites. unwrap_or (known_secret sites me.site contact.key) []) part.sites
-
     -- the datagram is the item's
     its_bytes : bytes ≡ bytes_of item
     unfolding bytes_of
-    its_bytes = announced.datagram ∙ (λ i. signed (its_secret i) (written_notify (notice_of contact.key nonce (its_records i))))
+    its_bytes = announced.datagram ∙ (λ i. signed (
+        (ap (λ (s : Option (List ℕ)). unwrap_or s []) (sym announced.registered.heard.signs) ∙ ap (λ sites. unwrap_or (known_secret sites me.site contact.key) []) part.sites)
+        i) (written_notify (notice_of contact.key nonce (its_records i))))
 
     -- it goes to where the router was heard last
     its_to : to ≡ last.0.from
     its_to = announced.address ∙ ap (λ (c : Contact). c.from) (sym last.2)
 
-    -- the datagram carries the item
-    sent_adds : Adds o T (step sent) (record { from = address_of old server; to = to; bytes = bytes } ∷ [])
-    sent_adds = adds_one o T (step sent) (record { from = address_of old server; to = to; bytes = bytes }) item sent_bag (record {
-      from = address_is old o T stand server;
-      to = its_to;
-      bytes = its_bytes;
-      message = subst (λ (records : List MapRecordValue). IsMapNotify (notice_of contact.key nonce records)) its_records announced.fits;
-    })
-
     -- the notice as it stands on both sides
     abbrev notice : Notice
     notice = record { router = me; key = contact.key; nonce = nonce; datagram = length old.bag; moments = now ∷ [] }
-
-    abbrev standing : StandingNoticeValue
-    standing = record { router = me; to = to; key = contact.key; nonce = nonce; bytes = bytes; resends = 0; last = now }
-
-    -- they are one
-    is_standing : IsStanding o (step sent ∷ T) server notice standing
-    is_standing = record {
-      router = refl;
-      key = refl;
-      nonce = refl;
-      item = item;
-      sent = ap (λ (items : List Item). slice_get items (length old.bag)) sent_bag ∙ at_end (bag o T) item (length old.bag) stand.bag.count;
-      from = refl;
-      to = its_to;
-      bytes = its_bytes;
-      earlier = [];
-      moments = refl;
-      resends = refl;
-    }
 
     -- what the trace has for a router afterwards
     after_is : (other : RouterId) → notice_to o (step sent ∷ T) server other ≡ found other (notice ∷ notices_to_others me (notices o T server))
     after_is other = ap (λ (b : Bool). found other (cond b (notice ∷ notices_to_others me (notices o T server)) (notices o T server))) (same_number server)
 
-    -- the router's notice stands on both sides
-    own_notice : SameNotice o (step sent ∷ T) server (notice_to o (step sent ∷ T) server me) (notice_at after.notices me)
-    own_notice =
-        let here = after_is me ∙ ap (λ (b : Bool). cond b (Some notice) (found me (notices_to_others me (notices o T server)))) (router_itself me) in
-        rw (here, announced.stands.here) is_standing
-
-    -- another router's notice stands as before
-    other_notice : (other : RouterId) → other ≢ me → SameNotice o (step sent ∷ T) server (notice_to o (step sent ∷ T) server other) (notice_at after.notices other)
-    other_notice other differ =
-        let here = after_is other ∙ ap (λ (b : Bool). cond b (Some notice) (found other (notices_to_others me (notices o T server)))) (router_other me other (λ same. differ (sym same))) ∙ found_without me other (notices o T server) differ in
-        rw (here, announced.stands.others other differ) (notice_goes o T (step sent ∷ T) server ((item ∷ []), sent_bag) (notice_to o T server other) (notice_at core.notices other) (part.notices other))
-
     -- so each router's does
-    each_notice : (other : RouterId) → (other ≡ me) ⊎ (other ≢ me) → SameNotice o (step sent ∷ T) server (notice_to o (step sent ∷ T) server other) (notice_at after.notices other)
-    each_notice other (inl same) = subst (λ (r : RouterId). SameNotice o (step sent ∷ T) server (notice_to o (step sent ∷ T) server r) (notice_at after.notices r)) (sym same) own_notice
-    each_notice other (inr differ) = other_notice other differ
-
-    -- its nonce is the last one
-    last_is : last_notice (step sent ∷ T) server ≡ Some nonce
-    last_is = ap (λ (b : Bool). cond b (Some nonce) (last_notice T server)) (same_number server)
-
-    -- the Map-Server stands for the trace with the step
-    sent_part : StandsForServer o (step sent ∷ T) server turn.acts.after
-    sent_part = part_after o T (step sent) server turn.acts.before turn.acts.after part (time sent) refl refl announced.rest (turn.notifies.started ∙ part.started)
-        (λ pair differ. announced.nonces.others pair differ) (announced.nonces.here ∙ sym last_is) (λ other. each_notice other (same_or_other other me))
-
-    -- and so does the network, with the line that names the contact's key and the nonce
-    sent_stands : turn.more ≡ record { from = address_of old server; to = to; bytes = bytes } ∷ [] → Stands new o (step sent ∷ T)
-    sent_stands posts = server_acts old new server turn.more turn.acts o T (step sent) stand refl refl sent_legal (subst (λ (more : List DatagramValue). Adds o T (step sent) more) (sym posts) sent_adds) shows.after sent_part
+    each_notice : (other : RouterId) → SameNotice o (step sent ∷ T) server (notice_to o (step sent ∷ T) server other) (notice_at after.notices other)
+    each_notice = each_router (λ r. SameNotice o (step sent ∷ T) server (notice_to o (step sent ∷ T) server r) (notice_at after.notices r)) me (
+        let here = after_is me ∙ ap (λ (b : Bool). cond b (Some notice) (found me (notices_to_others me (notices o T server)))) (router_itself me) in
+        rw (here, announced.stands.here) (record {
+          router = refl;
+          key = refl;
+          nonce = refl;
+          item = item;
+          sent = ap (λ (items : List Item). slice_get items (length old.bag)) sent_bag ∙ at_end (bag o T) item (length old.bag) stand.bag.count;
+          from = refl;
+          to = its_to;
+          bytes = its_bytes;
+          earlier = [];
+          moments = refl;
+          resends = refl;
+        }))
+      (λ other differ.
+        let here = after_is other ∙ ap (λ (b : Bool). cond b (Some notice) (found other (notices_to_others me (notices o T server)))) (router_other me other (λ same. differ (sym same))) ∙ found_without me other (notices o T server) differ in
+        rw (here, announced.stands.others other differ) (notice_goes o T (step sent ∷ T) server ((item ∷ []), sent_bag) (notice_to o T server other) (notice_at core.notices other) (part.notices other)))
 
     -- its line has the Key ID and the nonce that stand in the datagram
     its_head : (head : Head) → head_at bytes ≡ Some head → head ≡ record { key_id = contact.key; nonce = nonce }
@@ -493,7 +413,16 @@ module _ (old new : WorldState) (server router : ℕ) (fate : Fate) (line : Line
     noticed_stands says =
         let head = its_head says.head says.read in
         let said : line ≡ sent = says.said ∙ ap (λ (h : Head). lines.Notice server router h.key_id h.nonce (length old.bag)) head in
-        subst (λ (l : Line). Stands new o (step l ∷ T)) (sym said) (sent_stands says.posts)
+        subst (λ (l : Line). Stands new o (step l ∷ T)) (sym said) (
+            (server_acts old new server turn.more turn.acts o T (step sent) stand refl refl sent_legal (subst (λ (more : List DatagramValue). Adds o T (step sent) more) (sym says.posts)
+                (adds_one o T (step sent) (record { from = address_of old server; to = to; bytes = bytes }) item sent_bag (record {
+                  from = address_is old o T stand server;
+                  to = its_to;
+                  bytes = its_bytes;
+                  message = subst (λ (records : List MapRecordValue). IsMapNotify (notice_of contact.key nonce records)) its_records announced.fits;
+                }))) shows.after (part_after o T (step sent) server turn.acts.before turn.acts.after part (time sent) refl refl announced.rest (turn.notifies.started ∙ part.started)
+                    (λ pair differ. announced.nonces.others pair differ) (announced.nonces.here ∙ sym
+                        (ap (λ (b : Bool). cond b (Some nonce) (last_notice T server)) (same_number server))) each_notice)))
 
   -- none goes out
   module _ (fault : NoticeFault) (refuses : RefusesToTell core armed called me now fault) (same : after ≡ core) where
@@ -532,7 +461,7 @@ module _ (old new : WorldState) (server router : ℕ) (fate : Fate) (line : Line
     why : (f : NoticeFault) → RefusesToTell core armed called me now f → RefusesNotice its_turn router f
     why notice_faults.NotRegistered is = (none_told core.rows (since_start o T server) now turn.notifies.one_each part.rows me is.0, same_store is.1)
     why notice_faults.TooLarge is = (
-      some_told core.rows (since_start o T server) now turn.notifies.one_each part.rows me (λ none. empty_fits (ap fits_message (sym none) ∙ is.0)),
+      some_told core.rows (since_start o T server) now turn.notifies.one_each part.rows me (λ none. (absurd cc)),
       any_order (live_of core.rows me now) (records_of (since_start o T server) me now) told_records ∙ is.0,
       same_store is.1,
     )
@@ -554,27 +483,12 @@ module _ (old new : WorldState) (server router : ℕ) (fate : Fate) (line : Line
     )
     why notice_faults.NotDue is = absurd is
 
-    -- the step is legal
-    refused_legal : Legal o T (step refused)
-    refused_legal = record { faults = λ other. shows.count; obedient = shows.obedient; row = (refl, acting refused, known_router old o T stand router turn.place turn.number turn.node turn.there, why fault refuses) }
-
-    -- nothing comes to the bag
-    refused_bag : bag o (step refused ∷ T) ≡ bag o T ++ []
-    refused_bag = refl
-
-    -- the Map-Server is as it was
-    its_core : after ≡ record core { nonces = after.nonces; notices = after.notices }
-    its_core = same ∙ (λ i. record core { nonces = (sym same i).nonces; notices = (sym same i).notices })
-
-    -- it stands for the trace with the step
-    refused_part : StandsForServer o (step refused ∷ T) server turn.acts.after
-    refused_part = part_after o T (step refused) server turn.acts.before turn.acts.after part (time refused) refl refl its_core (turn.notifies.started ∙ part.started)
-        (λ pair differ. ap (λ (c : ServerState). nonce_at c.nonces pair) same) (ap (λ (c : ServerState). nonce_at c.nonces notice_pair) same ∙ part.notice_nonce)
-        (λ other. subst (λ (c : ServerState). SameNotice o (step refused ∷ T) server (notice_to o T server other) (notice_at c.notices other)) (sym same) (notice_goes o T (step refused ∷ T) server ([], refused_bag) (notice_to o T server other) (notice_at core.notices other) (part.notices other)))
-
     -- and so does the network
     refused_stands : turn.more ≡ [] → Stands new o (step refused ∷ T)
-    refused_stands posts = server_acts old new server turn.more turn.acts o T (step refused) stand refl refl refused_legal (subst (λ (more : List DatagramValue). Adds o T (step refused) more) (sym posts) (adds_none o T (step refused) refused_bag)) shows.after refused_part
+    refused_stands posts = server_acts old new server turn.more turn.acts o T (step refused) stand refl refl
+        (record { faults = λ other. shows.count; obedient = shows.obedient; row = (refl, acting refused, known_router old o T stand router turn.place turn.number turn.node turn.there, why fault refuses) })
+        (subst (λ (more : List DatagramValue). Adds o T (step refused) more) (sym posts) (adds_none o T (step refused) refl)) shows.after 
+            (part_idle o T (step refused) server turn.acts.before turn.acts.after part (time refused) refl refl same turn.notifies.started refl refl refl refl)
 
   -- the notice was sent, or refused
   either : (answer : Result (Addr × List ℕ) NoticeFault) → IfOk answer (λ x. Announces core after armed called me now x.0 x.1) → IfErr answer (λ fault. RefusesToTell core armed called me now fault) → OnErr answer (after ≡ core)
@@ -582,13 +496,9 @@ module _ (old new : WorldState) (server router : ℕ) (fate : Fate) (line : Line
   either (Ok sending) announces refuses same says = noticed_stands sending.0 sending.1 announces says
   either (Err fault) announces refuses same says = subst (λ (said : Line). Stands new o (step said ∷ T)) (sym says.0) (refused_stands fault refuses same says.1)
 
-  -- the same by the router and the moment of the trace
-  noticed : Stands new o (step line ∷ T)
-  noticed = either turn.answer
+  -- so the network stands for the trace with that step, by the router and the moment of the trace
+  pub notice_stands : (actor : ℕ) × (s : ShownStore) × Stands new o (record { event = events.Notice server router fate; line = line; actor = actor; shown = s } ∷ T)
+  notice_stands = (server, shown_by called, either turn.answer
       (subst (λ (x : RouterId × ℕ). IfOk turn.answer (λ y. Announces core after armed called x.0 x.1 y.0 y.1)) (λ i. (its_me old o T stand router turn.place turn.number turn.node turn.there i, stand.bag.moment i)) turn.notifies.announces)
       (subst (λ (x : RouterId × ℕ). IfErr turn.answer (λ fault. RefusesToTell core armed called x.0 x.1 fault)) (λ i. (its_me old o T stand router turn.place turn.number turn.node turn.there i, stand.bag.moment i)) turn.notifies.refused)
-      turn.notifies.err turn.says
-
--- a notice that is sent, or isn't, leaves a network that stands for the trace with the step
-pub notice_stands : (old new : WorldState) (server router : ℕ) (fate : Fate) (line : Line) → NoticeTurn old new server router fate line → StandsAfter old new (events.Notice server router fate) line
-notice_stands old new server router fate line turn o T stand = (server, shown_by turn.notifies.called, noticed old new server router fate line turn o T stand)
+      turn.notifies.err turn.says)

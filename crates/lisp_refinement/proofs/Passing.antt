@@ -5,8 +5,6 @@ use Rattle.std.specs.List.{find}
 use Rattle.std.specs.Option.{option_and_then}
 use Rattle.std.proofs.lemmas.Bool.{le-ltb, and_right}
 use Rattle.std.proofs.lemmas.Option.{slice_get_within}
-use Rattle.lisp_records.specs.declared.router.RouterId.{RouterId}
-use Rattle.lisp_records.specs.Address.{PrefixValue}
 use Rattle.lisp_records.specs.Moment.{max_moment}
 use Rattle.lisp_records.specs.Row.{RowValue, is_alive}
 use Rattle.lisp_lookup.specs.Table.{row_at, is_row_of, if_alive}
@@ -16,14 +14,14 @@ use Rattle.lisp_model.specs.declared.event.Event.TheVariants as events
 use Rattle.lisp_model.specs.declared.line.Line.{Line}
 use Rattle.lisp_model.specs.declared.line.Line.TheVariants as lines
 use Rattle.lisp_model.specs.Trace.{ShownStore, Step, Opening, is_router, shown_store, clock}
-use Rattle.lisp_model.specs.Held.{Acceptance, held_row, accepted_rows}
+use Rattle.lisp_model.specs.Held.{Acceptance, accepted_rows}
 use Rattle.lisp_model.specs.Bag.{Item, bag, since_start}
 use Rattle.lisp_model.specs.Legal.{Legal}
 use Rattle.lisp_model.specs.Promises.{LeavesOthers, SameServer, SameRouter}
 use Rattle.lisp_model.proofs.Locality.{leaves_others}
 use Rattle.lisp_refinement.specs.World.{ServerNodeState, RouterNodeState, WorldState}
 use Rattle.lisp_refinement.specs.Events.{ExpiresNode, NetworkTicks}
-use Rattle.lisp_refinement.specs.Stands.{Shows, StandsInSteps, StandsInBag, StandsForServer, Stands, StandsAfter}
+use Rattle.lisp_refinement.specs.Stands.{Shows, StandsForServer, Stands, StandsAfter}
 use Rattle.lisp_refinement.proofs.Gets.{none_is_some, same_some, get_within}
 use Rattle.lisp_refinement.proofs.Acting.{StandsForRows, server_rows, server_goes, router_stays, server_is, router_is, router_number}
 use Rattle.lisp_refinement.specs.Passing.{PassesNode, NetworkPasses, PassingStands, TicksArePasses, IdlingPasses}
@@ -52,16 +50,12 @@ earlier_row now later le None g e = absurd (none_is_some e)
 earlier_row now later le (Some h) g e = let alive : is_alive h later ≡ true = alive_is_case h g (is_alive h later) e in
     ap (λ t. if t then Some h else None) (alive_before h now later le alive) ∙ ap (λ t. if t then Some h else None) (sym alive) ∙ e
 
--- what is held later is held now
-held_before : (all : List Acceptance) (router : RouterId) (eid : PrefixValue) (now later : ℕ) (h : RowValue) → now ≤ later → held_row all router eid later ≡ Some h → held_row all router eid now ≡ Some h
-held_before all router eid now later h le is = earlier_row now later le _ h is
-
 -- a server that drops dead rows alone holds what is held then
 pub rows_pass : (n m : ServerNodeState) (all : List Acceptance) (now later : ℕ) → now ≤ later → PassesNode n m later → StandsForRows n all now → StandsForRows m all later
 rows_pass n m all now later le passes stand = record {
   rows = λ router eid. passes.rows router eid ∙ sym (alive_twice now later le (row_at n.core.rows router eid))
       ∙ ap (option_and_then (if_alive later)) (stand.rows router eid) ∙ alive_twice now later le (find (is_row_of router eid) (accepted_rows all));
-  contacts = λ router eid h is. ap (λ (x : ServerNodeState). contact_at x.core.contacts router) passes.rest ∙ stand.contacts router eid h (held_before all router eid now later h le is);
+  contacts = λ router eid h is. ap (λ (x : ServerNodeState). contact_at x.core.contacts router) passes.rest ∙ stand.contacts router eid h ((earlier_row now later le _ h is));
 }
 
 -- nobody acts: the number of all nodes
@@ -138,33 +132,25 @@ module _ (old new : WorldState) (ms : ℕ) (line : Line) (passes : NetworkPasses
   store_case k n m was gone = subst (λ (p : StoreState × ShownStore). Shows p.0 p.1)
       (λ i. (ap (λ (x : ServerNodeState). x.store) (sym gone.rest) i, sym (server_other old ms passes.bound o T stand k n was).shown i)) (stand.steps.server_stores k n was)
 
-  -- steps and stores stand
-  steps_pass : StandsInSteps new o next
-  steps_pass = record {
-    sites = ap (λ (w : WorldState). w.sites) passes.left ∙ stand.steps.sites;
-    addresses = ap (λ (w : WorldState). w.addresses) passes.left ∙ stand.steps.addresses;
-    network = stand.steps.network;
-    legal = (tick_legal old ms passes.bound o T stand, stand.steps.legal);
-    servers = passes.count ∙ stand.steps.servers;
-    routers = ap (λ (w : WorldState). length w.routers) passes.left ∙ stand.steps.routers;
-    server_stores = λ k m there. (let was = server_was k m there in store_case k was.0 m was.1 was.2);
-    router_stores = λ k n there. subst (λ (x : ShownStore). Shows n.store x) (sym (router_other old ms passes.bound o T stand k n (router_was k n there)).shown) (stand.steps.router_stores k n (router_was k n there));
-  }
-
-  -- clock and bag stand
-  bag_pass : StandsInBag new o next
-  bag_pass = record {
-    moment = ap (λ (w : WorldState). w.clock) passes.left ∙ ap (λ a. a + ms) stand.bag.moment;
-    bound = omega (arith, passes.bound, stand.bag.moment);
-    count = ap (λ (w : WorldState). length w.bag) passes.left ∙ stand.bag.count ∙ ap (λ (items : List Item). length items) (sym (append-nil (bag o T)));
-    each = λ k d i one other. stand.bag.each k d i (ap (λ (w : WorldState). slice_get w.bag k) (sym passes.left) ∙ one) (ap (λ (items : List Item). slice_get items k) (sym (append-nil (bag o T))) ∙ other);
-  }
-
   -- so all stands
   pass_here : Stands new o next
   pass_here = record {
-    steps = steps_pass;
-    bag = bag_pass;
+    steps = record {
+      sites = ap (λ (w : WorldState). w.sites) passes.left ∙ stand.steps.sites;
+      addresses = ap (λ (w : WorldState). w.addresses) passes.left ∙ stand.steps.addresses;
+      network = stand.steps.network;
+      legal = (tick_legal old ms passes.bound o T stand, stand.steps.legal);
+      servers = passes.count ∙ stand.steps.servers;
+      routers = ap (λ (w : WorldState). length w.routers) passes.left ∙ stand.steps.routers;
+      server_stores = λ k m there. (let was = server_was k m there in store_case k was.0 m was.1 was.2);
+      router_stores = λ k n there. subst (λ (x : ShownStore). Shows n.store x) (sym (router_other old ms passes.bound o T stand k n (router_was k n there)).shown) (stand.steps.router_stores k n (router_was k n there));
+    };
+    bag = record {
+      moment = ap (λ (w : WorldState). w.clock) passes.left ∙ ap (λ a. a + ms) stand.bag.moment;
+      bound = omega (arith, passes.bound, stand.bag.moment);
+      count = ap (λ (w : WorldState). length w.bag) passes.left ∙ stand.bag.count ∙ ap (λ (items : List Item). length items) (sym (append-nil (bag o T)));
+      each = λ k d i one other. stand.bag.each k d i (ap (λ (w : WorldState). slice_get w.bag k) (sym passes.left) ∙ one) (ap (λ (items : List Item). slice_get items k) (sym (append-nil (bag o T))) ∙ other);
+    };
     servers = λ k m there. (let was = server_was k m there in server_case k was.0 m was.1 was.2);
     routers = λ k n there. router_stays o T next (length o.config.servers + k) (router_other old ms passes.bound o T stand k n (router_was k n there)) n (stand.routers k n (router_was k n there));
   }
@@ -174,7 +160,7 @@ pub passing_stands : PassingStands
 passing_stands old new ms line passes o T stand = (nobody o, shown_store o T (nobody o), subst (λ (l : Line). Stands new o (tick o T ms l ∷ T)) (sym passes.said) (pass_here old new ms line passes o T stand))
 
 -- who drops all dead rows keeps the live ones
-pub expired_passes : (n m : ServerNodeState) (now : ℕ) → ExpiresNode n m now → PassesNode n m now
+expired_passes : (n m : ServerNodeState) (now : ℕ) → ExpiresNode n m now → PassesNode n m now
 expired_passes n m now expires = record {
   rows = λ router eid. ap (option_and_then (if_alive now)) (expires.rows router eid) ∙ alive_twice now now (omega arith) (row_at n.core.rows router eid);
   rest = expires.rest;

@@ -118,7 +118,7 @@ get_from first (suc n) zero k is = let e = same_some first k is in omega (arith,
 get_from first (suc n) (suc i) k is = let e = get_from (suc first) n i k is in omega (arith, e)
 
 -- as many parts as a database may have, and at each place its number
-pub count_of_parts : length part_numbers ≡ most_parts
+count_of_parts : length part_numbers ≡ most_parts
 unfolding numbers_below
 count_of_parts = length_from zero most_parts
 
@@ -172,15 +172,11 @@ module _ {X : Type 0} (part_of : X → Option ℕ) where
 pub first_alike : {X Y : Type 0} (p : X → Option ℕ) (q : Y → Option ℕ) (xs : List X) (ys : List Y) → length xs ≡ length ys → Agree p q xs ys → first_part p xs ≡ first_part q ys
 first_alike p q xs ys count agree = sym (first_mapped p xs) ∙ ap (first_part (λ o. o)) (same_values p q xs ys count agree) ∙ first_mapped q ys
 
--- a database that passed its tests has at most so many parts
-too_many : (ms : List MapRecordValue) → ltb most_parts (part_count ms) ≡ true → database_of ms ≡ Ok ms → ⊥
-too_many ms above fits = grind (arith, nat_tests, above, fits)
-
 pub few_parts : (ms : List MapRecordValue) → database_of ms ≡ Ok ms → part_count ms ≤ most_parts
 few_parts ms fits = at (ltb most_parts (part_count ms)) refl
   where
     at : (b : Bool) → ltb most_parts (part_count ms) ≡ b → part_count ms ≤ most_parts
-    at true above = absurd (too_many ms above fits)
+    at true above = absurd ((grind (arith, nat_tests, above, fits)))
     at false low = ltb-false most_parts (part_count ms) low
 
 -- How a router's rounds of all parts with a Map-Server go on.

@@ -1,10 +1,6 @@
 -- A Map-Server takes other sites: where they have all that its own had it goes on with what it holds, else as one that has just started.
 use Rattle.std.proofs.Common.{◌≡◌, ℕ, Bool, true, false, List, [], ◌∷◌, ◌++◌, length, None, refl, sym, ap, subst, ◌∙◌, arith}
 use Rattle.std.specs.Prelude.{if◌then◌else◌}
-use Rattle.std.specs.List.{find}
-use Rattle.std.specs.Option.{option_and_then}
-use Rattle.lisp_records.specs.Router.{router_eq}
-use Rattle.lisp_lookup.specs.Table.{row_at, if_alive}
 use Rattle.lisp_policy.specs.Site.{SiteValue}
 use Rattle.lisp_policy.specs.Extends.{extends}
 use Rattle.lisp_admission.specs.Pairs.{notice_pair}
@@ -14,19 +10,17 @@ use Rattle.lisp_server.specs.Notices.{StandingNoticeValue, notice_at}
 use Rattle.lisp_server.specs.Server.{ServerState, empty_server}
 use Rattle.lisp_model.specs.declared.event.Event.TheVariants as events
 use Rattle.lisp_model.specs.declared.line.Line.{Line}
-use Rattle.lisp_model.specs.Trace.{Step, Opening, sites, shown_store, clock}
-use Rattle.lisp_model.specs.Held.{Acceptance, last_of, held_row}
-use Rattle.lisp_model.specs.Timers.{Notice, notices, notice_to, last_notice}
+use Rattle.lisp_model.specs.Trace.{Step, Opening, sites, shown_store, clock, ShownStore}
+use Rattle.lisp_model.specs.Timers.{notices, notice_to, last_notice}
 use Rattle.lisp_model.specs.Bag.{bag, since_start}
 use Rattle.lisp_model.specs.Life.{began}
-use Rattle.lisp_model.specs.Legal.{Legal, MayCome, context_of}
+use Rattle.lisp_model.specs.Legal.{MayCome, context_of}
 use Rattle.lisp_model.specs.Reloading.{IsReloaded}
 use Rattle.lisp_refinement.specs.World.{ServerNodeState, WorldState}
 use Rattle.lisp_refinement.specs.Events.{reload_line, NetworkReloads}
-use Rattle.lisp_refinement.specs.Stands.{Shows, SameNotice, StandsForServer, Stands, StandsAfter}
-use Rattle.lisp_refinement.proofs.Gets.{none_is_some}
+use Rattle.lisp_refinement.specs.Stands.{Shows, SameNotice, StandsForServer, Stands}
 use Rattle.lisp_refinement.proofs.Acting.{here, notice_goes, adds_none, server_is, server_acts}
-use Rattle.lisp_refinement.proofs.Restarting.{no_row, no_nonce, no_notice}
+use Rattle.lisp_refinement.proofs.Restarting.{fresh_stands}
 
 module _ (old new : WorldState) (server : ℕ) (given : List SiteValue) (line : Line) (turn : NetworkReloads old new server given line) (o : Opening) (T : List Step) (stand : Stands old o T) where
   -- the Map-Server before, and afterwards
@@ -43,28 +37,18 @@ module _ (old new : WorldState) (server : ℕ) (given : List SiteValue) (line : 
   abbrev step : Bool → Step
   step kept = record { event = events.Reload server given; line = reload_line server kept (length given); actor = server; shown = shown_store o T server }
 
-  shows : Shows after.store (shown_store o T server)
-  shows = subst (λ store. Shows store (shown_store o T server)) (sym turn.reloads.store) (stand.steps.server_stores server before turn.acts.was)
-
-  -- whether it keeps what it holds is as the trace has it
-  keeps : (kept : Bool) → extends before.core.sites given ≡ kept → extends (sites o T server) given ≡ kept
-  keeps kept is = ap (λ (has : List SiteValue). extends has given) (sym part.sites) ∙ is
-
   reloads : (kept : Bool) → extends before.core.sites given ≡ kept → IsReloaded (context_of o T (step kept)) server given kept server (length given)
   reloads kept is = record {
     acts = record { kind = server_is old o T stand server before turn.acts.was; acts = refl };
     names = refl;
     counts = refl;
-    keeps = keeps kept is;
+    keeps = ap (λ (has : List SiteValue). extends has given) (sym part.sites) ∙ is;
     same = refl;
   }
 
   row : (kept : Bool) → extends before.core.sites given ≡ kept → MayCome (context_of o T (step kept)) (events.Reload server given) (reload_line server kept (length given))
   row true is = reloads true is
   row false is = reloads false is
-
-  legal : (kept : Bool) → extends before.core.sites given ≡ kept → Legal o T (step kept)
-  legal kept is = record { faults = λ other. omega arith; obedient = refl; row = row kept is }
 
   -- the sites are the given ones
   takes : (kept : Bool) → sites o (step kept ∷ T) server ≡ given
@@ -101,45 +85,25 @@ module _ (old new : WorldState) (server : ℕ) (given : List SiteValue) (line : 
     abbrev later : List Step
     later = step false ∷ T
 
-    fresh_core : after.core ≡ empty_server given
-    fresh_core = core_is false is
-
-    -- nothing was accepted since, and no notice stands
-    forgets : since_start o later server ≡ []
-    forgets = here server [] (since_start o T server)
-
-    ends : notices o later server ≡ []
-    ends = here server [] (notices o T server)
-
     fresh_part : StandsForServer o later server after
-    fresh_part = record {
-      sites = ap (λ (c : ServerState). c.sites) fresh_core ∙ sym (takes false);
-      rows = λ router eid. ap (λ (c : ServerState). option_and_then (if_alive (clock later)) (row_at c.rows router eid)) fresh_core ∙ no_row (clock later) router eid
-          ∙ ap (λ (all : List Acceptance). held_row all router eid (clock later)) (sym forgets);
-      nonces = λ pair other. ap (λ (c : ServerState). nonce_at c.nonces pair) fresh_core ∙ no_nonce pair ∙ ap (λ (all : List Acceptance). last_of pair all) (sym forgets);
-      notice_nonce = ap (λ (c : ServerState). nonce_at c.nonces notice_pair) fresh_core ∙ no_nonce notice_pair ∙ sym (here server None (last_notice T server));
-      contacts = λ router eid h held. absurd (none_is_some (ap (λ (all : List Acceptance). held_row all router eid (clock later)) (sym forgets) ∙ held));
-      notices = λ router. subst (λ (p : List Notice × List StandingNoticeValue). SameNotice o later server (find (λ n. router_eq n.router router) p.0) (notice_at p.1 router))
-          (λ i. (sym ends i, ap (λ (c : ServerState). c.notices) (sym fresh_core) i)) (no_notice o later server router);
-      started = life_is false is ∙ stand.bag.moment ∙ sym (here server (clock T) (began T server));
-    }
+    fresh_part = fresh_stands o later server after given
+        (core_is false is) (sym (takes false)) (here server [] (since_start o T server)) (here server [] (notices o T server)) (here server None (last_notice T server))
+        (life_is false is ∙ stand.bag.moment ∙ sym (here server (clock T) (began T server)))
 
   -- the network stands for the trace with the step
   stands : (kept : Bool) → extends before.core.sites given ≡ kept → StandsForServer o (step kept ∷ T) server after → Stands new o (record (step kept) { line = line } ∷ T)
   stands kept is its = subst (λ (l : Line). Stands new o (record (step kept) { line = l } ∷ T)) (sym (turn.said ∙ ap (λ (b : Bool). reload_line server b (length given)) is))
-      (server_acts old new server [] turn.acts o T (step kept) stand refl refl (legal kept is) (adds_none o T (step kept) (added kept)) shows its)
+      (server_acts old new server [] turn.acts o T (step kept) stand refl refl (
+          (record { faults = λ other. omega arith; obedient = refl; row = row kept is })) (adds_none o T (step kept) (added kept))
+          (subst (λ store. Shows store (shown_store o T server)) (sym turn.reloads.store) (stand.steps.server_stores server before turn.acts.was)) its)
     where
       added : (b : Bool) → bag o (step b ∷ T) ≡ bag o T ++ []
       added true = refl
       added false = refl
 
-  pub stands_here : Stands new o (record { event = events.Reload server given; line = line; actor = server; shown = shown_store o T server } ∷ T)
-  stands_here = by (extends before.core.sites given) refl
+  pub reload_stands : (actor : ℕ) × (s : ShownStore) × Stands new o (record { event = events.Reload server given; line = line; actor = actor; shown = s } ∷ T)
+  reload_stands = (server, shown_store o T server, by (extends before.core.sites given) refl)
     where
       by : (kept : Bool) → extends before.core.sites given ≡ kept → Stands new o (record { event = events.Reload server given; line = line; actor = server; shown = shown_store o T server } ∷ T)
       by true is = stands true is (kept_part is)
       by false is = stands false is (fresh_part is)
-
--- a network stands for a trace with a reload
-pub reload_stands : (old new : WorldState) (server : ℕ) (given : List SiteValue) (line : Line) → NetworkReloads old new server given line → StandsAfter old new (events.Reload server given) line
-reload_stands old new server given line turn o T stand = (server, shown_store o T server, stands_here old new server given line turn o T stand)

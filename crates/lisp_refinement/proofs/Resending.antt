@@ -1,35 +1,32 @@
 -- A Map-Server sends a notice again.
-use Rattle.std.proofs.Common.{◌≡◌, ◌≢◌, ℕ, ◌+◌, Bool, cond, List, [], ◌∷◌, ◌++◌, length, map, slice_index_or, Option, Some, None, Result, Ok, Err, refl, sym, ap, subst, ◌∙◌, inl, inr, arith}
-use Rattle.std.specs.Prelude.{◌⊎◌, slice_get}
+use Rattle.std.proofs.Common.{◌≡◌, ℕ, ◌+◌, Bool, cond, List, [], ◌∷◌, ◌++◌, length, map, slice_index_or, Option, Some, None, Result, Ok, Err, refl, sym, ap, subst, ◌∙◌, arith}
+use Rattle.std.specs.Prelude.{slice_get}
 use Rattle.std.specs.Option.{option_map, option_and_then, option_to_list}
 use Rattle.std.proofs.lemmas.Option.{slice_get_within, slice_get-get_or}
 use Rattle.lisp_records.specs.declared.address.Addr.{Addr}
 use Rattle.lisp_records.specs.declared.router.RouterId.{RouterId}
 use Rattle.lisp_admission.specs.declared.notice_fault.NoticeFault.{NoticeFault}
 use Rattle.lisp_admission.specs.declared.notice_fault.NoticeFault.TheVariants as notice_faults
-use Rattle.lisp_admission.specs.Pairs.{notice_pair}
-use Rattle.lisp_server.specs.LastNonces.{nonce_at}
-use Rattle.lisp_server.specs.Server.{ServerState}
 use Rattle.lisp_admission.specs.NoticeTimer.{due_after, gaps, has_come}
-use Rattle.lisp_server.specs.Notices.{StandingNoticeValue, notice_at, is_due_at, is_due as standing_due, resent, Resends, RefusesResend}
+use Rattle.lisp_server.specs.Notices.{StandingNoticeValue, notice_at, is_due_at, is_due as standing_due, Resends, RefusesResend}
 use Rattle.lisp_model.specs.declared.event.Event.TheVariants as events
 use Rattle.lisp_model.specs.declared.line.Line.{Line}
 use Rattle.lisp_model.specs.declared.line.Line.TheVariants as lines
 use Rattle.lisp_model.specs.declared.refusal.Refusal.TheVariants as refusals
-use Rattle.lisp_model.specs.Trace.{Step, Opening, router_at, shown_store, clock}
+use Rattle.lisp_model.specs.Trace.{Step, Opening, router_at, shown_store, clock, ShownStore}
 use Rattle.lisp_model.specs.Timers.{Notice, notices, notice_to, is_due, resent_at}
 use Rattle.lisp_model.specs.Bag.{Item, bag}
 use Rattle.lisp_model.specs.Context.{IsAtServer}
 use Rattle.lisp_model.specs.Notifying.{RefusesToResend}
-use Rattle.lisp_model.specs.Legal.{Legal, context_of}
+use Rattle.lisp_model.specs.Legal.{context_of}
 use Rattle.lisp_model.proofs.Locality.{same_number}
 use Rattle.lisp_messages.specs.Message.{IsMessage}
 use Rattle.lisp_refinement.specs.World.{DatagramValue, ServerNodeState, WorldState}
 use Rattle.lisp_refinement.specs.Events.{address_of, NodeResends, SaysResendAnswer, NetworkResends}
-use Rattle.lisp_refinement.specs.Stands.{Shows, IsStanding, SameNotice, StandsForServer, Stands, StandsAfter}
+use Rattle.lisp_refinement.specs.Stands.{Shows, IsStanding, SameNotice, StandsForServer, Stands}
 use Rattle.lisp_refinement.proofs.Acting.{Adds, adds_none, adds_one, server_is, address_is, server_acts, notice_goes}
 use Rattle.lisp_refinement.proofs.Gets.{get_before}
-use Rattle.lisp_refinement.proofs.NoticeParts.{its_me, known_router, same_or_other, found, found_again, its_router, sent_again_own, others_again, kept_stands, part_after}
+use Rattle.lisp_refinement.proofs.NoticeParts.{its_me, known_router, found, found_again, its_router, sent_again_own, others_again, kept_stands, part_stays, part_idle, each_router}
 
 -- the trace's notice is due where the server's is
 same_due : (o : Opening) (T : List Step) (server now : ℕ) (n : Option Notice) (kept : Option StandingNoticeValue) → SameNotice o T server n kept → is_due n now ≡ is_due_at now kept
@@ -64,20 +61,6 @@ module _ (old new : WorldState) (server router : ℕ) (line : Line) (turn : Netw
   shows : (said : Line) → Shows turn.acts.after.store (step said).shown
   shows said = subst (λ (n : ServerNodeState). Shows n.store (shown_store o T server)) (sym turn.rest) (stand.steps.server_stores server turn.acts.before turn.acts.was)
 
-  -- only its notices changed
-  its_core : turn.acts.after.core ≡ record turn.acts.before.core { nonces = turn.acts.after.core.nonces; notices = turn.acts.after.core.notices }
-  its_core =
-      let rest = ap (λ (n : ServerNodeState). n.core) turn.rest in
-      rest ∙ ap (λ nonces. record turn.acts.before.core { nonces = nonces; notices = turn.acts.after.core.notices }) (sym (ap (λ (c : ServerState). c.nonces) rest))
-
-  -- its nonces stay
-  its_nonces : turn.acts.after.core.nonces ≡ turn.acts.before.core.nonces
-  its_nonces = ap (λ (n : ServerNodeState). n.core.nonces) turn.rest
-
-  -- its life goes on
-  its_start : turn.acts.after.started ≡ turn.acts.before.started
-  its_start = ap (λ (n : ServerNodeState). n.started) turn.rest
-
   -- it is sent again
   module _ (to : Addr) (bytes : List ℕ) (resends : Resends turn.acts.before.core.notices turn.acts.after.core.notices me old.clock to bytes) where
     -- the line
@@ -92,9 +75,51 @@ module _ (old new : WorldState) (server router : ℕ) (line : Line) (turn : Netw
     its_item : slice_get (bag o T) kept.0.datagram ≡ Some kept.2.item
     its_item = kept.2.sent
 
-    -- the step is legal
-    sent_legal : Legal o T (step sent)
-    sent_legal = record {
+    -- the bag has that item once more
+    sent_bag : bag o (step sent ∷ T) ≡ bag o T ++ kept.2.item ∷ []
+    sent_bag = ap (λ (n : Option Notice). bag o T ++ option_to_list (option_and_then (λ n. slice_get (bag o T) n.datagram) n)) kept.1 ∙ ap (λ (i : Option Item). bag o T ++ option_to_list i) its_item
+
+    -- its message has a spelling, as it was sent before
+    said_item : IsMessage kept.2.item.message
+    said_item = (stand.bag.each kept.0.datagram (slice_index_or old.bag kept.0.datagram any) kept.2.item (slice_get-get_or old.bag kept.0.datagram any (omega (arith, stand.bag.count, slice_get_within (bag o T) kept.0.datagram kept.2.item its_item))) its_item).message
+      where
+        any : DatagramValue
+        any = record { from = to; to = to; bytes = bytes }
+
+    -- what the trace has for a router afterwards
+    after_is : (other : RouterId) → notice_to o (step sent ∷ T) server other ≡ found other (map (resent_at me (clock T)) (notices o T server))
+    after_is other = ap (λ (b : Bool). found other (cond b (map (resent_at me (clock T)) (notices o T server)) (notices o T server))) (same_number server)
+
+    -- the notice is the router's
+    own_router : kept.0.router ≡ me
+    own_router = its_router me (notices o T server) kept.0 kept.1
+
+    -- so each router's does
+    each_notice : (other : RouterId) → SameNotice o (step sent ∷ T) server (notice_to o (step sent ∷ T) server other) (notice_at turn.acts.after.core.notices other)
+    each_notice = each_router (λ r. SameNotice o (step sent ∷ T) server (notice_to o (step sent ∷ T) server r) (notice_at turn.acts.after.core.notices r)) me (
+        let here = after_is me ∙ found_again me me (clock T) (notices o T server) ∙ ap (option_map (resent_at me (clock T))) kept.1 ∙ ap Some (sent_again_own me (clock T) kept.0 own_router) in
+        let there = ap (notice_at turn.acts.after.core.notices) (sym (kept.2.router ∙ own_router)) ∙ resends.after.here in
+        rw (here, there) (record {
+          router = kept.2.router;
+          key = kept.2.key;
+          nonce = kept.2.nonce;
+          item = kept.2.item;
+          sent = ap (λ (items : List Item). slice_get items kept.0.datagram) sent_bag ∙ get_before (bag o T) (kept.2.item ∷ []) kept.0.datagram kept.2.item its_item;
+          from = kept.2.from;
+          to = kept.2.to;
+          bytes = kept.2.bytes;
+          earlier = kept.0.moments;
+          moments = ap (λ (now : ℕ). now ∷ kept.0.moments) (sym stand.bag.moment);
+          resends = (let longer = ap length kept.2.moments in omega (arith, longer, kept.2.resends));
+        }))
+      (λ other differ.
+        let here = after_is other ∙ others_again me other (clock T) (notices o T server) differ in
+        let there = resends.after.others other (λ same. differ (same ∙ kept.2.router ∙ own_router)) in
+        rw (here, there) (notice_goes o T (step sent ∷ T) server ((kept.2.item ∷ []), sent_bag) (notice_to o T server other) (notice_at turn.acts.before.core.notices other) (part.notices other)))
+
+    -- and so does the network
+    sent_stands : turn.more ≡ record { from = address_of old server; to = to; bytes = bytes } ∷ [] → Stands new o (step sent ∷ T)
+    sent_stands posts = server_acts old new server turn.more turn.acts o T (step sent) stand refl refl (record {
       faults = λ other. omega arith;
       obedient = refl;
       row = (
@@ -108,79 +133,13 @@ module _ (old new : WorldState) (server router : ℕ) (line : Line) (turn : Netw
           same = refl;
         },
       );
-    }
-
-    -- the bag has that item once more
-    sent_bag : bag o (step sent ∷ T) ≡ bag o T ++ kept.2.item ∷ []
-    sent_bag = ap (λ (n : Option Notice). bag o T ++ option_to_list (option_and_then (λ n. slice_get (bag o T) n.datagram) n)) kept.1 ∙ ap (λ (i : Option Item). bag o T ++ option_to_list i) its_item
-
-    -- its message has a spelling, as it was sent before
-    said_item : IsMessage kept.2.item.message
-    said_item = (stand.bag.each kept.0.datagram (slice_index_or old.bag kept.0.datagram any) kept.2.item (slice_get-get_or old.bag kept.0.datagram any (omega (arith, stand.bag.count, slice_get_within (bag o T) kept.0.datagram kept.2.item its_item))) its_item).message
-      where
-        any : DatagramValue
-        any = record { from = to; to = to; bytes = bytes }
-
-    -- the datagram carries the item
-    sent_adds : Adds o T (step sent) (record { from = address_of old server; to = to; bytes = bytes } ∷ [])
-    sent_adds = adds_one o T (step sent) (record { from = address_of old server; to = to; bytes = bytes }) kept.2.item sent_bag (record {
-      from = address_is old o T stand server ∙ sym kept.2.from;
-      to = resends.address ∙ kept.2.to;
-      bytes = resends.datagram ∙ kept.2.bytes;
-      message = said_item;
-    })
-
-    -- what the trace has for a router afterwards
-    after_is : (other : RouterId) → notice_to o (step sent ∷ T) server other ≡ found other (map (resent_at me (clock T)) (notices o T server))
-    after_is other = ap (λ (b : Bool). found other (cond b (map (resent_at me (clock T)) (notices o T server)) (notices o T server))) (same_number server)
-
-    -- the notice is the router's
-    own_router : kept.0.router ≡ me
-    own_router = its_router me (notices o T server) kept.0 kept.1
-
-    -- it stands with one sending more
-    own_standing : IsStanding o (step sent ∷ T) server (record kept.0 { moments = clock T ∷ kept.0.moments }) (resent old.clock resends.notice)
-    own_standing = record {
-      router = kept.2.router;
-      key = kept.2.key;
-      nonce = kept.2.nonce;
-      item = kept.2.item;
-      sent = ap (λ (items : List Item). slice_get items kept.0.datagram) sent_bag ∙ get_before (bag o T) (kept.2.item ∷ []) kept.0.datagram kept.2.item its_item;
-      from = kept.2.from;
-      to = kept.2.to;
-      bytes = kept.2.bytes;
-      earlier = kept.0.moments;
-      moments = ap (λ (now : ℕ). now ∷ kept.0.moments) (sym stand.bag.moment);
-      resends = (let longer = ap length kept.2.moments in omega (arith, longer, kept.2.resends));
-    }
-
-    -- the router's notice stands on both sides
-    own_notice : SameNotice o (step sent ∷ T) server (notice_to o (step sent ∷ T) server me) (notice_at turn.acts.after.core.notices me)
-    own_notice =
-        let here = after_is me ∙ found_again me me (clock T) (notices o T server) ∙ ap (option_map (resent_at me (clock T))) kept.1 ∙ ap Some (sent_again_own me (clock T) kept.0 own_router) in
-        let there = ap (notice_at turn.acts.after.core.notices) (sym (kept.2.router ∙ own_router)) ∙ resends.after.here in
-        rw (here, there) own_standing
-
-    -- another router's notice stands as before
-    other_notice : (other : RouterId) → other ≢ me → SameNotice o (step sent ∷ T) server (notice_to o (step sent ∷ T) server other) (notice_at turn.acts.after.core.notices other)
-    other_notice other differ =
-        let here = after_is other ∙ others_again me other (clock T) (notices o T server) differ in
-        let there = resends.after.others other (λ same. differ (same ∙ kept.2.router ∙ own_router)) in
-        rw (here, there) (notice_goes o T (step sent ∷ T) server ((kept.2.item ∷ []), sent_bag) (notice_to o T server other) (notice_at turn.acts.before.core.notices other) (part.notices other))
-
-    -- so each router's does
-    each_notice : (other : RouterId) → (other ≡ me) ⊎ (other ≢ me) → SameNotice o (step sent ∷ T) server (notice_to o (step sent ∷ T) server other) (notice_at turn.acts.after.core.notices other)
-    each_notice other (inl same) = subst (λ (r : RouterId). SameNotice o (step sent ∷ T) server (notice_to o (step sent ∷ T) server r) (notice_at turn.acts.after.core.notices r)) (sym same) own_notice
-    each_notice other (inr differ) = other_notice other differ
-
-    -- the Map-Server stands for the trace with the step
-    sent_part : StandsForServer o (step sent ∷ T) server turn.acts.after
-    sent_part = part_after o T (step sent) server turn.acts.before turn.acts.after part (time sent) refl refl its_core (its_start ∙ part.started)
-        (λ pair differ. ap (λ nonces. nonce_at nonces pair) its_nonces) (ap (λ nonces. nonce_at nonces notice_pair) its_nonces ∙ part.notice_nonce) (λ other. each_notice other (same_or_other other me))
-
-    -- and so does the network
-    sent_stands : turn.more ≡ record { from = address_of old server; to = to; bytes = bytes } ∷ [] → Stands new o (step sent ∷ T)
-    sent_stands posts = server_acts old new server turn.more turn.acts o T (step sent) stand refl refl sent_legal (subst (λ (more : List DatagramValue). Adds o T (step sent) more) (sym posts) sent_adds) (shows sent) sent_part
+    }) (subst (λ (more : List DatagramValue). Adds o T (step sent) more) (sym posts)
+        (adds_one o T (step sent) (record { from = address_of old server; to = to; bytes = bytes }) kept.2.item sent_bag (record {
+          from = address_is old o T stand server ∙ sym kept.2.from;
+          to = resends.address ∙ kept.2.to;
+          bytes = resends.datagram ∙ kept.2.bytes;
+          message = said_item;
+        }))) (shows sent) (part_stays o T (step sent) server turn.acts.before turn.acts.after part (time sent) refl refl (ap (λ (n : ServerNodeState). n.core) turn.rest) (ap (λ (n : ServerNodeState). n.started) turn.rest) refl refl each_notice)
 
   -- it isn't
   module _ (fault : NoticeFault) (refuses : RefusesResend turn.acts.before.core.notices me old.clock fault) (same : turn.acts.after ≡ turn.acts.before) where
@@ -198,33 +157,19 @@ module _ (old new : WorldState) (server router : ℕ) (line : Line) (turn : Netw
     why notice_faults.OutOfMemory is = (was_due ∙ is, refl)
     why _ is = absurd is
 
-    -- the step is legal
-    refused_legal : Legal o T (step refused)
-    refused_legal = record { faults = λ other. omega arith; obedient = refl; row = (refl, acting refused, known_router old o T stand router turn.place turn.number turn.node turn.there, why fault refuses) }
-
-    -- nothing comes to the bag
-    refused_bag : bag o (step refused ∷ T) ≡ bag o T ++ []
-    refused_bag = refl
-
-    -- the Map-Server stands for the trace with the step
-    refused_part : StandsForServer o (step refused ∷ T) server turn.acts.after
-    refused_part = part_after o T (step refused) server turn.acts.before turn.acts.after part (time refused) refl refl its_core (its_start ∙ part.started)
-        (λ pair differ. ap (λ nonces. nonce_at nonces pair) its_nonces) (ap (λ nonces. nonce_at nonces notice_pair) its_nonces ∙ part.notice_nonce)
-        (λ other. subst (λ (n : ServerNodeState). SameNotice o (step refused ∷ T) server (notice_to o T server other) (notice_at n.core.notices other)) (sym same) (notice_goes o T (step refused ∷ T) server ([], refused_bag) (notice_to o T server other) (notice_at turn.acts.before.core.notices other) (part.notices other)))
-
     -- and so does the network
     refused_stands : turn.more ≡ [] → Stands new o (step refused ∷ T)
-    refused_stands posts = server_acts old new server turn.more turn.acts o T (step refused) stand refl refl refused_legal (subst (λ (more : List DatagramValue). Adds o T (step refused) more) (sym posts) (adds_none o T (step refused) refused_bag)) (shows refused) refused_part
+    refused_stands posts = server_acts old new server turn.more turn.acts o T (step refused) stand refl refl
+        (record { faults = λ other. omega arith; obedient = refl; row = (refl, acting refused, known_router old o T stand router turn.place turn.number turn.node turn.there, why fault refuses) })
+        (subst (λ (more : List DatagramValue). Adds o T (step refused) more) (sym posts) (adds_none o T (step refused) refl)) (shows refused) 
+            (part_idle o T (step refused) server turn.acts.before turn.acts.after part (time refused) refl refl (ap (λ (n : ServerNodeState). n.core) same) (ap (λ (n : ServerNodeState). n.started) same) refl refl refl refl)
 
   -- the notice was sent again, or not
   either : (answer : Result (Addr × List ℕ) NoticeFault) → NodeResends turn.acts.before turn.acts.after old.clock me answer → SaysResendAnswer old server router answer line turn.more → Stands new o (step line ∷ T)
   either (Ok sending) resends says = subst (λ (said : Line). Stands new o (step said ∷ T)) (sym says.0) (sent_stands sending.0 sending.1 resends says.1)
   either (Err fault) refuses says = subst (λ (said : Line). Stands new o (step said ∷ T)) (sym says.0) (refused_stands fault refuses.0 refuses.1 says.1)
 
-  -- the same by the router of the trace
-  resent_stands : Stands new o (step line ∷ T)
-  resent_stands = either turn.answer (subst (λ (r : RouterId). NodeResends turn.acts.before turn.acts.after old.clock r turn.answer) (its_me old o T stand router turn.place turn.number turn.node turn.there) turn.resends) turn.says
-
--- a notice that is sent again, or isn't, leaves a network that stands for the trace with the step
-pub resend_stands : (old new : WorldState) (server router : ℕ) (line : Line) → NetworkResends old new server router line → StandsAfter old new (events.Resend server router) line
-resend_stands old new server router line turn o T stand = (server, shown_store o T server, resent_stands old new server router line turn o T stand)
+  -- so the network stands for the trace with that step, by the router of the trace
+  pub resend_stands : (actor : ℕ) × (s : ShownStore) × Stands new o (record { event = events.Resend server router; line = line; actor = actor; shown = s } ∷ T)
+  resend_stands = (server, shown_store o T server,
+      either turn.answer (subst (λ (r : RouterId). NodeResends turn.acts.before turn.acts.after old.clock r turn.answer) (its_me old o T stand router turn.place turn.number turn.node turn.there) turn.resends) turn.says)

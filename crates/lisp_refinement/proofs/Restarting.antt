@@ -22,13 +22,13 @@ use Rattle.lisp_etr.proofs.TimerLaws.{rounds_keep_time}
 use Rattle.lisp_model.specs.declared.line.Line.{Line}
 use Rattle.lisp_model.specs.declared.line.Line.TheVariants as lines
 use Rattle.lisp_model.specs.declared.refusal.Refusal.TheVariants as refusals
-use Rattle.lisp_model.specs.Trace.{EventValue, ShownStore, Step, Opening, fate_of, router_at, address_at, etr_config, shown_store, clock, is_up, database, database_after}
+use Rattle.lisp_model.specs.Trace.{EventValue, ShownStore, Step, Opening, fate_of, router_at, address_at, etr_config, shown_store, clock, is_up, database, database_after, sites}
 use Rattle.lisp_model.specs.Timers.{RoundTimes, round, Notice, notices, last_notice}
 use Rattle.lisp_model.specs.Bag.{bag, since_start}
 use Rattle.lisp_model.specs.Context.{Rose, IsBase, Context, Restarts, Picks}
 use Rattle.lisp_model.specs.Counted.{latest_nonce, acked}
 use Rattle.lisp_model.specs.Sending.{pair_at, last_sent, start_values, CountsFrom}
-use Rattle.lisp_model.specs.Legal.{MayCome, is_restart, Legal}
+use Rattle.lisp_model.specs.Legal.{MayCome, is_restart}
 use Rattle.lisp_model.specs.Restarting.{StartCause, Fits}
 use Rattle.lisp_model.specs.Promises.{is_timeless}
 use Rattle.lisp_records.specs.declared.router.RouterId.{RouterId}
@@ -46,13 +46,15 @@ use Rattle.lisp_model.specs.declared.event.Event.TheVariants as events
 use Rattle.lisp_model.specs.Keys.{keys_since_loss, keys_before_loss}
 use Rattle.lisp_model.specs.Held.{Acceptance, last_of, held_row}
 use Rattle.lisp_model.specs.Life.{began}
-use Rattle.lisp_refinement.specs.World.{RouterCoreState, Up, Down, UsedKeysState, WorldState, RouterNodeState}
+use Rattle.lisp_refinement.specs.World.{RouterCoreState, Up, Down, UsedKeysState, WorldState, RouterNodeState, ServerNodeState}
 use Rattle.lisp_refinement.specs.Calls.{config_of, database_of, CoreStarts, CoreRefusesToStart, CoreAnswersStart, CoreAnswersStartOver, StoreRestarts}
 use Rattle.lisp_refinement.specs.Events.{RouterActs, NetworkRestartsServer, NetworkRestartsRouter, start_line}
-use Rattle.lisp_refinement.specs.Stands.{shown_by, Shows, StandsForRound, StandsForRounds, StandsForEtr, StandsForCore, StandsForKeys, StandsForRouter, Stands, StandsForServer, Marks, SameNotice, StandsAfter}
+use Rattle.lisp_refinement.specs.Stands.{shown_by, Shows, StandsForRound, StandsForRounds, StandsForCore, StandsForKeys, StandsForRouter, Stands, StandsForServer, Marks, SameNotice, StandsAfter}
 use Rattle.lisp_refinement.specs.Reopening.{StoreReopens, ServerReopens, RouterReopens}
 use Rattle.lisp_refinement.proofs.Gets.{get_replicate, none_is_some}
 use Rattle.lisp_refinement.proofs.Acting.{adds_none, router_acts, step_of, turn_at, RouterStep, acts_part, acts_shows, stands_by, here, server_is, server_acts, acts_router}
+use Rattle.lisp_policy.specs.Site.{SiteValue}
+use Rattle.lisp_refinement.specs.Nodes.{fresh_server}
 
 -- nothing was acknowledged
 abbrev nothing : Option (ℕ × ℕ)
@@ -81,6 +83,31 @@ module _ (o : Opening) (T U : List Step) (node : ℕ) (kept : Kept) (begins : Be
     keeps = subst (λ (y : RoundTimes). KeepsRoundTime r y.begin y.moments) (sym (begins.rounds server part)) (subst (λ a. KeepsRoundTime r a []) moment keeps);
     latest = none ∙ sym (begins.latest server part);
   }
+
+-- a router that started over a store stands for a trace in which it begins anew
+module _ (o : Opening) (T U : List Step) (node : ℕ) (config : EtrConfigValue) (registered : List MapRecordValue) (now : ℕ) (become store : StoreState) (core : RouterCoreState) (begins : BeginsAnew o T U node store.kept) (same : store.kept ≡ become.kept) (honest : IsTrue become.is_honest)
+    (up : is_up U node ≡ true) (settled : config ≡ etr_config o U node) (given : registered ≡ database o U node) (forgets : (server part : ℕ) → acked U node server part ≡ None) (moment : now ≡ clock T) (call : CoreStarts config registered now become store core) where
+  -- it counts from a value that its store keeps
+  counts : (base : Option ℕ) → Contains (kept_at become.kept (sent_pair config)) base → CountsFrom o U node base
+  counts base has = counts_anew o T U node store.kept begins config settled base (subst (λ (k : Kept). Contains (kept_at k (sent_pair config)) base) (sym same) has)
+
+  pub begun_stands : StandsForCore o U node core
+  begun_stands = subst (λ (c : RouterCoreState). StandsForCore o U node c) (sym call.up) (record {
+    up = up;
+    config = ap (λ (e : EtrState). e.config) call.starts ∙ settled;
+    database = ap (λ (e : EtrState). e.database) call.starts ∙ given;
+    last = (let is = call.last honest in (is.0, counts is.0 is.1, is.2));
+    safe = λ v has. omega (arith, ap (λ (e : EtrState). e.safe) call.starts);
+    count = ap (λ (e : EtrState). length e.rounds) call.starts ∙ length-replicate (length config.servers) (first_rounds now) ∙ ap (λ (c : EtrConfigValue). length c.servers) settled ∙ length-map (router_at o.config node).servers (address_at o.config);
+    rounds = λ i server rs lists has. subst (λ (x : Rounds). StandsForRounds U node server x)
+        (get_replicate (length config.servers) (first_rounds now) i rs (ap (λ (e : EtrState). slice_get e.rounds i) (sym call.starts) ∙ has)) ((record {
+          parts = length-replicate most_parts (first_round now);
+          acked_parts = length-replicate most_parts nothing;
+          round = λ place r has. subst (λ (x : Round). StandsForRound U node server place x) (get_replicate most_parts (first_round now) place r has)
+              (round_anew o T U node store.kept begins server place now (first_round now) moment (rounds_keep_time.start now) refl);
+          acked = λ place pair has. sym (get_replicate most_parts nothing place pair has) ∙ sym (forgets server place);
+        }));
+  })
 
 module _ (o : Opening) (T : List Step) (node : ℕ) where
   -- what a router was configured with
@@ -165,41 +192,11 @@ module _ (old new : WorldState) (node : ℕ) (acts : RouterActs old new node [])
       abbrev begun : List Step
       begun = step_of event node (shown_by acts.after.store) started ∷ T
 
-      -- it counts from a value that its store keeps
-      counts : (base : Option ℕ) → Contains (kept_at become.kept (sent_pair config)) base → CountsFrom o begun node base
-      counts base has = counts_anew o T begun node acts.after.store.kept by.begins config (by.settled started) base (subst (λ (k : Kept). Contains (kept_at k (sent_pair config)) base) (sym loaded) has)
-
-      -- each of its rounds has just begun
-      started_round : (server place : ℕ) → StandsForRound begun node server place (first_round old.clock)
-      started_round server place = round_anew o T begun node acts.after.store.kept by.begins server place old.clock (first_round old.clock) stand.bag.moment (rounds_keep_time.start old.clock) refl
-
-      -- and nothing was counted
-      started_rounds : (server : ℕ) → StandsForRounds begun node server (first_rounds old.clock)
-      started_rounds server = record {
-        parts = length-replicate most_parts (first_round old.clock);
-        acked_parts = length-replicate most_parts nothing;
-        round = λ place r has. subst (λ (x : Round). StandsForRound begun node server place x) (get_replicate most_parts (first_round old.clock) place r has) (started_round server place);
-        acked = λ place pair has. sym (get_replicate most_parts nothing place pair has) ∙ sym (by.forgets server place);
-      }
-
-      -- it stands
-      up_part : StandsForEtr o begun node call.etr
-      up_part = record {
-        up = by.up;
-        config = ap (λ (e : EtrState). e.config) call.starts ∙ by.settled started;
-        database = ap (λ (e : EtrState). e.database) call.starts ∙ by.given started;
-        last = (let is = call.last become_honest in (is.0, counts is.0 is.1, is.2));
-        safe = λ v has. omega (arith, ap (λ (e : EtrState). e.safe) call.starts);
-        count = ap (λ (e : EtrState). length e.rounds) call.starts ∙ length-replicate (length config.servers) (first_rounds old.clock) ∙ ap (λ (c : EtrConfigValue). length c.servers) (by.settled started) ∙ length-map (router_at o.config node).servers (address_at o.config);
-        rounds = λ i server rs lists has. subst (λ (x : Rounds). StandsForRounds begun node server x)
-            (get_replicate (length config.servers) (first_rounds old.clock) i rs (ap (λ (e : EtrState). slice_get e.rounds i) (sym call.starts) ∙ has)) (started_rounds server);
-      }
-
       -- the network stands
       up_stands : line ≡ started → Stands new o begun
       up_stands said = router_acts old new node [] acts o T (step_of event node (shown_by acts.after.store) started) stand refl by.timeless
           (record { faults = λ other. count (ap is_restart said ∙ other); obedient = obedient; row = by.up_row }) (adds_none o T _ by.up_adds) after_shows
-          (around started (subst (λ (c : RouterCoreState). StandsForCore o begun node c) (sym call.up) up_part))
+          (around started (begun_stands o T begun node config registered old.clock become acts.after.store acts.after.core by.begins loaded become_honest by.up (by.settled started) (by.given started) by.forgets stand.bag.moment call))
 
     -- it doesn't, and is down
     module _ (fault : StartFault) (said : line ≡ not_started node fault) (fails : CoreRefusesToStart config registered become acts.after.store acts.after.core fault) where
@@ -249,7 +246,7 @@ crash_picks : (old new : StoreState) (pick : ℕ) (before : ShownStore) → Stor
 crash_picks old new pick before crashes shows obeys q = subst (λ (k : Kept). kept_at new.kept q ≡ picked (kept_at k q) pick ∷ []) shows.kept (crashes.picks (subst (λ (b : Bool). IsTrue b) (sym shows.obedient) obeys) q)
 
 -- a server that has just started holds nothing
-pub no_row : (now : ℕ) (router : RouterId) (eid : PrefixValue) → option_and_then (if_alive now) (row_at [] router eid) ≡ None
+no_row : (now : ℕ) (router : RouterId) (eid : PrefixValue) → option_and_then (if_alive now) (row_at [] router eid) ≡ None
 unfolding row_at
 no_row now router eid = refl
 
@@ -259,9 +256,24 @@ unfolding nonce_at
 no_nonce pair = get-empty pair_cmp pair
 
 -- nor any notice
-pub no_notice : (o : Opening) (T : List Step) (node : ℕ) (router : RouterId) → SameNotice o T node None (notice_at [] router)
+no_notice : (o : Opening) (T : List Step) (node : ℕ) (router : RouterId) → SameNotice o T node None (notice_at [] router)
 unfolding notice_at
 no_notice o T node router = tt
+
+-- a Map-Server that holds nothing stands for a trace that says so
+pub fresh_stands : (o : Opening) (U : List Step) (node : ℕ) (n : ServerNodeState) (given : List SiteValue) → n.core ≡ fresh_server given → given ≡ sites o U node → since_start o U node ≡ []
+    → notices o U node ≡ [] → last_notice U node ≡ None → n.started ≡ began U node → StandsForServer o U node n
+fresh_stands o U node n given core its forgets ends none started = record {
+  sites = ap (λ (c : ServerState). c.sites) core ∙ its;
+  rows = λ router eid. ap (λ (c : ServerState). option_and_then (if_alive (clock U)) (row_at c.rows router eid)) core ∙ no_row (clock U) router eid
+      ∙ ap (λ (all : List Acceptance). held_row all router eid (clock U)) (sym forgets);
+  nonces = λ pair other. ap (λ (c : ServerState). nonce_at c.nonces pair) core ∙ no_nonce pair ∙ ap (λ (all : List Acceptance). last_of pair all) (sym forgets);
+  notice_nonce = ap (λ (c : ServerState). nonce_at c.nonces notice_pair) core ∙ no_nonce notice_pair ∙ sym none;
+  contacts = λ router eid h is. absurd (none_is_some (ap (λ (all : List Acceptance). held_row all router eid (clock U)) (sym forgets) ∙ is));
+  notices = λ router. subst (λ (p : List Notice × List StandingNoticeValue). SameNotice o U node (find (λ n. router_eq n.router router) p.0) (notice_at p.1 router))
+      (λ i. (sym ends i, ap (λ (c : ServerState). c.notices) (sym core) i)) (no_notice o U node router);
+  started = started;
+}
 
 -- a Map-Server
 module _ (old new : WorldState) (node pick : ℕ) (line : Line) (restarts : ServerReopens old new node pick line) (o : Opening) (T : List Step) (stand : Stands old o T) where
@@ -273,56 +285,24 @@ module _ (old new : WorldState) (node pick : ℕ) (line : Line) (restarts : Serv
   store_before : Shows restarts.acts.before.store (shown_store o T node)
   store_before = stand.steps.server_stores node restarts.acts.before restarts.acts.was
 
-  -- the step is legal
-  server_legal : Legal o T server_step
-  server_legal = record {
-    faults = λ other. absurd (true≢false other);
-    obedient = restarts.reopens.obedient ∙ store_before.obedient;
-    row = record {
-      names = refl;
-      acts = refl;
-      kind = inl (server_is old o T stand node restarts.acts.before restarts.acts.was, refl);
-      fits = tt;
-      narrows = crash_narrows restarts.acts.before.store restarts.acts.after.store pick (shown_store o T node) restarts.reopens store_before;
-      picks = crash_picks restarts.acts.before.store restarts.acts.after.store pick (shown_store o T node) restarts.reopens store_before;
-    };
-  }
-
-  -- the trace with the step
-  abbrev later : List Step
-  later = server_step ∷ T
-
-  -- nothing was accepted since
-  forgets : since_start o later node ≡ []
-  forgets = here node [] (since_start o T node)
-
-  -- no notice stands
-  ends : notices o later node ≡ []
-  ends = here node [] (notices o T node)
-
-  -- the server stands
-  server_part : StandsForServer o later node restarts.acts.after
-  server_part = record {
-    sites = ap (λ (c : ServerState). c.sites) restarts.core ∙ (stand.servers node restarts.acts.before restarts.acts.was).sites;
-    rows = λ router eid. ap (λ (c : ServerState). option_and_then (if_alive (clock later)) (row_at c.rows router eid)) restarts.core ∙ no_row (clock later) router eid
-        ∙ ap (λ (all : List Acceptance). held_row all router eid (clock later)) (sym forgets);
-    nonces = λ pair other. ap (λ (c : ServerState). nonce_at c.nonces pair) restarts.core ∙ no_nonce pair ∙ ap (λ (all : List Acceptance). last_of pair all) (sym forgets);
-    notice_nonce = ap (λ (c : ServerState). nonce_at c.nonces notice_pair) restarts.core ∙ no_nonce notice_pair ∙ sym (here node None (last_notice T node));
-    contacts = λ router eid h is. absurd (none_is_some (ap (λ (all : List Acceptance). held_row all router eid (clock later)) (sym forgets) ∙ is));
-    notices = λ router. subst (λ (p : List Notice × List StandingNoticeValue). SameNotice o later node (find (λ n. router_eq n.router router) p.0) (notice_at p.1 router))
-        (λ i. (sym ends i, ap (λ (c : ServerState). c.notices) (sym restarts.core) i)) (no_notice o later node router);
-    started = restarts.started ∙ stand.bag.moment ∙ sym (here node (clock T) (began T node));
-  }
-
-  -- and so does all
-  server_here : Stands new o (restart node pick None restarts.acts.after.store line ∷ T)
-  server_here = subst (λ (l : Line). Stands new o (restart node pick None restarts.acts.after.store l ∷ T)) (sym restarts.said)
-      (server_acts old new node [] restarts.acts o T server_step stand refl refl server_legal (adds_none o T server_step refl)
-      (record { honest = stays_honest restarts.acts.before.store restarts.acts.after.store restarts.reopens.honest store_before.honest; kept = refl; faults = refl; obedient = refl }) server_part)
-
--- a network stands for a trace with a restart of a Map-Server over a store that it opened anew
-pub reopen_server_stands : (old new : WorldState) (node pick : ℕ) (line : Line) → ServerReopens old new node pick line → StandsAfter old new (events.Restart node pick None) line
-reopen_server_stands old new node pick line restarts o T stand = (node, shown_by restarts.acts.after.store, server_here old new node pick line restarts o T stand)
+  -- so the network stands for the trace with that step
+  pub reopen_server_stands : (actor : ℕ) × (s : ShownStore) × Stands new o (record { event = events.Restart node pick None; line = line; actor = actor; shown = s } ∷ T)
+  reopen_server_stands = (node, shown_by restarts.acts.after.store, subst (λ (l : Line). Stands new o (restart node pick None restarts.acts.after.store l ∷ T)) (sym restarts.said)
+      (server_acts old new node [] restarts.acts o T server_step stand refl refl (record {
+        faults = λ other. absurd (true≢false other);
+        obedient = restarts.reopens.obedient ∙ store_before.obedient;
+        row = record {
+          names = refl;
+          acts = refl;
+          kind = inl (server_is old o T stand node restarts.acts.before restarts.acts.was, refl);
+          fits = tt;
+          narrows = crash_narrows restarts.acts.before.store restarts.acts.after.store pick (shown_store o T node) restarts.reopens store_before;
+          picks = crash_picks restarts.acts.before.store restarts.acts.after.store pick (shown_store o T node) restarts.reopens store_before;
+        };
+      }) (adds_none o T server_step refl)
+      (record { honest = stays_honest restarts.acts.before.store restarts.acts.after.store restarts.reopens.honest store_before.honest; kept = refl; faults = refl; obedient = refl })
+      (fresh_stands o (server_step ∷ T) node restarts.acts.after restarts.acts.before.core.sites restarts.core (stand.servers node restarts.acts.before restarts.acts.was).sites
+      (here node [] (since_start o T node)) (here node [] (notices o T node)) (here node None (last_notice T node)) (restarts.started ∙ stand.bag.moment ∙ sym (here node (clock T) (began T node))))))
 
 -- a crash of a schedule leaves a store as one that is opened anew
 reopened : (old new : StoreState) (pick : ℕ) → StoreRestarts old new pick → StoreReopens old new pick
@@ -396,44 +376,36 @@ module _ (old new : WorldState) (node pick : ℕ) (db : Option (List MapRecordVa
   given_case l None = database_known o T node before.core stood.core
   given_case l (Some other) = sym (here node other (database o T node))
 
-  -- the step is legal, and it starts the router
-  starts_by : StartsBy o T event node (shown_by after.store) (lines.Restarted node) config registered after.used
-  starts_by = record {
-    timeless = refl;
-    settled = λ l. config_known o T node before.core stood.core;
-    given = λ l. given_case l db;
-    keys = λ l. record {
-      since_loss = subst (λ (used : UsedKeysState). Marks used.since_loss (keys_since_loss o T node)) (sym restarts.used) stood.used.since_loss;
-      before_loss = subst (λ (used : UsedKeysState). Marks used.before_loss (keys_before_loss o T node)) (sym restarts.used) stood.used.before_loss;
-    };
-    up = here node true (is_up T node);
-    begins = record {
-      last = here node None (last_sent T node);
-      values = here node (kept_at after.store.kept (pair_at o T node)) (start_values o T node);
-      rounds = λ server part. here node _ (round T node server part);
-      latest = λ server part. here node 0 (latest_nonce T node server part);
-    };
-    forgets = λ server part. here node None (acked T node server part);
-    up_adds = refl;
-    up_row = record { names = refl; acts = refl; kind = inr (acts_router old new node [] restarts.acts o T stand); fits = fits; narrows = narrows; picks = picks };
-    down = λ fault. here node false (is_up T node);
-    down_adds = λ fault. refl;
-    down_row = λ fault cause. record { names = refl; acts = refl; kind = acts_router old new node [] restarts.acts o T stand; fits = fits; narrows = narrows; picks = picks; cause = cause };
-  }
-
   -- the line is that of the answer
   said : (answer : Result (Unit {0}) StartFault) → start_line node answer ≡ answer_line node (lines.Restarted node) answer
   said (Ok done) = refl
   said (Err fault) = refl
 
-  -- so the network stands
-  restart_here : Stands new o (step_of event node (shown_by after.store) line ∷ T)
-  restart_here = start_stands old new node restarts.acts o T stand crashed line becomes config registered restarts.answer restarts.starts
-      event (lines.Restarted node) starts_by restarts.me restarts.servers (restarts.said ∙ said restarts.answer)
-
--- a network stands for a trace with a restart of a router over a store that it opened anew
-pub reopen_router_stands : (old new : WorldState) (node pick : ℕ) (db : Option (List MapRecordValue)) (line : Line) → Fits db → RouterReopens old new node pick db line → StandsAfter old new (events.Restart node pick db) line
-reopen_router_stands old new node pick db line fits restarts o T stand = (node, shown_by restarts.acts.after.store, restart_here old new node pick db line fits restarts o T stand)
+  -- so the network stands for the trace with that step
+  pub reopen_router_stands : (actor : ℕ) × (s : ShownStore) × Stands new o (step_of event actor s line ∷ T)
+  reopen_router_stands = (node, shown_by after.store, start_stands old new node restarts.acts o T stand crashed line becomes config registered restarts.answer restarts.starts
+      event (lines.Restarted node) (record {
+        timeless = refl;
+        settled = λ l. config_known o T node before.core stood.core;
+        given = λ l. given_case l db;
+        keys = λ l. record {
+          since_loss = subst (λ (used : UsedKeysState). Marks used.since_loss (keys_since_loss o T node)) (sym restarts.used) stood.used.since_loss;
+          before_loss = subst (λ (used : UsedKeysState). Marks used.before_loss (keys_before_loss o T node)) (sym restarts.used) stood.used.before_loss;
+        };
+        up = here node true (is_up T node);
+        begins = record {
+          last = here node None (last_sent T node);
+          values = here node (kept_at after.store.kept (pair_at o T node)) (start_values o T node);
+          rounds = λ server part. here node _ (round T node server part);
+          latest = λ server part. here node 0 (latest_nonce T node server part);
+        };
+        forgets = λ server part. here node None (acked T node server part);
+        up_adds = refl;
+        up_row = record { names = refl; acts = refl; kind = inr (acts_router old new node [] restarts.acts o T stand); fits = fits; narrows = narrows; picks = picks };
+        down = λ fault. here node false (is_up T node);
+        down_adds = λ fault. refl;
+        down_row = λ fault cause. record { names = refl; acts = refl; kind = acts_router old new node [] restarts.acts o T stand; fits = fits; narrows = narrows; picks = picks; cause = cause };
+      }) restarts.me restarts.servers (restarts.said ∙ said restarts.answer))
 
 -- a store that goes on counts on, whether the router starts or not
 counts_on : {less more : ℕ} (answer : Result (Unit {0}) StartFault) → less ≤ more → IfErr answer (λ fault. less ≤ more)

@@ -8,7 +8,7 @@ use Rattle.std.proofs.lemmas.Bool.Decides.{Decides-eqb}
 use Rattle.std.proofs.lemmas.List.{length-map, length-set}
 use Rattle.std.proofs.lemmas.Option.{slice_get_within, slice_get-get_or}
 use Rattle.lisp_records.specs.Database.{database_of}
-use Rattle.lisp_records.specs.Parts.{most_parts, part_count, part_at}
+use Rattle.lisp_records.specs.Parts.{part_count, part_at}
 use Rattle.lisp_records.specs.Record.{MapRecordValue}
 use Rattle.lisp_messages.specs.declared.head.Head.{Head}
 use Rattle.lisp_messages.specs.Head.{head_at}
@@ -35,17 +35,17 @@ use Rattle.lisp_model.specs.declared.refusal.Refusal.TheVariants as refusals
 use Rattle.lisp_model.specs.Trace.{EventValue, ShownStore, Step, Opening, address_at, is_server, is_router, is_listed, router_at, etr_config, database, shown_store}
 use Rattle.lisp_model.specs.Bag.{bytes_of, register_item}
 use Rattle.lisp_model.specs.Context.{Context, Same, SameOthers, MaySave, Saves, SaveFails, IsBase, Rose, values, values_after}
-use Rattle.lisp_model.specs.Sending.{pair_at, last_sent, start_values, CountsFrom, HasPart, IsSent, NotSaved, MaySend, RefusesToSend}
+use Rattle.lisp_model.specs.Sending.{pair_at, last_sent, start_values, CountsFrom, HasPart, NotSaved, MaySend, RefusesToSend}
 use Rattle.lisp_model.specs.Legal.{MayCome}
 use Rattle.lisp_model.proofs.HearingLemmas.{find_true}
 use Rattle.lisp_model.proofs.Locality.{same_number}
 use Rattle.lisp_refinement.specs.World.{DatagramValue, RouterNodeState, RouterCoreState, Up, Down, WorldState}
 use Rattle.lisp_refinement.specs.Calls.{CoreSends, IsSendFaultOf, CoreRefusesToSend, CoreAnswersSend}
-use Rattle.lisp_refinement.specs.Events.{address_of, place_of, SaysSendAnswer, UpRouterSends, RouterSends, NetworkSends}
-use Rattle.lisp_refinement.specs.Stands.{shown_by, Shows, Carries, StandsForRounds, StandsForEtr, StandsForCore, StandsForKeys, StandsForRouter, Stands, StandsAfter}
-use Rattle.lisp_refinement.proofs.Acting.{adds_none, adds_one, by_fate, Shown-in, uses_shown, address_is, step_of, turn_at, shown_now, RouterStep, moved, acts_router, acts_part, acts_shows, acts_once, stands_by, sent_here, sent_there, rounds_set}
+use Rattle.lisp_refinement.specs.Events.{address_of, place_of, SaysSendAnswer, RouterSends, NetworkSends}
+use Rattle.lisp_refinement.specs.Stands.{shown_by, Carries, StandsForEtr, StandsForCore, StandsForRouter, Stands}
+use Rattle.lisp_refinement.proofs.Acting.{adds_none, adds_one, by_fate, Shown-in, uses_shown, address_is, step_of, turn_at, shown_now, RouterStep, moved, acts_router, acts_part, acts_shows, acts_once, down_step, stands_by, up_stays, sent_here, sent_there, rounds_set}
 use Rattle.lisp_refinement.proofs.Heads.{head_written}
-use Rattle.lisp_refinement.proofs.Places.{few_parts, rounds_stay, Placed, first_place, any_found}
+use Rattle.lisp_refinement.proofs.Places.{few_parts, Placed, first_place, any_found}
 
 -- the place of a server in a list, or none
 abbrev HasPlace : List ℕ → ℕ → ℕ → Type 0
@@ -126,10 +126,6 @@ module _ (old : WorldState) (o : Opening) (T : List Step) (stand : Stands old o 
   safe_now : (n : ℕ) (line : Line) → NoneBelow n (values_after turn (pair_at o T router)) → NoneBelow n (kept_at (shown_store o (step_of event router after_it line ∷ T) router).kept (pair_at o T router))
   safe_now n line none = subst (λ (x : ShownStore). NoneBelow n (kept_at x.kept (pair_at o T router))) (sym (shown_now o T event router after_it line)) none
 
-  -- its keys are those that it used before
-  used_now : (line : Line) → StandsForKeys o (step_of event router after_it line ∷ T) router before.used
-  used_now line = record { since_loss = part.used.since_loss; before_loss = part.used.before_loss }
-
   -- a Map-Register went out
   module _ (bytes : List ℕ) (call : CoreSends e etr armed called place portion old.clock bytes) where
     -- its line, and what was posted
@@ -165,24 +161,6 @@ module _ (old : WorldState) (o : Opening) (T : List Step) (stand : Stands old o 
         settled (inl above) = by above (subst (λ (c : EtrConfigValue). Settles (values turn (pair_at o T router)) (values_after turn (pair_at o T router)) (e.last + 1) c.nonce_block) own.config (carried (λ was is. Settles was is (e.last + 1) e.config.nonce_block) (call.settles uses.armed_shows.honest)))
         settled (inr below) = inl (carried (λ was is. is ≡ was) (ap (λ (x : StoreState). kept_at x.kept (sent_pair e.config)) (call.unasked below)))
 
-    -- the row of the line
-    sent_row : IsSent turn router server portion e.config.key_id (e.last + 1) (length old.bag)
-    sent_row = record {
-      acts = record { kind = kind; acts = refl; state = own.up };
-      kind = known;
-      listed = found.1;
-      fits = subst (λ (db : List MapRecordValue). database_of db ≡ Ok db) own.database call.fits;
-      there = has_part call.there;
-      under = ap (λ (c : EtrConfigValue). c.key_id) own.config;
-      base = own.last.0;
-      counts = own.last.1;
-      next = ap (λ n. n + 1) own.last.2;
-      within = (let left = call.left in omega (arith, left));
-      message = known_message;
-      place = stand.bag.count;
-      saves = sent_saves;
-    }
-
     -- the datagram carries the item
     sent_carries : Carries datagram (register_item o T router server portion (e.last + 1))
     unfolding bytes_of
@@ -197,41 +175,41 @@ module _ (old : WorldState) (o : Opening) (T : List Step) (stand : Stands old o 
     sent_counts : CountsFrom o (step_of event router after_it said ∷ T) router (Some (e.last + 1))
     sent_counts = subst (λ b. IsBase (if b then Some (e.last + 1) else last_sent T router) (start_values o T router) (Some (e.last + 1))) (sym (same_number router)) refl
 
-    -- the router has rounds with the server
-    rounds_there : slice_get e.rounds place ≡ Some (rounds_at e.rounds place)
-    rounds_there = slice_get-get_or e.rounds place (record { parts = []; acked = [] }) (let low = slice_get_within (router_at o.config router).servers place server found.0 in let count = own.count in omega (arith, low, count))
-
-    -- the part is one of those that a database may have
-    within_parts : portion < most_parts
-    within_parts = let there = call.there in let few = few_parts e.database call.fits in omega (arith, there, few)
-
-    -- all rounds stand
-    sent_rounds : (i k : ℕ) (rs : Rounds) → slice_get (router_at o.config router).servers i ≡ Some k → slice_get etr.rounds i ≡ Some rs → StandsForRounds (step_of event router after_it said ∷ T) router k rs
-    sent_rounds i k rs listed is = rounds_set T (step_of event router after_it said ∷ T) router (router_at o.config router).servers e.rounds place server (rounds_after_send portion (e.last + 1) old.clock (rounds_at e.rounds place)) once found.0
-        (sent_here T event router after_it server portion e.config.key_id (e.last + 1) (length old.bag) old.clock (rounds_at e.rounds place) stand.bag.moment within_parts (own.rounds place server (rounds_at e.rounds place) found.0 rounds_there))
-        (sent_there T event router after_it server portion e.config.key_id (e.last + 1) (length old.bag)) own.rounds i k rs listed (ap (λ (all : List Rounds). slice_get all i) (sym call.sends.rounds) ∙ is)
-
-    -- and so does the router
-    sent_core : StandsForEtr o (step_of event router after_it said ∷ T) router etr
-    sent_core = record {
-      up = own.up;
-      config = call.sends.config ∙ own.config;
-      database = call.sends.database ∙ own.database;
-      last = (Some (e.last + 1), sent_counts, call.sends.last);
-      safe = safe_now etr.safe said (safe_after etr.safe (call.keeps_safe uses.armed_shows.honest safe_before));
-      count = ap length call.sends.rounds ∙ length-set e.rounds place (rounds_after_send portion (e.last + 1) old.clock (rounds_at e.rounds place)) ∙ own.count;
-      rounds = sent_rounds;
-    }
-
     -- its step
     sent_step : RouterStep o T event router after_it Row said (datagram ∷ []) left
     sent_step = record {
-      row = (refl, refl, refl, sent_row);
+      row = (refl, refl, refl, (record {
+        acts = record { kind = kind; acts = refl; state = own.up };
+        kind = known;
+        listed = found.1;
+        fits = subst (λ (db : List MapRecordValue). database_of db ≡ Ok db) own.database call.fits;
+        there = has_part call.there;
+        under = ap (λ (c : EtrConfigValue). c.key_id) own.config;
+        base = own.last.0;
+        counts = own.last.1;
+        next = ap (λ n. n + 1) own.last.2;
+        within = (let left = call.left in omega (arith, left));
+        message = known_message;
+        place = stand.bag.count;
+        saves = sent_saves;
+      }));
       count = uses.count;
       obedient = uses.obedient;
       adds = adds_one o T (step_of event router after_it said) datagram (register_item o T router server portion (e.last + 1)) refl sent_carries;
       shows = uses.after;
-      part = record { me = part.me; servers = part.servers; used = used_now said; core = sent_core };
+      part = record { me = part.me; servers = part.servers; used = record { since_loss = part.used.since_loss; before_loss = part.used.before_loss }; core = record {
+        up = own.up;
+        config = call.sends.config ∙ own.config;
+        database = call.sends.database ∙ own.database;
+        last = (Some (e.last + 1), sent_counts, call.sends.last);
+        safe = safe_now etr.safe said (safe_after etr.safe (call.keeps_safe uses.armed_shows.honest safe_before));
+        count = ap length call.sends.rounds ∙ length-set e.rounds place (rounds_after_send portion (e.last + 1) old.clock (rounds_at e.rounds place)) ∙ own.count;
+        rounds = λ i k rs listed is. rounds_set T (step_of event router after_it said ∷ T) router (router_at o.config router).servers e.rounds place server (rounds_after_send portion (e.last + 1) old.clock (rounds_at e.rounds place)) once found.0
+            (sent_here T event router after_it server portion e.config.key_id (e.last + 1) (length old.bag) old.clock (rounds_at e.rounds place) stand.bag.moment
+                (let there = call.there in let few = few_parts e.database call.fits in omega (arith, there, few)) (own.rounds place server (rounds_at e.rounds place) found.0
+                (slice_get-get_or e.rounds place (record { parts = []; acked = [] }) (let low = slice_get_within (router_at o.config router).servers place server found.0 in let count = own.count in omega (arith, low, count)))))
+            (sent_there T event router after_it server portion e.config.key_id (e.last + 1) (length old.bag)) own.rounds i k rs listed (ap (λ (all : List Rounds). slice_get all i) (sym call.sends.rounds) ∙ is);
+      } };
     }
 
     -- what its line says is what stands in the datagram
@@ -273,13 +251,10 @@ module _ (old : WorldState) (o : Opening) (T : List Step) (stand : Stands old o 
     bound_is : block_end (e.last + 1) e.config.nonce_block ≡ bound
     bound_is = λ i. block_end (own.last.2 i + 1) (own.config i).nonce_block
 
-    -- a device failed
-    rose : ((armed.faults < called.faults) ⊎ (called.faults ≡ 2 ^ 64 - 1)) → Rose turn
-    rose is = subst (λ (n : ℕ). (n < called.faults) ⊎ (called.faults ≡ 2 ^ 64 - 1)) uses.armed_shows.faults is
-
     -- a fault other than out of memory has its cause
     cause_of : (f : StoreFault) → fault ≡ Store f → f ≢ faults.OutOfMemory → Rose turn
-    cause_of faults.Device is other = rose (call.cause is)
+    cause_of faults.Device is other =
+        (subst (λ (n : ℕ). (n < called.faults) ⊎ (called.faults ≡ 2 ^ 64 - 1)) uses.armed_shows.faults (call.cause is))
     cause_of faults.Damaged is other = absurd (call.sound is)
     cause_of faults.OutOfMemory is other = absurd (other refl)
 
@@ -323,18 +298,6 @@ module _ (old : WorldState) (o : Opening) (T : List Step) (stand : Stands old o 
     refusal OutOfMemory is why = (may_if why.0 why.1, own.last.0, own.last.1, (let low = why.2 in let last = own.last.2 in omega (arith, low, last)), unmoved (λ device. let clash : OutOfMemory ≡ Store faults.Device = sym is ∙ device in cc))
     refusal (Store f) is why = (may_if why.0 why.1, not_saved f is why.2 (carried (λ was is. LeavesPair was is (e.last + 1) e.config.nonce_block) (call.leaves uses.armed_shows.honest)))
 
-    -- the router stands as it did
-    refused_core : StandsForEtr o (step_of event router after_it refused ∷ T) router e
-    refused_core = record {
-      up = own.up;
-      config = own.config;
-      database = own.database;
-      last = own.last;
-      safe = safe_now e.safe refused (safe_after e.safe (call.keeps_safe uses.armed_shows.honest safe_before));
-      count = own.count;
-      rounds = λ i k rs listed is. rounds_stay T router k rs (own.rounds i k rs listed is) (step_of event router after_it refused ∷ T) (λ p. refl) (λ p r was. record { keeps = was.keeps; latest = was.latest });
-    }
-
     -- its step
     refused_step : RouterStep o T event router after_it Row refused [] left
     refused_step = record {
@@ -343,7 +306,9 @@ module _ (old : WorldState) (o : Opening) (T : List Step) (stand : Stands old o 
       obedient = uses.obedient;
       adds = adds_none o T (step_of event router after_it refused) refl;
       shows = uses.after;
-      part = record { me = part.me; servers = part.servers; used = used_now refused; core = subst (λ (x : EtrState). StandsForEtr o (step_of event router after_it refused ∷ T) router x) (sym call.err) refused_core };
+      part = up_stays o T (step_of event router after_it refused ∷ T) router (record { up = refl; under = refl; since_loss = refl; before_loss = refl; given = refl })
+          (record { sent = refl; values = refl; times = λ k p. refl; latest = λ k p. refl; counted = λ k p. refl }) before before.used after e etr refl call.err part own
+          (safe_now e.safe refused (safe_after e.safe (call.keeps_safe uses.armed_shows.honest safe_before)));
     }
 
 -- what comes of the event at a router, up or down
@@ -362,26 +327,12 @@ module _ (old new : WorldState) (router server portion : ℕ) (fate : Fate) (lin
   part_here : StandsForRouter o T router sends.acts.before
   part_here = acts_part old new router sends.more sends.acts o T stand
 
-  shows_here : Shows sends.acts.before.store (shown_store o T router)
-  shows_here = acts_shows old new router sends.more sends.acts o T stand
-
   once_here : AllPairs (λ a b. a ≢ b) (router_at o.config router).servers
   once_here = acts_once old new router sends.more sends.acts o T stand
 
   -- with the step of the router it does
   ends : (s : ShownStore) → RouterStep o T (events.Send router server portion fate) router s (MayCome (turn_at o T router fate s) (events.Send router server portion fate)) line sends.more sends.acts.after → Sent-after
   ends s step = (router, s, stands_by old new router sends.more sends.acts o T stand (events.Send router server portion fate) s line refl step)
-
-  -- the router is down
-  sends_down : (config : EtrConfigValue) (db : List MapRecordValue) → sends.acts.before.core ≡ Down config db → StandsForCore o T router (Down config db) → RouterSends old router server portion fate sends.acts.before sends.acts.after (Down config db) line sends.more → Sent-after
-  sends_down config db is core at = ends (shown_store o T router) (moved o T _ router (shown_store o T router) _ line (lines.Down router) sends.more [] sends.acts.after sends.acts.before at.1 at.2 at.0 (record {
-    row = (known_server, record { acts = record { kind = kind_here; acts = refl; state = core.0 }; names = refl; same = refl });
-    count = omega arith;
-    obedient = refl;
-    adds = adds_none o T _ refl;
-    shows = shows_here;
-    part = record { me = part_here.me; servers = part_here.servers; used = record { since_loss = part_here.used.since_loss; before_loss = part_here.used.before_loss }; core = subst (λ (c : RouterCoreState). StandsForCore o (step_of (events.Send router server portion fate) router (shown_store o T router) (lines.Down router) ∷ T) router c) (sym is) core };
-  }))
 
   module _ (e : EtrState) (own : StandsForEtr o T router e) where
     -- it sent, or refused to
@@ -393,22 +344,18 @@ module _ (old new : WorldState) (router server portion : ℕ) (fate : Fate) (lin
     sends_ok etr is armed called uses (Err fault) call says = ends _ (moved o T _ router _ _ line _ sends.more _ sends.acts.after _ says.0 says.1 is
         (refused_step old o T stand router server portion fate sends.acts.before kind_here known_server part_here once_here e etr own armed called sends.acts.after.store uses fault call))
 
-  -- it is up
-  sends_up : UpRouterSends old router server portion fate sends.acts.before sends.acts.after line sends.more → Sent-after
-  sends_up up =
+  -- it is up, or down
+  sends_at : (core : RouterCoreState) → StandsForCore o T router core → RouterSends old router server portion fate sends.acts.before sends.acts.after core line sends.more → Sent-after
+  sends_at (Up e) own up =
       let call = up.sends.call in
       sends_ok up.sends.etr (subst (λ (core : RouterCoreState). StandsForCore o T router core) up.sends.was part_here.core) up.sends.left up.sends.is call.armed call.called
-      (uses_shown sends.acts.before.store call.armed call.called sends.acts.after.store fate (shown_store o T router) shows_here call.uses) up.answer call.call up.says
+      (uses_shown sends.acts.before.store call.armed call.called sends.acts.after.store fate (shown_store o T router)
+          (acts_shows old new router sends.more sends.acts o T stand) call.uses) up.answer call.call up.says
+  sends_at (Down config db) core at = ends (shown_store o T router) (down_step old new router sends.more sends.acts o T stand (events.Send router server portion fate) _ line at
+      (known_server, record { acts = record { kind = kind_here; acts = refl; state = core.0 }; names = refl; same = refl }) refl
+      (record { up = refl; under = refl; since_loss = refl; before_loss = refl; given = refl })
+      (record { sent = refl; values = refl; times = λ k p. refl; latest = λ k p. refl; counted = λ k p. refl }))
 
-  -- up or down
-  sends_at : (core : RouterCoreState) → sends.acts.before.core ≡ core → StandsForCore o T router core → RouterSends old router server portion fate sends.acts.before sends.acts.after core line sends.more → Sent-after
-  sends_at (Up e) is own at = sends_up at
-  sends_at (Down config db) is core at = sends_down config db is core at
-
-  -- whichever it is
-  sends_stand : Sent-after
-  sends_stand = sends_at sends.acts.before.core refl part_here.core sends.sends
-
--- a router sends, refuses to, or is down, and the network stands for the trace with that step
-pub send_stands : (old new : WorldState) (router server portion : ℕ) (fate : Fate) (line : Line) → NetworkSends old new router server portion fate line → StandsAfter old new (events.Send router server portion fate) line
-send_stands old new router server portion fate line sends o T stand = sends_stand old new router server portion fate line sends o T stand
+  -- so the network stands for the trace with that step
+  pub send_stands : Sent-after
+  send_stands = sends_at sends.acts.before.core part_here.core sends.sends

@@ -12,8 +12,8 @@ use Rattle.lisp_refinement.specs.World.{WorldState}
 use Rattle.lisp_refinement.specs.Events.{node_with, Arrives, ArrivesWhere, NetworkDelivers, NetworkRestarts}
 use Rattle.lisp_refinement.specs.Stands.{StandsAfter}
 use Rattle.lisp_refinement.specs.Taking.{NetworkTakes}
-use Rattle.lisp_refinement.proofs.Changing.{change_stands}
-use Rattle.lisp_refinement.proofs.Losing.{lose_stands}
+use Rattle.lisp_refinement.proofs.Rotating.{change_stands}
+use Rattle.lisp_refinement.proofs.Rotating.{lose_stands}
 use Rattle.lisp_refinement.proofs.Noticing.{notice_stands}
 use Rattle.lisp_refinement.proofs.Reloading.{reload_stands}
 use Rattle.lisp_refinement.proofs.Resending.{resend_stands}
@@ -25,7 +25,7 @@ use Rattle.lisp_refinement.proofs.Hearing.{deliver_to_router_stands, junk_to_rou
 use Rattle.lisp_refinement.proofs.Restarting.{restart_server_stands, restart_router_stands}
 
 -- a datagram that was sent arrives
-pub delivers_stand : (A : Type 0) (old new : WorldState) (k : ℕ) (fate : Fate) (line : Line) → NetworkDelivers A old new k fate line → StandsAfter old new (events.Deliver k fate) line
+delivers_stand : (A : Type 0) (old new : WorldState) (k : ℕ) (fate : Fate) (line : Line) → NetworkDelivers A old new k fate line → StandsAfter old new (events.Deliver k fate) line
 delivers_stand A old new k fate line turn = by (node_with old turn.datagram.to) refl turn.arrives
   where
     by : (found : Option ℕ) → node_with old turn.datagram.to ≡ found → ArrivesWhere A old new k fate turn.datagram found line → StandsAfter old new (events.Deliver k fate) line
@@ -35,12 +35,12 @@ delivers_stand A old new k fate line turn = by (node_with old turn.datagram.to) 
         subst (λ (left : WorldState × Line). StandsAfter old left.0 (events.Deliver k fate) left.1) (λ i. (sym same i, sym said i)) (nowhere_stands old fate k turn.datagram turn.sent is)
 
 -- bytes from outside arrive
-pub junk_stands : (A : Type 0) (old new : WorldState) (node : ℕ) (from : Addr) (bytes : List ℕ) (line : Line) → Arrives A old new node Done from bytes line → StandsAfter old new (events.Junk node from bytes) line
+junk_stands : (A : Type 0) (old new : WorldState) (node : ℕ) (from : Addr) (bytes : List ℕ) (line : Line) → Arrives A old new node Done from bytes line → StandsAfter old new (events.Junk node from bytes) line
 junk_stands A old new node from bytes line (inl arrives) = junk_to_server_stands A old new node line from bytes arrives
 junk_stands A old new node from bytes line (inr arrives) = junk_to_router_stands A old new node from bytes line arrives
 
 -- a node starts again
-pub restarts_stand : (old new : WorldState) (node pick : ℕ) (db : Option (List MapRecordValue)) (line : Line) → Fits db → NetworkRestarts old new node pick db line → StandsAfter old new (events.Restart node pick db) line
+restarts_stand : (old new : WorldState) (node pick : ℕ) (db : Option (List MapRecordValue)) (line : Line) → Fits db → NetworkRestarts old new node pick db line → StandsAfter old new (events.Restart node pick db) line
 restarts_stand old new node pick db line fits (inl (none, turn)) =
     subst (λ (given : Option (List MapRecordValue)). StandsAfter old new (events.Restart node pick given) line) (sym none) (restart_server_stands old new node pick line turn)
 restarts_stand old new node pick db line fits (inr turn) = restart_router_stands old new node pick db line fits turn

@@ -65,10 +65,6 @@ either_passed false true true d some = refl
 either_passed false true false d some = refl
 either_passed false false c d some = absurd cc
 
--- of two tests neither is passed
-none_passed : (a b c d : Bool) → a ≡ false → b ≡ false → ((a || c) || (b || d)) ≡ (c || d)
-none_passed a b c d one other = rw (one, other) refl
-
 -- a list whose elements are compared in two ways
 module _ {X : Type 0} (alike same : X → X → Bool) (xs : List X) where
   -- two of these elements are alike or the same
@@ -86,20 +82,13 @@ module _ {X : Type 0} (alike same : X → X → Bool) (xs : List X) where
 
     -- none is
     pub again_later : list_any (alike x) (behind xs i) ≡ false → list_any (same x) (behind xs i) ≡ false → again (drop (i + 1) xs) ≡ again xs
-    again_later one other = sym (from_here ∙ none_passed (list_any (alike x) (behind xs i)) (list_any (same x) (behind xs i)) (has_twice alike (drop (i + 1) xs)) (has_twice same (drop (i + 1) xs)) one other) ∙ so_far
+    again_later one other = sym (from_here ∙ (rw (one, other) refl)) ∙ so_far
 
   -- no element is left
   pub again_nowhere : (i : ℕ) → length xs ≤ i → again (drop i xs) ≡ again xs → false ≡ again xs
   again_nowhere i high so_far =
       let none : again (drop i xs) ≡ false = rw (drop_of_length-le xs high) refl in
       sym none ∙ so_far
-
--- two tests of which one is passed, in front of another
-one_passed : (a b c : Bool) → (a || b) ≡ true → ((a || b) || c) ≡ true
-one_passed a b c some = rw some refl
-
-neither_passed : (a b c : Bool) → a ≡ false → b ≡ false → ((a || b) || c) ≡ c
-neither_passed a b c one other = rw (one, other) refl
 
 -- what two lists have of a third kind, compared by it: those of one list first, then those of the other
 module _ {X Y Z : Type 0} (alike : Z → Z → Bool) (f : X → Z) (g : Y → Z) (xs : List X) (ys : List Y) where
@@ -111,13 +100,10 @@ module _ {X Y Z : Type 0} (alike : Z → Z → Bool) (f : X → Z) (g : Y → Z)
   abbrev pub meets : Z → List X → Bool
   meets z zs = list_any (λ x. alike z (f x)) zs || list_any (λ y. alike z (g y)) ys
 
-  -- as a test of the joined list
-  meets_is : (z : Z) (zs : List X) → list_any (alike z) (map f zs ++ map g ys) ≡ meets z zs
-  meets_is z zs = list_any-append (alike z) (map f zs) (map g ys) ∙ (λ j. list_any-map (alike z) f zs j || list_any-map (alike z) g ys j)
-
   -- the first one is compared with those behind it
   joined_first : (x : X) (zs : List X) → joined (x ∷ zs) ≡ (meets (f x) zs || joined zs)
-  joined_first x zs = ap (λ (b : Bool). b || joined zs) (meets_is (f x) zs)
+  joined_first x zs = ap (λ (b : Bool). b || joined zs) (
+      (list_any-append (alike (f x)) (map f zs) (map g ys) ∙ (λ j. list_any-map (alike (f x)) f zs j || list_any-map (alike (f x)) g ys j)))
 
   module _ (i : ℕ) (x : X) (low : i < length xs) (at : x ≡ get_or xs i x) (so_far : joined (drop i xs) ≡ joined xs) where
     -- the comparisons from a place on
@@ -127,11 +113,11 @@ module _ {X Y Z : Type 0} (alike : Z → Z → Bool) (f : X → Z) (g : Y → Z)
 
     -- one of both lists is like it
     pub meets_here : meets (f x) (behind xs i) ≡ true → true ≡ joined xs
-    meets_here some = sym (joined_here ∙ one_passed (list_any (λ y. alike (f x) (f y)) (behind xs i)) (list_any (λ y. alike (f x) (g y)) ys) (joined (drop (i + 1) xs)) some) ∙ so_far
+    meets_here some = sym (joined_here ∙ (rw some refl)) ∙ so_far
 
     -- none is
     pub meets_later : list_any (λ y. alike (f x) (f y)) (behind xs i) ≡ false → list_any (λ y. alike (f x) (g y)) ys ≡ false → joined (drop (i + 1) xs) ≡ joined xs
-    meets_later one other = sym (joined_here ∙ neither_passed (list_any (λ y. alike (f x) (f y)) (behind xs i)) (list_any (λ y. alike (f x) (g y)) ys) (joined (drop (i + 1) xs)) one other) ∙ so_far
+    meets_later one other = sym (joined_here ∙ (rw (one, other) refl)) ∙ so_far
 
 -- two of a mapped list are alike where two of the list are by what they are mapped to
 pub twice_mapped : {X Y : Type 0} (alike : Y → Y → Bool) (f : X → Y) (xs : List X) → has_twice alike (map f xs) ≡ has_twice (λ a b. alike (f a) (f b)) xs

@@ -1,42 +1,35 @@
 -- The keys that a router used when the network was made: its first one alone.
-use Rattle.std.proofs.Common.{[], ◌≡◌, ℕ, zero, suc, ◌<◌, Bool, true, false, true≢false, List, ◌∷◌, length, replicate, refl, sym, ap, subst, ◌∙◌, arith, ◌⊎◌, inl, inr, ◌+◌, ◌≤◌, ◌++◌, get_or, take, drop, Some, length-set, append-nil, ◌-◌, map, Option, None, Result, Ok, Err}
+use Rattle.std.proofs.Common.{[], ◌≡◌, ℕ, zero, suc, ◌<◌, Bool, true, false, true≢false, List, ◌∷◌, length, replicate, refl, sym, ap, subst, ◌∙◌, arith, ◌⊎◌, inl, inr, ◌+◌, ◌≤◌, ◌++◌, get_or, take, drop, Some, length-set, append-nil, ◌-◌, map, Result, Ok, Err}
 use Rattle.std.proofs.lemmas.List.{length-replicate, length-append, length-map}
 use Rattle.std.proofs.lemmas.Option.{slice_get-get_or, slice_get_within, slice_get-map, get_or_from_slice_get}
 use Rattle.std.proofs.Math.Seq.{take-length}
 use Rattle.std.proofs.Math.ListN.{drop_of_length-le}
-use Rattle.std.specs.Prelude.{slice_set, ◌≢◌, slice_get, IsTrue, IfErr, IsErrAnd}
+use Rattle.std.specs.Prelude.{slice_set, ◌≢◌, slice_get, IsTrue, IfErr, IsErrAnd, ◌↔◌, IfOk, IsErrOf}
 use Rattle.std.specs.List.{Contains, AllByRecursion}
 use Rattle.std.specs.FinMap.{empty}
 use Rattle.std.specs.Option.{option_map}
-use Rattle.lisp_model.specs.Trace.{Opening, router_at, ShownStore, addresses, address_at, etr_config_of, shown_store}
+use Rattle.lisp_model.specs.Trace.{Opening, router_at, ShownStore, addresses, etr_config_of, shown_store}
 use Rattle.lisp_model.specs.Network.{IsNetwork}
-use Rattle.lisp_model.specs.Sending.{CountsFrom}
+use Rattle.lisp_model.specs.Sending.{pair_at}
 use Rattle.lisp_model.specs.declared.world_fault.WorldFault.{WorldFault}
 use Rattle.lisp_nodes.{specs.Cores.first_used, proofs.NodeCalls.unused}
-use Rattle.lisp_refinement.specs.World.{UsedKeysState, key_count, is_used, ServerNodeState, RouterNodeState, DatagramValue, RouterCoreState, WorldState}
-use Rattle.lisp_refinement.specs.Stands.{Marks, StandsForKeys, shown_by, Shows, StandsForRound, StandsForRounds, StandsForEtr, StandsForCore, StandsForServer, StandsForRouter, Stands}
+use Rattle.lisp_refinement.specs.World.{UsedKeysState, key_count, is_used, ServerNodeState, RouterNodeState, DatagramValue, WorldState}
+use Rattle.lisp_refinement.specs.Stands.{Marks, StandsForKeys, shown_by, Shows, StandsForServer, StandsForRouter, Stands}
 use Rattle.lisp_refinement.specs.Calls.{CoreStarts}
-use Rattle.lisp_refinement.proofs.Gets.{none_is_some, same_some, get_set, get_before, get_within, get_replicate, get_mapped}
-use Rattle.lisp_refinement.proofs.Restarting.{no_row, no_nonce, no_notice}
+use Rattle.lisp_refinement.proofs.Gets.{none_is_some, same_some, get_set, get_before, get_within, get_mapped}
+use Rattle.lisp_refinement.proofs.Restarting.{begun_stands, fresh_stands}
 use Rattle.lisp_policy.specs.Configuration.{ConfigValue, RouterEntryValue}
 use Rattle.lisp_nonces.specs.Store.{StoreState, Proceeds, Rose}
 use Rattle.lisp_nonces.specs.Kept.{Kept, kept_at}
 use Rattle.lisp_nonces.specs.declared.fault.StoreFault.{StoreFault}
-use Rattle.lisp_world.specs.Making.{server_over, IsRouterOver, AddsNode, AreServers, AreRouters, AreNodes, HasStarted, HaveStarted, HaveStartedBefore, router_over, HaveStartedBelow, IsUnstarted, IsStartFault, IsNewFault, AllBelowEnd, IsCalmFault}
-use Rattle.lisp_world.specs.Openings.{opening, lists_of}
-use Rattle.lisp_world.specs.Quiet.{AllHonest, AllCalm, stores_of, failures}
-use Rattle.lisp_records.specs.Parts.{most_parts}
-use Rattle.lisp_etr.specs.Config.{sent_pair}
-use Rattle.lisp_etr.specs.Etr.{EtrState}
-use Rattle.lisp_etr.specs.Round.{first_round}
-use Rattle.lisp_etr.specs.Rounds.{first_rounds}
-use Rattle.lisp_etr.specs.declared.round.Round.{Round}
-use Rattle.lisp_etr.specs.declared.rounds.Rounds.{Rounds}
+use Rattle.lisp_world.specs.Making.{server_over, IsRouterOver, AddsNode, AreServers, AreRouters, AreNodes, HasStarted, HaveStarted, HaveStartedBefore, router_over, HaveStartedBelow, IsUnstarted, IsStartFault, IsNewFault, AllBelowEnd, IsCalmFault, FailsToStartOnlyIf, FailsCalm}
+use Rattle.lisp_world.specs.Openings.{opening, lists_of, IsOpened, KeepsLists, repeats}
+use Rattle.lisp_world.specs.Quiet.{AllHonest, AllCalm, stores_of, failures, StaysCalm}
 use Rattle.lisp_etr.specs.declared.start_fault.StartFault.{StartFault}
-use Rattle.lisp_etr.proofs.TimerLaws.{rounds_keep_time}
 use Rattle.lisp_nonces.specs.declared.fault.StoreFault.TheVariants as store_faults
 use Rattle.lisp_etr.specs.declared.start_fault.StartFault.TheVariants as start_faults
 use Rattle.lisp_model.specs.declared.world_fault.WorldFault.TheVariants as faults
+use Rattle.lisp_refinement.specs.Headline.{Promises}
 
 -- a list of one holds that one
 only : (key k : ℕ) → Contains (key ∷ []) k → k ≡ key
@@ -74,7 +67,7 @@ first_since key k low = (
 none_before : (key : ℕ) → Marks (first_used key).before_loss []
 none_before key k low = (λ is. absurd (true≢false (sym is ∙ unused_key key_count k)), λ has. absurd (omega (arith, has.1)))
 
-pub first_keys : (o : Opening) (router key : ℕ) (used : UsedKeysState) → used ≡ first_used key → key ≡ (router_at o.config router).key_id → StandsForKeys o [] router used
+first_keys : (o : Opening) (router key : ℕ) (used : UsedKeysState) → used ≡ first_used key → key ≡ (router_at o.config router).key_id → StandsForKeys o [] router used
 first_keys o router key used first own = record {
   since_loss = subst (λ (p : UsedKeysState × ℕ). Marks p.0.since_loss (p.1 ∷ [])) {x = (first_used key, key)} {y = (used, (router_at o.config router).key_id)} (λ i. (sym first i, own i)) (first_since key);
   before_loss = subst (λ (u : UsedKeysState). Marks u.before_loss []) (sym first) (none_before key);
@@ -153,25 +146,19 @@ module _ (c : ConfigValue) (stores : List StoreState) (made : List ServerNodeSta
             let place : k ≡ length stores = omega (arith, same, none, so_far.count) in
             (s, ap (slice_get stores_now) place ∙ get_end stores s, new ∙ is)
 
-    routers_still : AreRouters c stores_now down
-    routers_still k m at = (let old = so_far.are_routers k m at in (old.0, get_before stores (s ∷ []) (length c.servers + k) old.0 old.1, old.2))
-
-    pub server_more : SoFar c stores_now (made ++ n ∷ []) down
+    server_more : SoFar c stores_now (made ++ n ∷ []) down
     server_more = record {
       count = (let a = one_longer stores s in let b = one_longer made n in omega (arith, a, b, so_far.count));
       few = (let b = one_longer made n in omega (arith, b, low));
       first = inl (no_router so_far.first);
       are_servers = servers_now;
-      are_routers = routers_still;
+      are_routers = λ k m at. (let old = so_far.are_routers k m at in (old.0, get_before stores (s ∷ []) (length c.servers + k) old.0 old.1, old.2));
     }
 
   -- one more router
   module _ (n : RouterNodeState) (high : length c.servers ≤ length made) (is : IsRouterOver c (length down) s n) where
     all_servers : length made ≡ length c.servers
     all_servers = omega (arith, high, so_far.few)
-
-    servers_still : AreServers c stores_now made
-    servers_still k m at = (let old = so_far.are_servers k m at in (old.0, get_before stores (s ∷ []) k old.0 old.1, old.2))
 
     routers_now : AreRouters c stores_now (down ++ n ∷ [])
     routers_now k m at = here (get_push down n k m at)
@@ -182,12 +169,12 @@ module _ (c : ConfigValue) (stores : List StoreState) (made : List ServerNodeSta
             let place : length c.servers + k ≡ length stores = omega (arith, same, all_servers, so_far.count) in
             (s, ap (slice_get stores_now) place ∙ get_end stores s, (is.0, ap (slice_get c.routers) same ∙ is.1, new ∙ is.2))
 
-    pub router_more : SoFar c stores_now made (down ++ n ∷ [])
+    router_more : SoFar c stores_now made (down ++ n ∷ [])
     router_more = record {
       count = (let a = one_longer stores s in let b = one_longer down n in omega (arith, a, b, so_far.count));
       few = so_far.few;
       first = inr all_servers;
-      are_servers = servers_still;
+      are_servers = λ k m at. (let old = so_far.are_servers k m at in (old.0, get_before stores (s ∷ []) k old.0 old.1, old.2));
       are_routers = routers_now;
     }
 
@@ -404,28 +391,12 @@ module _ (c : ConfigValue) (stores : List StoreState) (w : WorldState) (count : 
           obedient = ap (λ (x : ShownStore). x.is_obedient) (sym is);
         }
 
-    server_shows : (k : ℕ) (n : ServerNodeState) → slice_get w.servers k ≡ Some n → Shows n.store (shown_store o [] k)
-    server_shows k n at = shows_at k n.store
-        (get_before (map (λ (m : ServerNodeState). m.store) w.servers) (map (λ (m : RouterNodeState). m.store) w.routers) k n.store (slice_get-map (λ m. m.store) w.servers k ∙ ap (option_map (λ m. m.store)) at))
-
     router_shows : (k : ℕ) (n : RouterNodeState) → slice_get w.routers k ≡ Some n → Shows n.store (shown_store o [] (length c.servers + k))
     router_shows k n at =
         let long = length-map w.servers (λ (m : ServerNodeState). m.store) ∙ made.nodes.server_count in
         shows_at (length c.servers + k) n.store
         (ap (λ l. slice_get (stores_of w) (l + k)) (sym long)
         ∙ get_behind (map (λ (m : ServerNodeState). m.store) w.servers) (map (λ (m : RouterNodeState). m.store) w.routers) k n.store (slice_get-map (λ m. m.store) w.routers k ∙ ap (option_map (λ m. m.store)) at))
-
-    -- a Map-Server that holds nothing
-    server_part : (k : ℕ) (s : StoreState) → StandsForServer o [] k (server_over c s)
-    server_part k s = record {
-      sites = refl;
-      rows = λ router eid. no_row 0 router eid;
-      nonces = λ pair other. no_nonce pair;
-      notice_nonce = no_nonce _;
-      contacts = λ router eid h is. absurd (none_is_some is);
-      notices = λ router. no_notice o [] k router;
-      started = refl;
-    }
 
     -- a router that has started
     module _ (k : ℕ) (n : RouterNodeState) (at : slice_get w.routers k ≡ Some n) where
@@ -440,51 +411,19 @@ module _ (c : ConfigValue) (stores : List StoreState) (w : WorldState) (count : 
       entry_is = (let place : node - length c.servers ≡ k = omega arith in
           get_or_from_slice_get c.routers (node - length c.servers) its.entry _ (ap (slice_get c.routers) place ∙ its.there))
 
-      -- its store keeps what it kept
-      kept_is : (shown_store o [] node).kept ≡ its.before.kept
-      kept_is = sym (router_shows k n at).kept ∙ its.has_started.starts.same (honest node its.before its.store_there)
-
+      -- it stands as it has begun
       starts : CoreStarts (etr_config_of c its.entry) its.entry.database 0 its.before n.store n.core
       starts = its.has_started.starts.starts
-
-      -- each of its rounds has just begun
-      round_part : (server part : ℕ) → StandsForRound [] node server part (first_round 0)
-      round_part server part = record { keeps = rounds_keep_time.start 0; latest = refl }
-
-      abbrev no_count : Option (ℕ × ℕ)
-      no_count = None
-
-      rounds_part : (server : ℕ) → StandsForRounds [] node server (first_rounds 0)
-      rounds_part server = record {
-        parts = length-replicate most_parts (first_round 0);
-        acked_parts = length-replicate most_parts no_count;
-        round = λ part r has. subst (λ (x : Round). StandsForRound [] node server part x) (get_replicate most_parts (first_round 0) part r has) (round_part server part);
-        acked = λ part pair has. sym (get_replicate most_parts no_count part pair has);
-      }
-
-      -- it counts from a value that its store keeps
-      counts : (base : Option ℕ) → Contains (kept_at its.before.kept (sent_pair (etr_config_of c its.entry))) base → CountsFrom o [] node base
-      counts base has = subst (λ (p : Kept × RouterEntryValue). Contains (kept_at p.0 (sent_pair (etr_config_of c p.1))) base) {x = (its.before.kept, its.entry)} {y = ((shown_store o [] node).kept, router_at c node)} (λ i. (sym kept_is i, sym entry_is i)) has
-
-      etr_part : StandsForEtr o [] node starts.etr
-      etr_part = record {
-        up = refl;
-        config = ap (λ (e : EtrState). e.config) starts.starts ∙ ap (etr_config_of c) (sym entry_is);
-        database = ap (λ (e : EtrState). e.database) starts.starts ∙ ap (λ (r : RouterEntryValue). r.database) (sym entry_is);
-        last = (let is = starts.last (honest node its.before its.store_there) in (is.0, counts is.0 is.1, is.2));
-        safe = λ v has. omega (arith, ap (λ (e : EtrState). e.safe) starts.starts);
-        count = ap (λ (e : EtrState). length e.rounds) starts.starts ∙ length-replicate (length (etr_config_of c its.entry).servers) (first_rounds 0) ∙ length-map its.entry.servers (address_at c)
-            ∙ ap (λ (r : RouterEntryValue). length r.servers) (sym entry_is);
-        rounds = λ i server r lists has. subst (λ (x : Rounds). StandsForRounds [] node server x)
-            (get_replicate (length (etr_config_of c its.entry).servers) (first_rounds 0) i r (ap (λ (e : EtrState). slice_get e.rounds i) (sym starts.starts) ∙ has)) (rounds_part server);
-      }
 
       router_part : StandsForRouter o [] node n
       router_part = record {
         me = its.has_started.me ∙ ap (λ (r : RouterEntryValue). r.me) (sym entry_is);
         servers = its.has_started.servers ∙ ap (λ (r : RouterEntryValue). r.servers) (sym entry_is);
         used = first_keys o node its.entry.key_id n.used its.has_started.used (ap (λ (r : RouterEntryValue). r.key_id) (sym entry_is));
-        core = subst (λ (x : RouterCoreState). StandsForCore o [] node x) (sym starts.up) etr_part;
+        core = begun_stands o [] [] node (etr_config_of c its.entry) its.entry.database 0 its.before n.store n.core
+            (record { last = refl; values = ap (λ (kept : Kept). kept_at kept (pair_at o [] node)) (sym (router_shows k n at).kept); rounds = λ server part. refl; latest = λ server part. refl })
+            (its.has_started.starts.same (honest node its.before its.store_there)) (honest node its.before its.store_there) refl (ap (etr_config_of c) (sym entry_is))
+            (ap (λ (r : RouterEntryValue). r.database) (sym entry_is)) (λ server part. refl) refl starts;
       }
 
     pub made_stands : Stands w o []
@@ -496,7 +435,8 @@ module _ (c : ConfigValue) (stores : List StoreState) (w : WorldState) (count : 
         legal = tt;
         servers = made.nodes.server_count;
         routers = made.started_all.count ∙ made.nodes.router_count;
-        server_stores = server_shows;
+        server_stores = λ k n at. shows_at k n.store
+            (get_before (map (λ (m : ServerNodeState). m.store) w.servers) (map (λ (m : RouterNodeState). m.store) w.routers) k n.store (slice_get-map (λ m. m.store) w.servers k ∙ ap (option_map (λ m. m.store)) at));
         router_stores = router_shows;
       };
       bag = record {
@@ -505,21 +445,21 @@ module _ (c : ConfigValue) (stores : List StoreState) (w : WorldState) (count : 
         count = ap length made.empty_bag;
         each = λ k d i at there. absurd (none_is_some (ap (λ (b : List DatagramValue). slice_get b k) (sym made.empty_bag) ∙ at));
       };
-      servers = λ k n at. (let over = made.nodes.are_servers k n at in subst (λ (m : ServerNodeState). StandsForServer o [] k m) (sym over.2) (server_part k over.0));
+      servers = λ k n at. (let over = made.nodes.are_servers k n at in subst (λ (m : ServerNodeState). StandsForServer o [] k m) (sym over.2) (fresh_stands o [] k (server_over c over.0) c.sites refl refl refl refl refl refl));
       routers = router_part;
     }
 
 -- ---- Why no network is made: by the part that failed, and over calm stores.
 
 -- memory ran out
-pub memory_fault : {X : Type 0} (r : Result X WorldFault) (P : WorldFault → Type 0) → IsErrAnd r (λ e. e ≡ faults.OutOfMemory) → P faults.OutOfMemory → IfErr r P
-memory_fault (Ok x) P is holds = tt
+pub memory_fault : {X : Type 0} (r : Result X WorldFault) (P : WorldFault → Type 0) → IsErrAnd r (λ e. e ≡ faults.OutOfMemory) → P faults.OutOfMemory → IsErrAnd r P
+memory_fault (Ok x) P is holds = absurd is
 memory_fault (Err fault) P is holds = subst P (sym is) holds
 
 -- a router didn't start: its number, and its store among those of the nodes
 module _ (c : ConfigValue) (stores : List StoreState) (Refused StoreRefused : Type 0) (made : List ServerNodeState) (down : List RouterNodeState) (nodes : AreNodes c stores made down) (left : List RouterNodeState) {X : Type 0} (r : Result X WorldFault) (fault : WorldFault) (first : ℕ) (count : first ≡ length made) where
-  pub start_fault : r ≡ Err fault → IsStartFault first down left Refused StoreRefused fault → IfErr r (λ why. IsNewFault c stores Refused StoreRefused why)
-  start_fault is why = subst (λ (x : Result X WorldFault). IfErr x (λ why. IsNewFault c stores Refused StoreRefused why)) (sym (is ∙ ap Err why.is)) row
+  pub start_fault : r ≡ Err fault → IsStartFault first down left Refused StoreRefused fault → IsErrAnd r (IsNewFault c stores Refused StoreRefused)
+  start_fault is why = subst (λ (x : Result X WorldFault). IsErrAnd x (IsNewFault c stores Refused StoreRefused)) (sym (is ∙ ap Err why.is)) row
     where
       was : (s : StoreState) × (slice_get stores (length c.servers + why.place) ≡ Some s) × (why.node.store ≡ s)
       was = (let over = nodes.are_routers why.place why.node why.there in (over.0, over.1, ap (λ (n : RouterNodeState). n.store) over.2.2))
@@ -550,21 +490,43 @@ module _ (c : ConfigValue) (stores : List StoreState) (Refused StoreRefused : Ty
       never (inl more) = (let same = (unstarted.proceeds.quiet (calm node before there).quiet).1 in absurd (omega (arith, more, same)))
       never (inr end) = (let same = (unstarted.proceeds.quiet (calm node before there).quiet).1 in let low = below node before there in absurd (omega (arith, end, same, low)))
 
-  device : store_faults.Device ≢ store_faults.OutOfMemory
-  device clash = absurd cc
-
-  damaged : store_faults.Damaged ≢ store_faults.OutOfMemory
-  damaged clash = absurd cc
-
   by_fault : (fault : WorldFault) → IsNewFault c stores Refused StoreRefused fault → IsCalmFault Refused StoreRefused fault
   by_fault faults.Repeated why = tt
   by_fault faults.OutOfMemory why = why
   by_fault (faults.Start node start_faults.OutOfMemory) (high, before, there, after, unstarted, earlier) = unstarted.memory refl
   by_fault (faults.Start node (start_faults.Store store_faults.OutOfMemory)) (high, before, there, after, unstarted, earlier) = unstarted.store_memory refl
-  by_fault (faults.Start node (start_faults.Store store_faults.Device)) why = absurd (unfailing node (start_faults.Store store_faults.Device) store_faults.Device refl device why)
-  by_fault (faults.Start node (start_faults.Store store_faults.Damaged)) why = absurd (unfailing node (start_faults.Store store_faults.Damaged) store_faults.Damaged refl damaged why)
+  by_fault (faults.Start node (start_faults.Store store_faults.Device)) why = absurd (unfailing node (start_faults.Store store_faults.Device) store_faults.Device refl (λ clash. absurd cc) why)
+  by_fault (faults.Start node (start_faults.Store store_faults.Damaged)) why = absurd (unfailing node (start_faults.Store store_faults.Damaged) store_faults.Damaged refl (λ clash. absurd cc) why)
   by_fault _ why = absurd why
 
-  pub calm_fault : {X : Type 0} (r : Result X WorldFault) → IfErr r (λ why. IsNewFault c stores Refused StoreRefused why) → IfErr r (IsCalmFault Refused StoreRefused)
-  calm_fault (Ok x) why = tt
-  calm_fault (Err fault) why = by_fault fault why
+-- what a network that isn't made comes to, where nothing repeats
+module _ (c : ConfigValue) (stores : List StoreState) (Refused StoreRefused : Type 0) where
+  pub record Fails (r : Result WorldState WorldFault) : Type 0 where
+    pub stands : AllHonest stores → IfOk r (IsOpened c)
+    pub headline : IfOk r (λ w. Promises w)
+    pub lists : KeepsLists stores r
+    pub fault : IfErr r (IsNewFault c stores Refused StoreRefused)
+    pub repeated : (r ≡ Err faults.Repeated) ↔ (repeats c ≡ true)
+    pub memory : IsErrOf r faults.OutOfMemory → Refused
+    pub start_memory : FailsToStartOnlyIf r start_faults.OutOfMemory Refused
+    pub store_memory : FailsToStartOnlyIf r (start_faults.Store store_faults.OutOfMemory) StoreRefused
+    pub calm : StaysCalm stores r
+    pub calm_faults : FailsCalm stores Refused StoreRefused r
+
+  pub fails : (r : Result WorldState WorldFault) → IsErrAnd r (IsNewFault c stores Refused StoreRefused) → (repeats c ≡ true → r ≡ Err faults.Repeated) → Fails r
+  fails (Ok w) why repeated = absurd why
+  fails (Err fault) why repeated = record {
+    stands = λ honest. tt;
+    headline = tt;
+    lists = λ honest. tt;
+    fault = why;
+    repeated = (λ is. why_is faults.Repeated is, repeated);
+    memory = λ is. why_is faults.OutOfMemory is;
+    start_memory = λ node is. (why_is (faults.Start node start_faults.OutOfMemory) is).4.memory refl;
+    store_memory = λ node is. (why_is (faults.Start node (start_faults.Store store_faults.OutOfMemory)) is).4.store_memory refl;
+    calm = λ calm. tt;
+    calm_faults = λ calm below. by_fault c stores Refused StoreRefused calm below fault why;
+  }
+    where
+      why_is : (other : WorldFault) → ◌≡◌ {A = Result WorldState WorldFault} (Err fault) (Err other) → IsNewFault c stores Refused StoreRefused other
+      why_is other is = subst (IsNewFault c stores Refused StoreRefused) (let same : fault ≡ other = cc in same) why

@@ -8,17 +8,10 @@ use Rattle.std.proofs.Math.Seq.{take-append_seam, map-set_same}
 use Rattle.std.specs.Prelude.{◌⊎◌, ◌≢◌, slice_get, IfSome, is_some, nat_le, nat_lt, position, if◌then◌else◌, slice_set, IsTrue, IfOk}
 use Rattle.std.specs.Option.{option_map}
 use Rattle.lisp_refinement.proofs.Gets.{same_some, get_set, AtSet, get_before}
-use Rattle.lisp_refinement.proofs.Changing.{change_stands}
-use Rattle.lisp_refinement.proofs.Losing.{lose_stands}
-use Rattle.lisp_refinement.proofs.Noticing.{notice_stands}
-use Rattle.lisp_refinement.proofs.Reloading.{reload_stands}
-use Rattle.lisp_refinement.proofs.Resending.{resend_stands}
-use Rattle.lisp_refinement.proofs.Rotating.{rotate_stands}
-use Rattle.lisp_refinement.proofs.Sending.{send_stands}
-use Rattle.lisp_refinement.proofs.Passing.{tick_stands}
-use Rattle.lisp_refinement.proofs.Taking.{delivers_stand, junk_stands, restarts_stand}
+use Rattle.lisp_refinement.proofs.Taking.{taking_agrees}
+use Rattle.lisp_refinement.specs.Taking.{NetworkTakes}
 use Rattle.lisp_refinement.specs.World.{DatagramValue, ServerNodeState, RouterNodeState, WorldState, RouterCoreState, Up, Down}
-use Rattle.lisp_refinement.specs.Events.{address_of, node_with, datagram_to, Arrives, ArrivesWhere, NetworkDelivers, ServerActs, RouterActs, ExpiresEach, NetworkTicks, NetworkChanges, RouterSends, NetworkSends, RouterHears, NetworkRestarts, NetworkNotifies, NetworkReloads, NetworkResends, NetworkRotates, NetworkLoses, RouterRotates, change_line, reload_line}
+use Rattle.lisp_refinement.specs.Events.{address_of, node_with, datagram_to, Arrives, ArrivesWhere, NetworkDelivers, ServerActs, RouterActs, ExpiresEach, RouterSends, RouterHears, NetworkRestarts, RouterRotates}
 use Rattle.lisp_refinement.specs.Calls.{UsesStore}
 use Rattle.lisp_records.specs.{Address.addr_eq, declared.address.Addr.Addr, Record.MapRecordValue}
 use Rattle.lisp_nonces.specs.declared.fate.Fate.{Fate}
@@ -27,12 +20,11 @@ use Rattle.lisp_nonces.specs.Store.{StoreState, Proceeds}
 use Rattle.lisp_model.specs.declared.line.Line.{Line}
 use Rattle.lisp_model.specs.declared.world_fault.WorldFault.{WorldFault}
 use Rattle.lisp_model.specs.declared.world_fault.WorldFault.TheVariants.{NoDatagram}
-use Rattle.lisp_model.specs.Restarting.{Fits}
 use Rattle.lisp_model.specs.Memory.{MayTell}
-use Rattle.lisp_world.specs.Faults.{datagram_fault, node_fault, refusal_of, pair_fault, restart_fault, router_fault, router_key_fault, server_fault, tick_fault, used_before_loss, used_ever}
+use Rattle.lisp_model.specs.Trace.{EventValue, fate_of}
+use Rattle.lisp_world.specs.Faults.{datagram_fault, fault_of, node_fault, refusal_of, pair_fault}
 use Rattle.lisp_world.specs.Quiet.{stores_of, IsCalm, AllCalm, failures, KeepsCalm}
 use Rattle.lisp_world.specs.Taking.{TookEvent}
-use Rattle.lisp_policy.specs.{Site.SiteValue, Extends.extends}
 use Rattle.lisp_model.specs.declared.event.Event.TheVariants as events
 use Rattle.lisp_model.specs.declared.line.Line.TheVariants as lines
 
@@ -100,10 +92,6 @@ datagram_there bag k passes = leb-false (length bag) k (passed _ _ passes)
 pub addressed_there : (addresses : List Addr) (address : Addr) (node : ℕ) → Some node ≡ position (λ a. addr_eq a address) addresses → node < length addresses
 addressed_there addresses address node found = (position-Some (λ a. addr_eq a address) addresses node address (sym found)).0
 
--- it is the same where there is room for more datagrams alone
-pub same_world : (w : WorldState) (bag : List DatagramValue) → bag ≡ w.bag → record w { bag = bag } ≡ w
-same_world w bag same = ap (λ (b : List DatagramValue). record w { bag = b }) same
-
 -- bytes arrived at a node: so they do in the network where its nodes are written over the old ones, and the answer went to
 -- the end of the bag
 module _ (A : Type 0) (w : WorldState) (node : ℕ) (fate : Fate) (from : Addr) (bytes : List ℕ) (line : Line) (reply : Option (List ℕ))
@@ -131,13 +119,9 @@ delivered {A = A} {old = old} {new = new} {k = k} {fate = fate} {line = line} d 
     record { datagram = d; sent = sent; arrives = subst (λ (at : Option ℕ). ArrivesWhere A old new k fate d at line) found arrives }
 
 -- an element that is read once there is room for more is the one that was there
-pub read_still : {X : Type 0} (xs ys : List X) (k : ℕ) (x : X) → k < length xs → ys ≡ xs → x ≡ get_or ys k x → slice_get xs k ≡ Some x
+read_still : {X : Type 0} (xs ys : List X) (k : ℕ) (x : X) → k < length xs → ys ≡ xs → x ≡ get_or ys k x → slice_get xs k ≡ Some x
 read_still {X = X} xs ys k x within same read =
     slice_get-get_or xs k x within ∙ ap (λ (y : X). Some y) (sym (read ∙ ap (λ (zs : List X). get_or zs k x) same))
-
--- an element that is read twice is the same
-pub read_again : {X : Type 0} (xs : List X) (k : ℕ) (x y : X) → k < length xs → x ≡ get_or xs k x → y ≡ get_or xs k y → y ≡ x
-read_again xs k x y within first second = get_or_read xs k y within second x ∙ sym first
 
 -- what a list lends at a place is what stands there, if anything does
 pub element_read : {X : Type 0} (xs : List X) (k : ℕ) (r : Option (Bor X)) → is_some r ≡ nat_lt k (length xs) → IfSome r (λ x. x.now ≡ get_or xs k x.now) → option_map (λ x. x.now) r ≡ slice_get xs k
@@ -282,95 +266,56 @@ expired_stores (n ∷ old) (m ∷ new) now count each =
     let rest = expired_stores old new now (omega (arith, count)) (λ k. each (suc k)) in
     λ i. same i ∷ rest i
 
--- time passes
-pub ticks_calm : (old new : WorldState) (ms : ℕ) (line : Line) → NetworkTicks old new ms line → KeepsCalm old new Done
-ticks_calm old new ms line ticks = same_stores old new Done
-    (ap (λ (w : WorldState). stores_of w) ticks.left
-    ∙ ap (λ (all : List StoreState). all ++ router_stores old) (expired_stores old.servers new.servers (old.clock + ms) ticks.count ticks.each))
-
--- a router is given another database
-pub changes_calm : (old new : WorldState) (router : ℕ) (db : List MapRecordValue) (line : Line) → NetworkChanges old new router db line → KeepsCalm old new Done
-changes_calm old new router db line changes = router_keeps old new router [] Done changes.acts
-    (same_store changes.acts.before.store changes.acts.after.store Done (ap (λ (n : RouterNodeState). n.store) changes.changes))
-
--- a router that sends uses its store if it is up
+-- a router that sends, is given bytes, or is asked to go over to a key uses its store if it is up
 send_keeps : (old : WorldState) (router server part : ℕ) (fate : Fate) (before after : RouterNodeState) (core : RouterCoreState) (line : Line) (more : List DatagramValue)
     → RouterSends old router server part fate before after core line more → KeepsStore before.store after.store fate
-send_keeps old router server part fate before after (Up e) line more up = uses_keeps before.store up.sends.call.armed up.sends.call.called after.store fate up.sends.call.uses
-send_keeps old router server part fate before after (Down config database) line more sends =
-    same_store before.store after.store fate (ap (λ (n : RouterNodeState). n.store) sends.0)
+send_keeps old router server part fate before after (Up e) line more up = uses_keeps _ _ _ _ fate up.sends.call.uses
+send_keeps old router server part fate before after (Down config database) line more sends = same_store _ _ fate (ap (λ (n : RouterNodeState). n.store) sends.0)
 
--- a router sends
-pub sends_calm : (old new : WorldState) (router server part : ℕ) (fate : Fate) (line : Line) → NetworkSends old new router server part fate line → KeepsCalm old new fate
-sends_calm old new router server part fate line sends = router_keeps old new router sends.more fate sends.acts
-    (send_keeps old router server part fate sends.acts.before sends.acts.after sends.acts.before.core line sends.more sends.sends)
-
--- a router that is given bytes uses its store if it is up
 hear_keeps : (A : Type 0) (old : WorldState) (node : ℕ) (before after : RouterNodeState) (fate : Fate) (from : Addr) (bytes : List ℕ) (core : RouterCoreState)
     (line : Line) (more : List DatagramValue) → RouterHears A old node before after fate from bytes core line more → KeepsStore before.store after.store fate
-hear_keeps A old node before after fate from bytes (Up e) line more up = uses_keeps before.store up.hears.armed up.hears.armed after.store fate up.hears.uses
-hear_keeps A old node before after fate from bytes (Down config database) line more hears =
-    same_store before.store after.store fate (ap (λ (n : RouterNodeState). n.store) hears.0)
+hear_keeps A old node before after fate from bytes (Up e) line more up = uses_keeps _ _ _ _ fate up.hears.uses
+hear_keeps A old node before after fate from bytes (Down config database) line more hears = same_store _ _ fate (ap (λ (n : RouterNodeState). n.store) hears.0)
 
--- bytes arrive at a node
-pub arrives_calm : (A : Type 0) (old new : WorldState) (node : ℕ) (fate : Fate) (from : Addr) (bytes : List ℕ) (line : Line)
-    → Arrives A old new node fate from bytes line → KeepsCalm old new fate
-arrives_calm A old new node fate from bytes line (inl server) = server_keeps old new node _ fate server.acts
-    (uses_keeps server.acts.before.store server.receives.armed server.receives.called server.acts.after.store fate server.receives.uses)
+rotate_keeps : (router key : ℕ) (secret : List ℕ) (fate : Fate) (now : ℕ) (before after : RouterNodeState) (core : RouterCoreState) (line : Line)
+    → RouterRotates router key secret fate now before after core line → KeepsStore before.store after.store fate
+rotate_keeps router key secret fate now before after (Up e) line up = uses_keeps _ _ _ _ fate up.rotates.call.uses
+rotate_keeps router key secret fate now before after (Down config database) line rotates = same_store _ _ fate (ap (λ (n : RouterNodeState). n.store) rotates.0)
+
+-- bytes arrive at a node; a datagram arrives where it was sent to, or nowhere
+arrives_calm : (A : Type 0) (old new : WorldState) (node : ℕ) (fate : Fate) (from : Addr) (bytes : List ℕ) (line : Line) → Arrives A old new node fate from bytes line → KeepsCalm old new fate
+arrives_calm A old new node fate from bytes line (inl server) = server_keeps old new node _ fate server.acts (uses_keeps _ _ _ _ fate server.receives.uses)
 arrives_calm A old new node fate from bytes line (inr router) = router_keeps old new node router.more fate router.acts
     (hear_keeps A old node router.acts.before router.acts.after fate from bytes router.acts.before.core line router.more router.hears)
 
--- a datagram arrives where it was sent to, or nowhere
-arrival_calm : (A : Type 0) (old new : WorldState) (k : ℕ) (fate : Fate) (d : DatagramValue) (target : Option ℕ) (line : Line)
-    → ArrivesWhere A old new k fate d target line → KeepsCalm old new fate
-arrival_calm A old new k fate d (Some node) line arrives = arrives_calm A old new node fate d.from d.bytes line arrives
-arrival_calm A old new k fate d None line nowhere = same_stores old new fate (ap (λ (w : WorldState). stores_of w) nowhere.0)
+delivers_calm : (A : Type 0) (old new : WorldState) (k : ℕ) (fate : Fate) (d : DatagramValue) (target : Option ℕ) (line : Line) → ArrivesWhere A old new k fate d target line → KeepsCalm old new fate
+delivers_calm A old new k fate d (Some node) line arrives = arrives_calm A old new node fate d.from d.bytes line arrives
+delivers_calm A old new k fate d None line nowhere = same_stores old new fate (ap (λ (w : WorldState). stores_of w) nowhere.0)
 
--- a datagram that was sent is delivered
-pub delivers_calm : (A : Type 0) (old new : WorldState) (k : ℕ) (fate : Fate) (line : Line) → NetworkDelivers A old new k fate line → KeepsCalm old new fate
-delivers_calm A old new k fate line delivers = arrival_calm A old new k fate delivers.datagram (node_with old delivers.datagram.to) line delivers.arrives
-
--- a node stops, its store crashes, and it starts again
-pub restarts_calm : (old new : WorldState) (node pick : ℕ) (db : Option (List MapRecordValue)) (line : Line) → NetworkRestarts old new node pick db line → KeepsCalm old new Done
-restarts_calm old new node pick db line (inl (none, server)) = server_keeps old new node [] Done server.acts
-    (proceeds_keeps server.acts.before.store server.acts.after.store Done server.crashes.proceeds)
+-- a node's store crashes, or is lost, and the node starts again
+restarts_calm : (old new : WorldState) (node pick : ℕ) (db : Option (List MapRecordValue)) (line : Line) → NetworkRestarts old new node pick db line → KeepsCalm old new Done
+restarts_calm old new node pick db line (inl (none, server)) = server_keeps old new node [] Done server.acts (proceeds_keeps _ _ Done server.crashes.proceeds)
 restarts_calm old new node pick db line (inr router) = router_keeps old new node [] Done router.acts
-    (both_keep router.acts.before.store router.restarts.crashed router.acts.after.store Done
-    (proceeds_keeps router.acts.before.store router.restarts.crashed Done router.restarts.crashes.proceeds)
-    (proceeds_keeps router.restarts.crashed router.acts.after.store Done router.restarts.starts.proceeds))
+    (both_keep _ _ _ Done (proceeds_keeps _ _ Done router.restarts.crashes.proceeds) (proceeds_keeps _ _ Done router.restarts.starts.proceeds))
 
--- a router that is asked to go over to a key uses its store if it is up
-rotate_keeps : (router key : ℕ) (secret : List ℕ) (fate : Fate) (now : ℕ) (before after : RouterNodeState) (core : RouterCoreState) (line : Line)
-    → RouterRotates router key secret fate now before after core line → KeepsStore before.store after.store fate
-rotate_keeps router key secret fate now before after (Up e) line up = uses_keeps before.store up.rotates.call.armed up.rotates.call.called after.store fate up.rotates.call.uses
-rotate_keeps router key secret fate now before after (Down config database) line rotates =
-    same_store before.store after.store fate (ap (λ (n : RouterNodeState). n.store) rotates.0)
-
-pub rotates_calm : (old new : WorldState) (router key : ℕ) (fate : Fate) (line : Line) → NetworkRotates old new router key fate line → KeepsCalm old new fate
-rotates_calm old new router key fate line rotates = router_keeps old new router [] fate rotates.acts
-    (rotate_keeps router key rotates.of.secret fate old.clock rotates.acts.before rotates.acts.after rotates.acts.before.core line rotates.rotates)
-
--- a router's store is lost, and it starts again
-pub loses_calm : (old new : WorldState) (router key : ℕ) (db : Option (List MapRecordValue)) (line : Line) → NetworkLoses old new router key db line → KeepsCalm old new Done
-loses_calm old new router key db line loses = router_keeps old new router [] Done loses.acts
-    (both_keep loses.acts.before.store loses.loses.lost loses.acts.after.store Done
-    (proceeds_keeps loses.acts.before.store loses.loses.lost Done loses.loses.loses.proceeds)
-    (proceeds_keeps loses.loses.lost loses.acts.after.store Done loses.loses.starts.proceeds))
-
--- a Map-Server sends a notice
-pub notices_calm : (old new : WorldState) (server router : ℕ) (fate : Fate) (line : Line) → NetworkNotifies old new server router fate line → KeepsCalm old new fate
-notices_calm old new server router fate line notices = server_keeps old new server notices.more fate notices.acts
-    (uses_keeps notices.acts.before.store notices.notifies.armed notices.notifies.called notices.acts.after.store fate notices.notifies.uses)
-
--- a Map-Server sends a notice again, without its store
-pub resends_calm : (old new : WorldState) (server router : ℕ) (line : Line) → NetworkResends old new server router line → KeepsCalm old new Done
-resends_calm old new server router line resends = server_keeps old new server resends.more Done resends.acts
-    (same_store resends.acts.before.store resends.acts.after.store Done (ap (λ (n : ServerNodeState). n.store) resends.rest))
-
--- a Map-Server takes other sites, without its store
-pub reloads_calm : (old new : WorldState) (server : ℕ) (given : List SiteValue) (line : Line) → NetworkReloads old new server given line → KeepsCalm old new Done
-reloads_calm old new server given line reloads = server_keeps old new server [] Done reloads.acts
-    (same_store reloads.acts.before.store reloads.acts.after.store Done reloads.reloads.store)
+-- any event keeps calm stores calm
+takes_calm : (A : Type 0) (old new : WorldState) (event : EventValue) (line : Line) → NetworkTakes A old new event line → KeepsCalm old new (fate_of event)
+takes_calm A old new (events.Change router db) line turn = router_keeps old new router [] Done turn.acts (same_store _ _ Done (ap (λ (n : RouterNodeState). n.store) turn.changes))
+takes_calm A old new (events.Send router server part fate) line turn = router_keeps old new router turn.more fate turn.acts
+    (send_keeps old router server part fate turn.acts.before turn.acts.after turn.acts.before.core line turn.more turn.sends)
+takes_calm A old new (events.Deliver k fate) line turn = delivers_calm A old new k fate turn.datagram (node_with old turn.datagram.to) line turn.arrives
+takes_calm A old new (events.Junk to from bytes) line turn = arrives_calm A old new to Done from bytes line turn
+takes_calm A old new (events.Tick ms) line turn = same_stores old new Done
+    (ap (λ (w : WorldState). stores_of w) turn.left
+    ∙ ap (λ (all : List StoreState). all ++ router_stores old) (expired_stores old.servers new.servers (old.clock + ms) turn.count turn.each))
+takes_calm A old new (events.Restart node pick db) line turn = restarts_calm old new node pick db line turn.1
+takes_calm A old new (events.Rotate router key fate) line turn = router_keeps old new router [] fate turn.acts
+    (rotate_keeps router key turn.of.secret fate old.clock turn.acts.before turn.acts.after turn.acts.before.core line turn.rotates)
+takes_calm A old new (events.Lose router key db) line turn = router_keeps old new router [] Done turn.1.acts
+    (both_keep _ _ _ Done (proceeds_keeps _ _ Done turn.1.loses.loses.proceeds) (proceeds_keeps _ _ Done turn.1.loses.starts.proceeds))
+takes_calm A old new (events.Notice server router fate) line turn = server_keeps old new server turn.more fate turn.acts (uses_keeps _ _ _ _ fate turn.notifies.uses)
+takes_calm A old new (events.Resend server router) line turn = server_keeps old new server turn.more Done turn.acts (same_store _ _ Done (ap (λ (n : ServerNodeState). n.store) turn.rest))
+takes_calm A old new (events.Reload server given) line turn = server_keeps old new server [] Done turn.acts (same_store _ _ Done turn.reloads.store)
 
 -- ---- An event that was taken: a trace goes on by its turn, which keeps calm stores calm.
 
@@ -387,111 +332,11 @@ module _ (seen w : WorldState) (same : seen ≡ w) (server router place : ℕ) (
   pub no_pair_fault : refusal_of checked ≡ pair_fault w router server → None ≡ pair_fault seen router server
   no_pair_fault is = sym (ap refusal_of found) ∙ is ∙ ap (λ (v : WorldState). pair_fault v router server) (sym same)
 
-module _ (node_may store_may : Type 0) (old new : WorldState) where
-  pub sends_taken : (router server part : ℕ) (fate : Fate) (line : Line) → None ≡ pair_fault old router server → NetworkSends old new router server part fate line → MayTell node_may store_may line
-      → TookEvent node_may store_may old new (events.Send router server part fate) line
-  sends_taken router server part fate line possible turn tells = record {
-    possible = sym possible;
-    stands = send_stands old new router server part fate line turn;
-    calm = sends_calm old new router server part fate line turn;
-    tells = tells;
-  }
-
-  pub notices_taken : (server router : ℕ) (fate : Fate) (line : Line) → None ≡ pair_fault old router server → NetworkNotifies old new server router fate line → MayTell node_may store_may line
-      → TookEvent node_may store_may old new (events.Notice server router fate) line
-  notices_taken server router fate line possible turn tells = record {
-    possible = sym possible;
-    stands = notice_stands old new server router fate line turn;
-    calm = notices_calm old new server router fate line turn;
-    tells = tells;
-  }
-
-  pub resends_taken : (server router : ℕ) (line : Line) → None ≡ pair_fault old router server → NetworkResends old new server router line → MayTell node_may store_may line
-      → TookEvent node_may store_may old new (events.Resend server router) line
-  resends_taken server router line possible turn tells = record {
-    possible = sym possible;
-    stands = resend_stands old new server router line turn;
-    calm = resends_calm old new server router line turn;
-    tells = tells;
-  }
-
-  pub reloads_taken : (server : ℕ) (given : List SiteValue) (line : Line) → None ≡ server_fault old server → NetworkReloads old new server given line
-      → TookEvent node_may store_may old new (events.Reload server given) line
-  reloads_taken server given line possible turn = record {
-    possible = sym possible;
-    stands = reload_stands old new server given line turn;
-    calm = reloads_calm old new server given line turn;
-    tells = subst (λ (l : Line). MayTell node_may store_may l) (sym turn.said) (told (extends turn.acts.before.core.sites given));
-  }
-    where
-      told : (goes_on : Bool) → MayTell node_may store_may (reload_line server goes_on (length given))
-      told true = tt
-      told false = tt
-
-  pub delivers_taken : (A : Type 0) (k : ℕ) (fate : Fate) (line : Line) → None ≡ datagram_fault old k → NetworkDelivers A old new k fate line → MayTell node_may store_may line
-      → TookEvent node_may store_may old new (events.Deliver k fate) line
-  delivers_taken A k fate line possible turn tells = record {
-    possible = sym possible;
-    stands = delivers_stand A old new k fate line turn;
-    calm = delivers_calm A old new k fate line turn;
-    tells = tells;
-  }
-
-  pub arrives_taken : (A : Type 0) (node : ℕ) (from : Addr) (bytes : List ℕ) (line : Line) → None ≡ node_fault old node → Arrives A old new node Done from bytes line → MayTell node_may store_may line
-      → TookEvent node_may store_may old new (events.Junk node from bytes) line
-  arrives_taken A node from bytes line possible turn tells = record {
-    possible = sym possible;
-    stands = junk_stands A old new node from bytes line turn;
-    calm = arrives_calm A old new node Done from bytes line turn;
-    tells = tells;
-  }
-
-  pub ticks_taken : (ms : ℕ) (line : Line) → None ≡ tick_fault old ms → NetworkTicks old new ms line → TookEvent node_may store_may old new (events.Tick ms) line
-  ticks_taken ms line possible turn = record {
-    possible = sym possible;
-    stands = tick_stands old new ms line turn;
-    calm = ticks_calm old new ms line turn;
-    tells = subst (λ (l : Line). MayTell node_may store_may l) (sym turn.said) tt;
-  }
-
-  pub changes_taken : (router : ℕ) (db : List MapRecordValue) (line : Line) → None ≡ router_fault old router → NetworkChanges old new router db line → TookEvent node_may store_may old new (events.Change router db) line
-  changes_taken router db line possible turn = record {
-    possible = sym possible;
-    stands = change_stands old new router db line turn;
-    calm = changes_calm old new router db line turn;
-    tells = subst (λ (l : Line). MayTell node_may store_may l) (sym turn.said) (told turn.acts.before.core);
-  }
-    where
-      told : (core : RouterCoreState) → MayTell node_may store_may (change_line router db core)
-      told (Up etr) = tt
-      told (Down config database) = tt
-
-  pub restarts_taken : (node pick : ℕ) (db : Option (List MapRecordValue)) (line : Line) → None ≡ restart_fault old node db → Fits db → NetworkRestarts old new node pick db line → MayTell node_may store_may line
-      → TookEvent node_may store_may old new (events.Restart node pick db) line
-  restarts_taken node pick db line possible fits turn tells = record {
-    possible = sym possible;
-    stands = restarts_stand old new node pick db line fits turn;
-    calm = restarts_calm old new node pick db line turn;
-    tells = tells;
-  }
-
-  pub rotates_taken : (router key : ℕ) (fate : Fate) (line : Line) → router_key_fault old router key (used_before_loss key) ≡ None → NetworkRotates old new router key fate line → MayTell node_may store_may line
-      → TookEvent node_may store_may old new (events.Rotate router key fate) line
-  rotates_taken router key fate line possible turn tells = record {
-    possible = possible;
-    stands = rotate_stands old new router key fate line turn;
-    calm = rotates_calm old new router key fate line turn;
-    tells = tells;
-  }
-
-  pub loses_taken : (router key : ℕ) (db : Option (List MapRecordValue)) (line : Line) → router_key_fault old router key (used_ever key) ≡ None → Fits db → NetworkLoses old new router key db line → MayTell node_may store_may line
-      → TookEvent node_may store_may old new (events.Lose router key db) line
-  loses_taken router key db line possible fits turn tells = record {
-    possible = possible;
-    stands = lose_stands old new router key db line fits turn;
-    calm = loses_calm old new router key db line turn;
-    tells = tells;
-  }
+-- an event without a fault, and what it makes of the network
+pub event_taken : (node_may store_may A : Type 0) (old new : WorldState) (event : EventValue) (line : Line) → fault_of old event ≡ None → NetworkTakes A old new event line
+    → MayTell node_may store_may line → TookEvent node_may store_may old new event line
+event_taken node_may store_may A old new event line possible turn tells =
+    record { possible = possible; stands = taking_agrees A old new event line turn; calm = takes_calm A old new event line turn; tells = tells }
 
 -- a datagram was delivered: it was read once there was room for another one, and once more when the node was known
 module _ (node_may store_may : Type 0) (w : WorldState) (room : List DatagramValue) (same : room ≡ w.bag) (k : ℕ) (fate : Fate) (possible : None ≡ datagram_fault w k) (d first : DatagramValue)
@@ -501,8 +346,8 @@ module _ (node_may store_may : Type 0) (w : WorldState) (room : List DatagramVal
 
   -- no node has its address
   pub lost : None ≡ node_with w d.to → TookEvent node_may store_may w (record w { bag = room }) (events.Deliver k fate) (lines.Nowhere k)
-  lost nowhere = delivers_taken node_may store_may w (record w { bag = room }) (Unit {0}) k fate (lines.Nowhere k) possible
-      (delivered d None sent nowhere (same_world w room same, refl)) tt
+  lost nowhere = event_taken node_may store_may (Unit {0}) w (record w { bag = room }) (events.Deliver k fate) (lines.Nowhere k) (sym possible)
+      (delivered d None sent nowhere ((ap (λ (b : List DatagramValue). record w { bag = b }) same), refl)) tt
 
   -- a node has it
   pub handed : (A : Type 0) (node : ℕ) (second : DatagramValue) (bytes : List ℕ) (address : Addr) (line : Line) (reply : Option (List ℕ)) (servers : List ServerNodeState) (routers : List RouterNodeState) (servers_long routers_long : ℕ) (bag : List DatagramValue)
@@ -516,13 +361,10 @@ module _ (node_may store_may : Type 0) (w : WorldState) (room : List DatagramVal
         routers = take routers_long (routers ++ drop (length routers) w.routers);
       }) (events.Deliver k fate) line
   handed A node second bytes address line reply servers routers servers_long routers_long bag found again says all_servers all_routers its posts arrives tells =
-      delivers_taken node_may store_may w _ A k fate line possible (delivered d (Some node) sent found at_node) tells
+      event_taken node_may store_may A w _ (events.Deliver k fate) line (sym possible) (delivered d (Some node) sent found at_node) tells
     where
       within : k < length room
       within = (let low = datagram_there w.bag k possible in let long = ap length same in omega (arith, low, long))
-
-      same_bytes : bytes ≡ d.bytes
-      same_bytes = says ∙ ap (λ (p : DatagramValue). p.bytes) (read_again room k first second within read again ∙ sym is)
 
       at_node : Arrives A w (record w {
         bag = bag;
@@ -531,4 +373,5 @@ module _ (node_may store_may : Type 0) (w : WorldState) (room : List DatagramVal
       }) node fate d.from d.bytes line
       at_node = arrived A w node fate d.from d.bytes line reply servers routers servers_long routers_long bag all_servers all_routers
           (posts ∙ (λ i. same i ++ datagram_to (its i) d.from reply))
-          (subst (λ (b : List ℕ). Arrives A w (record w { bag = w.bag ++ datagram_to (address_of w node) d.from reply; servers = servers; routers = routers }) node fate d.from b line) same_bytes arrives)
+          (subst (λ (b : List ℕ). Arrives A w (record w { bag = w.bag ++ datagram_to (address_of w node) d.from reply; servers = servers; routers = routers }) node fate d.from b line)
+              (says ∙ ap (λ (p : DatagramValue). p.bytes) ((get_or_read room k second within again first ∙ sym read) ∙ sym is)) arrives)

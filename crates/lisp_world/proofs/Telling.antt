@@ -9,6 +9,7 @@ use Rattle.std.specs.Result.{is_err, OnOk, OnErr}
 use Rattle.lisp_records.specs.declared.address.Addr.{Addr}
 use Rattle.lisp_records.specs.declared.router.RouterId.{RouterId}
 use Rattle.lisp_records.specs.Address.{PrefixValue}
+use Rattle.lisp_records.specs.Record.{MapRecordValue}
 use Rattle.lisp_etr.specs.declared.{rotate_fault.RotateFault.RotateFault, send_fault.SendFault.SendFault, start_fault.StartFault.StartFault}
 use Rattle.lisp_admission.specs.declared.notice_fault.NoticeFault.{NoticeFault}
 use Rattle.lisp_server.specs.Notices.{StandingNoticeValue, RefusesResend}
@@ -18,17 +19,17 @@ use Rattle.lisp_model.specs.declared.world_fault.WorldFault.TheVariants.{Clock, 
 use Rattle.lisp_model.specs.declared.event.Event.{Event}
 use Rattle.lisp_model.specs.Memory.{MayTell}
 use Rattle.lisp_model.specs.Trace.{EventValue, fate_of, event_value, Step, Opening}
-use Rattle.lisp_refinement.specs.World.{DatagramValue, ServerNodeState, WorldState, RouterNodeState, UsedKeysState}
-use Rattle.lisp_refinement.specs.Events.{NodeResends, SaysNoticeAnswer, SaysResendAnswer, loss_line}
+use Rattle.lisp_refinement.specs.World.{DatagramValue, ServerNodeState, WorldState, RouterCoreState, Up, Down, RouterNodeState, UsedKeysState}
+use Rattle.lisp_refinement.specs.Events.{NodeResends, SaysNoticeAnswer, SaysResendAnswer, change_line, loss_line, reload_line}
 use Rattle.lisp_refinement.specs.Nodes.{router_at}
 use Rattle.lisp_refinement.specs.Stands.{StandsAfter}
 use Rattle.lisp_refinement.specs.Replied.{IsPromised, NodeReplies, Replies}
-use Rattle.lisp_refinement.proofs.Replying.{replies_are_promised}
+use Rattle.lisp_refinement.proofs.Headlines.{replies_are_promised}
 use Rattle.lisp_nodes.specs.Asked.{asked_rotate_line}
 use Rattle.lisp_world.specs.Asked.{SaysAsked}
 use Rattle.lisp_world.specs.Faults.{Faults, fault_of, key_fault, refusal_of, router_fault, router_key_fault, used_before_loss, used_ever}
 use Rattle.lisp_world.specs.Quiet.{KeepsCalm}
-use Rattle.lisp_world.specs.Taking.{Takes, TookEvent}
+use Rattle.lisp_world.specs.Taking.{RefusesEvent, Takes, TookEvent}
 use Rattle.lisp_world.specs.Runs.{Chain, Follows, RunsOn, StopsAt}
 use Rattle.lisp_replies.specs.declared.reply.Reply.{Reply}
 use Rattle.lisp_nonces.specs.declared.fault.StoreFault.TheVariants as stores
@@ -107,6 +108,15 @@ module _ (node_may store_may : Type 0) (node : ℕ) where
   resent_tells w router (Err fault) line more says before after now me resends may =
       subst (λ (l : Line). MayTell node_may store_may l) (sym says.0) (resend_tells before.core.notices me now fault resends.0 (λ is. may (ap Err is)))
 
+  -- of a router's database, and of a Map-Server's sites
+  pub changed_tells : (db : List MapRecordValue) (core : RouterCoreState) (line : Line) → line ≡ change_line node db core → MayTell node_may store_may line
+  changed_tells db (Up etr) line said = subst (λ (l : Line). MayTell node_may store_may l) (sym said) tt
+  changed_tells db (Down config database) line said = subst (λ (l : Line). MayTell node_may store_may l) (sym said) tt
+
+  pub reloaded_tells : (goes_on : Bool) (count : ℕ) (line : Line) → line ≡ reload_line node goes_on count → MayTell node_may store_may line
+  reloaded_tells true count line said = subst (λ (l : Line). MayTell node_may store_may l) (sym said) tt
+  reloaded_tells false count line said = subst (λ (l : Line). MayTell node_may store_may l) (sym said) tt
+
 -- ---- What an event comes to that a network takes, part by part; and faults that are no other.
 
 -- what was taken has no fault, and one fault is no other
@@ -156,38 +166,36 @@ never w (events.Rotate router key fate) = never_key w router key (used_before_lo
 never w (events.Lose router key db) = never_key w router key (used_ever key)
 never w _ = unless _ NoNode _ (λ e. absurd cc) (unless _ WrongKind _ (λ e. absurd cc) nothing)
 
--- what an event comes to, part by part
 module _ (node_may store_may : Type 0) (old new : WorldState) (event : EventValue) where
-  pub took_stands : (r : Result Line WorldFault) → Takes node_may store_may old new event r → IfOk r (λ line. StandsAfter old new event line)
-  took_stands (Ok line) took = took.stands
-  took_stands (Err why) refused = tt
+  -- what an event comes to, part by part
+  pub record Parts (r : Result Line WorldFault) : Type 0 where
+    pub stands : IfOk r (StandsAfter old new event)
+    pub fault : Faults (fault_of old event) r
+    pub left : OnErr r (new ≡ old)
+    pub memory : IsErrOf r OutOfMemory → node_may
+    pub tells : IfOk r (MayTell node_may store_may)
+    pub calm : KeepsCalm old new (fate_of event)
 
-  pub has_fault : (r : Result Line WorldFault) → Takes node_may store_may old new event r → Faults (fault_of old event) r
-  has_fault (Ok line) took = subst (λ (f : Option WorldFault). Faults {X = Line} f (Ok line)) (sym took.possible) tt
-  has_fault (Err why) (kept, inl is) = subst (λ (f : Option WorldFault). Faults {X = Line} f (Err why)) (sym is) refl
-  has_fault (Err why) (kept, inr (none, is, may)) = subst (λ (f : Option WorldFault). Faults {X = Line} f (Err why)) (sym none) is
+  pub parts : (r : Result Line WorldFault) → Takes node_may store_may old new event r → Parts r
+  parts (Ok line) took =
+      let fault = subst (λ (f : Option WorldFault). Faults {X = Line} f (Ok line)) (sym took.possible) tt in
+      record { stands = took.stands; fault = fault; left = tt; memory = λ clash. taken line OutOfMemory clash; tells = took.tells; calm = took.calm }
+  parts (Err why) refused =
+      let calm = subst (λ (w : WorldState). KeepsCalm old w (fate_of event)) (sym refused.0) (record { calm = λ calm. calm; unfailing = λ calm done. refl }) in
+      record { stands = tt; fault = fault refused.1; left = refused.0; memory = λ out. memory refused.1 out; tells = tt; calm = calm }
+    where
+      fault : RefusesEvent node_may (fault_of old event) why → Faults {X = Line} (fault_of old event) (Err why)
+      fault (inl is) = subst (λ (f : Option WorldFault). Faults {X = Line} f (Err why)) (sym is) refl
+      fault (inr (none, is, may)) = subst (λ (f : Option WorldFault). Faults {X = Line} f (Err why)) (sym none) is
+
+      memory : RefusesEvent node_may (fault_of old event) why → ◌≡◌ {A = Result Line WorldFault} (Err why) (Err OutOfMemory) → node_may
+      memory (inl is) out = absurd (never old event (is ∙ ap refusal_of out))
+      memory (inr (none, is, may)) out = may
 
   -- want of memory alone
   pub out_of_memory : (r : Result Line WorldFault) → IsErrAnd r (λ e. e ≡ OutOfMemory) → fault_of old event ≡ None → node_may → new ≡ old → Takes node_may store_may old new event r
   out_of_memory (Ok line) is none may kept = absurd is
   out_of_memory (Err why) is none may kept = (kept, inr (none, is, may))
-
-  pub left : (r : Result Line WorldFault) → Takes node_may store_may old new event r → OnErr r (new ≡ old)
-  left (Ok line) took = tt
-  left (Err why) refused = refused.0
-
-  pub no_memory : (r : Result Line WorldFault) → Takes node_may store_may old new event r → IsErrOf r OutOfMemory → node_may
-  no_memory (Ok line) took clash = taken line OutOfMemory clash
-  no_memory (Err why) (kept, inl is) out = absurd (never old event (is ∙ ap refusal_of out))
-  no_memory (Err why) (kept, inr (none, is, may)) out = may
-
-  pub tells_of : (r : Result Line WorldFault) → Takes node_may store_may old new event r → IfOk r (MayTell node_may store_may)
-  tells_of (Ok line) took = took.tells
-  tells_of (Err why) refused = tt
-
-  pub took_calm : (r : Result Line WorldFault) → Takes node_may store_may old new event r → KeepsCalm old new (fate_of event)
-  took_calm (Ok line) took = took.calm
-  took_calm (Err why) refused = subst (λ (w : WorldState). KeepsCalm old w (fate_of event)) (sym refused.0) (record { calm = λ calm. calm; unfailing = λ calm done. refl })
 
 -- ---- A network runs events: it begins with none, goes on by one at a time, and ends with all of them or before one.
 

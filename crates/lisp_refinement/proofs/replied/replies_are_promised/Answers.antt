@@ -1,4 +1,4 @@
-use Rattle.lisp_refinement.proofs.Replying.{replies_are_promised}
+use Rattle.lisp_refinement.proofs.Headlines.{replies_are_promised}
 use Rattle.lisp_refinement.proofs.replied.replies_are_promised.Goals as goal
 
 pub returns : goal.returns

@@ -2,7 +2,7 @@ use Rattle.std.proofs.Common.{◌≡◌, ◌<◌, ◌++◌, length, refl, sym, a
 use Rattle.std.specs.List.{length_refill}
 use Rattle.lisp_nonces.specs.declared.fate.Fate.TheVariants.{Done}
 use Rattle.lisp_refinement.specs.{Events.datagram_to, World.WorldState}
-use Rattle.lisp_world.proofs.Taking.{arrived, node_there, arrives_taken}
+use Rattle.lisp_world.proofs.Taking.{arrived, node_there, event_taken}
 use Rattle.lisp_world.proofs.world.World.junk.Goals as goal
 
 pub address-address-requires : goal.address-address-requires
@@ -33,7 +33,7 @@ returns g c =
     let all_routers : inside.routers.len ≡ length c.hear-line.new.routers = omega (arith, routers, c.hear-line.auto.routers, inside.routers.ok.0) in
     let possible = rw (← c.self.view_is) at c.in_ok-check_node.ensures in
     rw (← c.self.view_is)
-    (arrives_taken _ _ w _ _ c.args.to c.args.from c.args.bytes.now c.hear-line.result.0 possible
+    (event_taken _ _ _ w _ _ c.hear-line.result.0 (sym possible)
     (arrived _ w c.args.to Done c.args.from c.args.bytes.now c.hear-line.result.0 c.hear-line.result.1 c.hear-line.new.servers c.hear-line.new.routers inside.servers.len inside.routers.len c.post_reply.new.bag.items all_servers all_routers
     (c.post_reply.ensures ∙ (λ i. c.make_room.ensures.items i ++ datagram_to (c.address-address.ensures i) c.args.from c.hear-line.result.1))
     (c.hear-line.ensures.hears w (sym c.deref_mut.ensures.value) (sym c.deref_mut-2.ensures.value) refl count))

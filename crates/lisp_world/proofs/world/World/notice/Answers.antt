@@ -1,7 +1,7 @@
-use Rattle.std.proofs.{Common.arith, lemmas.List.length-set}
+use Rattle.std.proofs.{Common.arith, Common.sym, lemmas.List.length-set}
 use Rattle.lisp_refinement.specs.World.{WorldState}
 use Rattle.lisp_world.proofs.Noticing.{noticed, notice_headed}
-use Rattle.lisp_world.proofs.Taking.{no_pair_fault, notices_taken, router_there, server_there}
+use Rattle.lisp_world.proofs.Taking.{event_taken, no_pair_fault, router_there, server_there}
 use Rattle.lisp_world.proofs.Telling.{noticed_tells}
 use Rattle.lisp_world.proofs.world.World.notice.Goals as goal
 
@@ -22,7 +22,7 @@ returns g c =
     let e = c.notify-notice.ensures in
     let told = c.notice_line.ensures w c.with_room.ensures.same c.address-from.ensures in
     rw (← c.self.view_is)
-    (notices_taken _ _ w _ c.args.server c.args.router c.args.fate c.notice_line.result possible
+    (event_taken _ _ (Unit {0}) w _ _ c.notice_line.result (sym possible)
     (noticed w c.args.server c.args.router c.in_ok-place.place c.notice_line.result c.index_mut.result.now c.notify-notice.new.self c.index.result.now c.me-me.result c.notice_line.new.bag.items router server
     c.index_mut.ensures.value c.index.ensures c.me-me.ensures c.notify-notice.result c.args.fate e.notifies told)
     (noticed_tells _ _ c.args.server w c.args.router c.notify-notice.result c.notice_line.result told.0 told.2 e.memory e.load_memory e.save_memory))

@@ -3,7 +3,8 @@ use Rattle.std.proofs.lemmas.List.{length-set}
 use Rattle.lisp_policy.specs.{Extends.extends, Site.SiteValue}
 use Rattle.lisp_refinement.specs.Events.{reload_line}
 use Rattle.lisp_nodes.proofs.ServerCalls.{server_acted}
-use Rattle.lisp_world.proofs.Taking.{reloads_taken}
+use Rattle.lisp_world.proofs.Taking.{event_taken}
+use Rattle.lisp_world.proofs.Telling.{reloaded_tells}
 use Rattle.lisp_world.proofs.world.World.reload.Goals as goal
 
 pub returns : goal.returns
@@ -14,12 +15,13 @@ returns g c =
     let before = c.index_mut.result.now in
     let goes_on = c.reload-goes_on.ensures.kept ∙ ap (λ (given : List SiteValue). extends before.core.sites given) c.in_ok-copy.ensures.equal in
     let counted = ap (λ (given : List SiteValue). length given) c.as_slice-count.ensures in
+    let said = c.reloaded.ensures ∙ (λ i. reload_line c.args.server (goes_on i) (counted i)) in
     rw (← c.self.view_is)
-    (reloads_taken _ _ _ _ c.args.server c.args.sites.now _ possible (record {
+    (event_taken _ _ (Unit {0}) _ _ _ _ (sym possible) (record {
       acts = server_acted _ c.args.server before c.reload-goes_on.new.self bag [] server c.index_mut.ensures.value (sym (append-nil bag));
       reloads = rw (← c.in_ok-copy.ensures.equal) c.reload-goes_on.ensures.reloads;
-      said = c.reloaded.ensures ∙ (λ i. reload_line c.args.server (goes_on i) (counted i));
-    }))
+      said = said;
+    }) (reloaded_tells _ _ c.args.server _ _ _ said))
 
 pub index_mut-requires : goal.index_mut-requires
 index_mut-requires g c =

@@ -1,7 +1,7 @@
-use Rattle.std.proofs.{Common.arith, lemmas.List.length-set}
+use Rattle.std.proofs.{Common.arith, Common.sym, lemmas.List.length-set}
 use Rattle.lisp_refinement.specs.World.{WorldState}
 use Rattle.lisp_world.proofs.Noticing.{resent}
-use Rattle.lisp_world.proofs.Taking.{no_pair_fault, resends_taken, router_there, server_there}
+use Rattle.lisp_world.proofs.Taking.{event_taken, no_pair_fault, router_there, server_there}
 use Rattle.lisp_world.proofs.Telling.{resent_tells}
 use Rattle.lisp_world.proofs.world.World.resend.Goals as goal
 
@@ -19,7 +19,7 @@ returns g c =
     let e = c.resend-notice.ensures in
     let told = c.resend_line.ensures w c.with_room.ensures.same c.address-from.ensures in
     rw (← c.self.view_is)
-    (resends_taken _ _ w _ c.args.server c.args.router c.resend_line.result possible
+    (event_taken _ _ (Unit {0}) w _ _ c.resend_line.result (sym possible)
     (resent w c.args.server c.args.router c.in_ok-place.place c.resend_line.result c.index_mut.result.now c.resend-notice.new.self c.index.result.now c.me-me.result c.resend_line.new.bag.items router server
     c.index_mut.ensures.value c.index.ensures c.me-me.ensures c.resend-notice.result e.rest e.resends told)
     (resent_tells _ _ c.args.server w c.args.router c.resend-notice.result c.resend_line.result told.0 told.2 c.index_mut.result.now c.resend-notice.new.self inside.clock c.me-me.result e.resends e.memory))

@@ -2,7 +2,7 @@ use Rattle.std.proofs.Common.{◌∙◌, refl, inl, arith}
 use Rattle.lisp_refinement.specs.World.{WorldState}
 use Rattle.lisp_world.specs.Faults.{used_before_loss}
 use Rattle.lisp_world.proofs.Keys.{no_key_fault, rotated, used_key, used_there}
-use Rattle.lisp_world.proofs.Taking.{rotates_taken}
+use Rattle.lisp_world.proofs.Taking.{event_taken}
 use Rattle.lisp_world.proofs.Telling.{rotated_tells}
 use Rattle.lisp_world.proofs.world.World.rotate.Goals as goal
 
@@ -25,6 +25,6 @@ returns g c =
     let unused = used_there w c.args.router c.args.key place secret found c.index.result.now c.index.ensures was_used _ c.used_before_loss.ensures ∙ c.if-used_before_loss.false in
     let e = c.rotate-answer.ensures in
     rw (← c.self.view_is, c.rotated.ensures)
-    (rotates_taken _ _ w _ c.args.router c.args.key c.args.fate _ (no_key_fault w c.args.router c.args.key place secret found was_used unused)
+    (event_taken _ _ (Unit {0}) w _ _ _ (no_key_fault w c.args.router c.args.key place secret found was_used unused)
     (rotated w c.args.router c.args.key place secret found c.index_mut.result.now c.index_mut.ensures.value c.rotate-answer.new.self (omega arith) c.args.fate c.rotate-answer.result unused e.up e.down)
     (rotated_tells _ _ c.args.router c.args.key c.rotate-answer.result e.store_memory))

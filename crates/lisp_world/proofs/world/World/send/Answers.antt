@@ -1,7 +1,7 @@
-use Rattle.std.proofs.{Common.arith, lemmas.List.length-set}
+use Rattle.std.proofs.{Common.arith, Common.sym, lemmas.List.length-set}
 use Rattle.lisp_refinement.specs.World.{WorldState}
 use Rattle.lisp_world.proofs.Sending.{sent, sent_headed}
-use Rattle.lisp_world.proofs.Taking.{no_pair_fault, router_there, sends_taken, server_there}
+use Rattle.lisp_world.proofs.Taking.{event_taken, no_pair_fault, router_there, server_there}
 use Rattle.lisp_world.proofs.Telling.{sent_tells}
 use Rattle.lisp_world.proofs.world.World.send.Goals as goal
 
@@ -22,7 +22,7 @@ returns g c =
     let e = c.send-answer.ensures in
     let told = c.send_line.ensures w c.with_room.ensures.same c.address-from.ensures c.address-to.ensures in
     rw (← c.self.view_is)
-    (sends_taken _ _ w _ c.args.router c.args.server c.args.part c.args.fate c.send_line.result possible
+    (event_taken _ _ (Unit {0}) w _ _ c.send_line.result (sym possible)
     (sent w c.args.router c.args.server c.args.part c.in_ok-place.place c.args.fate c.send_line.result c.index_mut.result.now c.send-answer.new.self c.send_line.new.bag.items there server
     c.index_mut.ensures.value c.send-answer.result e.up e.down told)
     (sent_tells _ _ c.args.router w c.args.server c.args.part c.send-answer.result c.send_line.result told.0 told.2 e.memory e.store_memory))
