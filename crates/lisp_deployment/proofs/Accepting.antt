@@ -1,12 +1,11 @@
 -- Where nothing that a node received is forged, each Map-Register that it accepts was sent, and the line of that was printed.
-use Rattle.std.proofs.Common.{◌≡◌, ◌⊎◌, inl, inr, ℕ, Bool, true, false, true≢false, List, [], ◌∷◌, ◌++◌, Option, Ok, Err, sym, ap, subst, ◌∙◌}
-use Rattle.std.specs.Prelude.{◌==◌, Result, if◌then◌else◌}
+use Rattle.std.proofs.Common.{◌≡◌, ◌⊎◌, inl, inr, ℕ, Bool, true, false, true≢false, List, [], ◌∷◌, ◌++◌, Option, Ok, sym, ap, subst, ◌∙◌}
+use Rattle.std.specs.Prelude.{◌==◌, if◌then◌else◌}
 use Rattle.std.specs.List.{AllByRecursion, Contains}
 use Rattle.std.proofs.lemmas.List.Elements.{Contains-append_cases}
 use Rattle.lisp_records.specs.declared.router.RouterId.{RouterId}
 use Rattle.lisp_policy.specs.Site.{SiteValue}
-use Rattle.lisp_messages.specs.declared.fault.ReadFault.{ReadFault}
-use Rattle.lisp_messages.specs.Message.{MessageValue, MapRegisterValue, Registers}
+use Rattle.lisp_messages.specs.Message.{MapRegisterValue, Registers}
 use Rattle.lisp_messages.specs.Reading.{message_at}
 use Rattle.lisp_model.specs.declared.event.Event.TheVariants as events
 use Rattle.lisp_model.specs.declared.line.Line.{Line}
@@ -17,9 +16,10 @@ use Rattle.lisp_model.specs.Held.{Acceptance}
 use Rattle.lisp_model.specs.Legal.{MayCome, LegalTrace, context_of}
 use Rattle.lisp_model.specs.Trace.{EventValue, Step, Opening, address_at, is_server, sites, clock}
 use Rattle.lisp_model.proofs.CleanLemmas.{checked}
-use Rattle.lisp_model.proofs.Origins.{one_taken}
+use Rattle.lisp_model.proofs.Origins.{one_taken, noise_clash}
 use Rattle.lisp_refinement.specs.World.{DatagramValue}
 use Rattle.lisp_turns.specs.Part.{IsOwn, arrival, arrivals, datagram_from}
+use Rattle.lisp_turns.proofs.Reaching.{all_split}
 use Rattle.lisp_deployment.specs.Received.{IsUnforged}
 use Rattle.lisp_deployment.proofs.Holding.{TakeGiven, sites_given}
 use Rattle.lisp_deployment.proofs.Posting.{WasTold, told_still}
@@ -31,11 +31,6 @@ AreTold o T printed sent = (g : DatagramValue) → Contains sent g → (m : MapR
 -- and so was each that a Map-Server accepted
 abbrev pub AcceptedAreTold : Opening → List Step → List Line → Type 0
 AcceptedAreTold o T printed = (server : ℕ) (x : Acceptance) → Contains (acceptances o T server) x → WasTold o T printed x.message
-
--- of what holds of two lists
-pub all_front : {X : Type 0} (P : X → Type 0) (xs ys : List X) → AllByRecursion P (xs ++ ys) → AllByRecursion P xs × AllByRecursion P ys
-all_front P [] ys all = (tt, all)
-all_front P (x ∷ xs) ys all = let rest = all_front P xs ys all.1 in ((all.0, rest.0), rest.1)
 
 -- what isn't forged, and passes a Map-Server's checks, was sent
 module _ (o : Opening) (given : List (List SiteValue)) (T : List Step) (printed : List Line) (sent : List DatagramValue) (told : AreTold o T printed sent) (number : ℕ) where
@@ -49,9 +44,6 @@ module _ (o : Opening) (given : List (List SiteValue)) (T : List Step) (printed 
 
       at_server : is_server o.config number ≡ true
       at_server = ap (is_server o.config) (sym own ∙ sym row.acts ∙ row.arrives.acts.acts) ∙ row.arrives.acts.kind
-
-      noise_clash : {f : ReadFault} {said : MessageValue} → ◌≡◌ {A = Result MessageValue ReadFault} (Err f) (Ok said) → ⊥
-      noise_clash e = absurd cc
 
       by : IsUnforged o.config given sent number (from, bytes) → WasTold o T printed row.arrives.message
       by (inl has) = told (datagram_from from (address_at o.config number, bytes)) has row.arrives.message row.arrives.admits.read
@@ -81,7 +73,7 @@ module _ (o : Opening) (given : List (List SiteValue)) (T : List Step) (printed 
       → AcceptedAreTold o T printed → AcceptedAreTold o (steps ++ T) printed
   accepted_told [] own legal take unforged before server x has = before server x has
   accepted_told (s ∷ steps) own legal take unforged before server x has =
-      let parts = all_front (IsUnforged o.config given sent number) (arrival s.event) (arrivals steps) unforged in
+      let parts = all_split (IsUnforged o.config given sent number) (arrival s.event) (arrivals steps) unforged in
       by (accepted_after s (steps ++ T) take.1 own.0 parts.0 s.line legal.0.row server x has) (accepted_told steps own.1 legal.1 take.1 parts.1 before server x)
     where
       by : WasTold o T printed x.message ⊎ Contains (acceptances o (steps ++ T) server) x → (Contains (acceptances o (steps ++ T) server) x → WasTold o (steps ++ T) printed x.message) → WasTold o (s ∷ steps ++ T) printed x.message

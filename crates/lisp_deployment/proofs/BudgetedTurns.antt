@@ -7,7 +7,7 @@ use Rattle.lisp_policy.specs.Configuration.{ConfigValue}
 use Rattle.lisp_turns.specs.Outside.{Call, OutsideState, logged}
 use Rattle.lisp_turns.specs.Requests.{answered_calls}
 use Rattle.lisp_turns.specs.Turn.{TurnState, turn_calls, IsTurn, UncutTurns}
-use Rattle.lisp_turns.proofs.Calls.{logged_none, logged_twice}
+use Rattle.lisp_turns.proofs.Asking.{logged_none, logged_twice}
 use Rattle.lisp_deployment.specs.Budgeted.{moment_in, replied, RepliesKeepTheBudget}
 use Rattle.lisp_deployment.proofs.BudgetedTakes.{HasSent, sent_none, keeps_budget}
 use Rattle.lisp_deployment.proofs.BudgetedCalls.{replied_append, turn_replied}
@@ -40,7 +40,7 @@ next_turn A config number places each all s between t so_far turn =
     ∙ ap (λ (l : List SentValue). replied start so_far.calls ++ l) (turn_replied number turn.reception between.receives turn.now turn.dead turn.intake turn.between turn.served answered (moment_in start so_far.calls)) in
     record {
       calls = more ++ so_far.calls;
-      asked = ap (λ (o : OutsideState). o.log) turn.calls ∙ (ap (logged more) so_far.asked ∙ logged_twice more so_far.calls s.outside.log);
+      asked = ap (λ (o : OutsideState). o.log) turn.calls ∙ (ap (logged more) so_far.asked ∙ logged_twice so_far.calls more s.outside.log);
       sent = subst (λ n. HasSent n each all t.resolving.budget (replied start (more ++ so_far.calls))) (sym moment)
           (subst (HasSent turn.now each all t.resolving.budget) (sym all_replied) after);
     }
@@ -50,7 +50,7 @@ all_turns A config number places zero each all s t same none =
     subst (HasAsked each all s) (sym same)
     (record {
       calls = [];
-      asked = logged_none s.outside.log;
+      asked = sym (logged_none s.outside.log);
       sent = subst (λ (b : BudgetState). HasSent s.outside.moment each all b []) (sym none) (sent_none s.outside.moment each all);
     })
 all_turns A config number places (suc n) each all s t (between, turns, uncut, turn) none =

@@ -1,15 +1,14 @@
 -- Where nothing that a node received is forged, each Map-Notify that a router counts is the reply to a Map-Register that its Map-Server
 -- accepted, and the line of that was printed.
-use Rattle.std.proofs.Common.{◌≡◌, ◌⊎◌, inl, inr, ℕ, ◌+◌, ◌-◌, ◌<◌, true, true≢false, List, [], ◌∷◌, ◌++◌, length, Option, Ok, Err, sym, ap, subst, ◌∙◌, arith}
-use Rattle.std.specs.Prelude.{nat_le, nat_lt, Result}
+use Rattle.std.proofs.Common.{◌≡◌, ◌⊎◌, inl, inr, ℕ, ◌+◌, ◌-◌, ◌<◌, true, true≢false, List, [], ◌∷◌, ◌++◌, length, Option, sym, ap, subst, ◌∙◌, arith}
+use Rattle.std.specs.Prelude.{nat_le, nat_lt}
 use Rattle.std.specs.List.{AllByRecursion, Contains}
 use Rattle.std.proofs.lemmas.Bool.{and_parts, leb-true, ltb-true, lt-ltb}
 use Rattle.std.proofs.lemmas.List.Elements.{Contains-append_right}
 use Rattle.lisp_records.specs.declared.address.Addr.{Addr}
 use Rattle.lisp_policy.specs.Configuration.{ConfigValue, HasServers}
 use Rattle.lisp_policy.specs.Site.{SiteValue}
-use Rattle.lisp_messages.specs.declared.fault.ReadFault.{ReadFault}
-use Rattle.lisp_messages.specs.Message.{MessageValue, MapRegisterValue, MapNotifyValue}
+use Rattle.lisp_messages.specs.Message.{MapRegisterValue, MapNotifyValue}
 use Rattle.lisp_admission.specs.Pairs.{router_of}
 use Rattle.lisp_model.specs.declared.event.Event.TheVariants as events
 use Rattle.lisp_model.specs.declared.line.Line.{Line}
@@ -23,13 +22,13 @@ use Rattle.lisp_model.proofs.CleanLemmas.{server_of}
 use Rattle.lisp_model.proofs.HeardLines.{IsCounted, counted_of}
 use Rattle.lisp_model.proofs.HearingLemmas.{IsHeard, is_heard, knows_own, router_of as one_router}
 use Rattle.lisp_model.proofs.ListLemmas.{head_or_tail}
-use Rattle.lisp_model.proofs.Origins.{were_sent}
+use Rattle.lisp_model.proofs.Origins.{were_sent, noise_clash}
 use Rattle.lisp_model.proofs.ReplyOrigins.{entry_is}
 use Rattle.lisp_refinement.specs.World.{DatagramValue}
 use Rattle.lisp_refinement.proofs.Places.{all_at}
 use Rattle.lisp_turns.specs.Part.{IsOwn, arrival, arrivals, datagram_from}
+use Rattle.lisp_turns.proofs.Reaching.{all_split}
 use Rattle.lisp_deployment.specs.Received.{MayHold, IsUnforged}
-use Rattle.lisp_deployment.proofs.Accepting.{all_front}
 use Rattle.lisp_deployment.proofs.Adding.{reads}
 use Rattle.lisp_deployment.proofs.Holding.{TakeGiven, may_hold}
 use Rattle.lisp_deployment.proofs.Replying.{WasReplied, AreReplied}
@@ -56,9 +55,6 @@ lists_server c names router k its listed =
     let low = leb-true (length c.servers) router within.0 in
     let high = ltb-true router (length c.servers + length c.routers) within.1 in
     lt-ltb k (length c.servers) (each_of (λ place. place < length c.servers) (router_at c router).servers k (all_at (HasServers c.servers) c.routers names (router - length c.servers) _ (omega (arith, low, high))).there listed)
-
-noise_clash : {f : ReadFault} {said : MessageValue} → ◌≡◌ {A = Result MessageValue ReadFault} (Err f) (Ok said) → ⊥
-noise_clash e = absurd cc
 
 module _ (o : Opening) (given : List (List SiteValue)) (T : List Step) (printed : List Line) (sent : List DatagramValue) (replies : AreReplied o T printed sent) (number : ℕ) (legal : LegalTrace o T) (network : IsNetwork o.config) (clean : Clean o T) where
   -- the reply to a router is that to a Map-Register of its own
@@ -116,7 +112,7 @@ module _ (o : Opening) (given : List (List SiteValue)) (T : List Step) (printed 
   pub counts_told : (steps : List Step) → AllByRecursion (λ s. IsOwn number s.event) steps → LegalTrace o (steps ++ T) → TakeGiven o given (steps ++ T) → AllByRecursion (IsUnforged o.config given sent number) (arrivals steps) → CountsAreTold o T printed → CountsAreTold o (steps ++ T) printed
   counts_told [] own legal_then take unforged before x has node server part key nonce is = before x has node server part key nonce is
   counts_told (s ∷ steps) own legal_then take unforged before x has node server part key nonce is =
-      let parts = all_front (IsUnforged o.config given sent number) (arrival s.event) (arrivals steps) unforged in
+      let parts = all_split (IsUnforged o.config given sent number) (arrival s.event) (arrivals steps) unforged in
       by parts.0 (head_or_tail s (steps ++ T) x has) (counts_told steps own.1 legal_then.1 take.1 parts.1 before x)
     where
       by : AllByRecursion (IsUnforged o.config given sent number) (arrival s.event) → (x ≡ s) ⊎ Contains (steps ++ T) x

@@ -10,19 +10,10 @@ use Rattle.lisp_turns.specs.Acts.{TurnAct}
 use Rattle.lisp_turns.specs.Outside.{Call, Listens}
 use Rattle.lisp_turns.specs.Part.{WasOrdered}
 use Rattle.lisp_turns.specs.declared.order.Order.TheVariants as orders
+use Rattle.lisp_turns.proofs.Reaching.{all_append, all_wider}
 use Rattle.lisp_deployment.specs.Lives.{sites_taken_in, sites_taken, TakesOneOf}
 use Rattle.lisp_deployment.specs.Received.{sites_told}
 use Rattle.lisp_deployment.proofs.Holding.{TakeGiven}
-
--- what holds of each of some holds of it where more may
-wider : {X : Type 0} (P Q : X → Type 0) → ((x : X) → P x → Q x) → (xs : List X) → AllByRecursion P xs → AllByRecursion Q xs
-wider P Q more [] all = tt
-wider P Q more (x ∷ xs) all = (more x all.0, wider P Q more xs all.1)
-
--- of two lists
-both : {X : Type 0} (P : X → Type 0) (later earlier : List X) → AllByRecursion P later → AllByRecursion P earlier → AllByRecursion P (later ++ earlier)
-both P [] earlier one other = other
-both P (x ∷ later) earlier one other = (one.0, both P later earlier one.1 other)
 
 -- who takes one of some sites takes one of more
 one_of_more : (some more : List (List SiteValue)) → ((sites : List SiteValue) → Contains some sites → Contains more sites) → (event : EventValue) → TakesOneOf some event → TakesOneOf more event
@@ -77,19 +68,19 @@ told_one first calls given are _ has = tt
 pub ordered_given : (o : Opening) (calls : List Call) (given : List (List SiteValue)) → ((sites : List SiteValue) → Contains (sites_told calls) sites → Contains given sites)
     → (steps T : List Step) → AllByRecursion (λ s. WasOrdered calls s.event) steps → TakeGiven o given T → TakeGiven o given (steps ++ T)
 ordered_given o calls given are steps T ordered took =
-    both (λ (s : Step). TakesOneOf (o.config.sites ∷ given) s.event) steps T
-    (wider (λ (s : Step). WasOrdered calls s.event) (λ (s : Step). TakesOneOf (o.config.sites ∷ given) s.event) (λ s. told_one o.config.sites calls given are s.event) steps ordered) took
+    all_append (λ (s : Step). TakesOneOf (o.config.sites ∷ given) s.event) steps T
+    (all_wider (λ (s : Step). WasOrdered calls s.event) (λ (s : Step). TakesOneOf (o.config.sites ∷ given) s.event) (λ s. told_one o.config.sites calls given are s.event) steps ordered) took
 
 -- by steps in which one of some is taken
 pub taken_given : (o : Opening) (some given : List (List SiteValue)) → ((sites : List SiteValue) → Contains some sites → Contains given sites)
     → (steps T : List Step) → AllByRecursion (λ s. TakesOneOf some s.event) steps → TakeGiven o given T → TakeGiven o given (steps ++ T)
 taken_given o some given are steps T takes took =
-    both (λ (s : Step). TakesOneOf (o.config.sites ∷ given) s.event) steps T
-    (wider (λ (s : Step). TakesOneOf some s.event) (λ (s : Step). TakesOneOf (o.config.sites ∷ given) s.event)
+    all_append (λ (s : Step). TakesOneOf (o.config.sites ∷ given) s.event) steps T
+    (all_wider (λ (s : Step). TakesOneOf some s.event) (λ (s : Step). TakesOneOf (o.config.sites ∷ given) s.event)
     (λ s. one_of_more some (o.config.sites ∷ given) (λ sites has. in_tail o.config.sites given sites (are sites has)) s.event) steps takes) took
 
 -- and so it is where more are given
 pub more_given : (o : Opening) (more given : List (List SiteValue)) (T : List Step) → TakeGiven o given T → TakeGiven o (more ++ given) T
 more_given o more given T took =
-    wider (λ (s : Step). TakesOneOf (o.config.sites ∷ given) s.event) (λ (s : Step). TakesOneOf (o.config.sites ∷ more ++ given) s.event)
+    all_wider (λ (s : Step). TakesOneOf (o.config.sites ∷ given) s.event) (λ (s : Step). TakesOneOf (o.config.sites ∷ more ++ given) s.event)
     (λ s. one_of_more (o.config.sites ∷ given) (o.config.sites ∷ more ++ given) (behind_first o.config.sites given (more ++ given) (Contains-append_right more given)) s.event) T took

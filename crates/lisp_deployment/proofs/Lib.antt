@@ -3,10 +3,9 @@ pub mod BudgetedCalls
 pub mod BudgetedRequests
 pub mod BudgetedTurns
 pub mod BudgetedExamples
-pub mod OthersStand
+pub mod Among
 pub mod Deploying
 pub mod Opening
-pub mod Idle
 pub mod Living
 pub mod Deeds
 pub mod Printed

@@ -1,7 +1,7 @@
 -- The nonces that a Map-Server says that it accepted rise over all its lives, since all lines are of one legal trace.
-use Rattle.std.proofs.Common.{◌≡◌, ◌⊎◌, inl, inr, ℕ, ◌<◌, Bool, true, false, cond, List, [], ◌∷◌, ◌++◌, map, refl, sym, ap, subst, ◌∙◌}
+use Rattle.std.proofs.Common.{◌≡◌, inl, inr, ℕ, ◌<◌, Bool, true, false, cond, List, [], ◌∷◌, ◌++◌, map, refl, sym, ap, subst, ◌∙◌}
 use Rattle.std.specs.Prelude.{Decides, ◌==◌, ◌&&◌, if◌then◌else◌}
-use Rattle.std.specs.List.{Contains, filter}
+use Rattle.std.specs.List.{filter}
 use Rattle.std.proofs.lemmas.Bool.Decides.{Decides-and, Decides-eqb}
 use Rattle.std.proofs.lemmas.List.{append_assoc, map-append}
 use Rattle.lisp_records.specs.declared.router.RouterId.{RouterId}
@@ -17,7 +17,6 @@ use Rattle.lisp_model.specs.Held.{Acceptance, is_of_pair}
 use Rattle.lisp_model.specs.Legal.{LegalTrace}
 use Rattle.lisp_model.specs.Promises.{Falls}
 use Rattle.lisp_model.specs.Trace.{Step, Opening}
-use Rattle.lisp_model.proofs.ListLemmas.{at_head, in_tail, head_or_tail, in_none}
 use Rattle.lisp_refinement.specs.World.{WorldState}
 use Rattle.lisp_client.specs.Steps.{Arrives}
 use Rattle.lisp_client.proofs.Steps.{adds, taken_of, accepting}
@@ -29,33 +28,7 @@ use Rattle.lisp_deployment.specs.Deeds.{Deed, Turn, Life, IsOf, AreOf}
 use Rattle.lisp_deployment.specs.Deployment.{IsAmong}
 use Rattle.lisp_deployment.specs.Printed.{lines_in, all_lines, accepted_nonce, accepted_nonces, PrintedNoncesRise}
 use Rattle.lisp_deployment.proofs.Deeds.{deployments_have_traces}
-use Rattle.lisp_deployment.proofs.Deploying.{among_itself}
-
--- what is among a list
-module _ {X : Type 0} where
-  among_after : (us zs : List X) (y : X) → IsAmong us zs → IsAmong us (y ∷ zs)
-  among_after [] zs y among = tt
-  among_after (u ∷ us) zs y among = inr among
-
-  among_front : (us ys zs : List X) → IsAmong us zs → IsAmong us (ys ++ zs)
-  among_front us [] zs among = among
-  among_front us (y ∷ ys) zs among = among_after us (ys ++ zs) y (among_front us ys zs among)
-
-  among_both : (xs ys us vs : List X) → IsAmong xs ys → IsAmong us vs → IsAmong (xs ++ us) (ys ++ vs)
-  among_both [] ys us vs among more = among_front us ys vs more
-  among_both (x ∷ xs) [] us vs among more = absurd among
-  among_both (x ∷ xs) (y ∷ ys) us vs (inl (same, among)) more = inl (same, among_both xs ys us vs among more)
-  among_both (x ∷ xs) (y ∷ ys) us vs (inr among) more = inr (among_both (x ∷ xs) ys us vs among more)
-
-  pub contains_among : (xs ys : List X) (v : X) → IsAmong xs ys → Contains xs v → Contains ys v
-  contains_among [] ys v among has = absurd (in_none v has)
-  contains_among (x ∷ xs) [] v among has = absurd among
-  contains_among (x ∷ xs) (y ∷ ys) v (inr among) has = in_tail y ys v (contains_among (x ∷ xs) ys v among has)
-  contains_among (x ∷ xs) (y ∷ ys) v (inl (same, among)) has = by (head_or_tail x xs v has) (λ later. contains_among xs ys v among later)
-    where
-      by : (v ≡ x) ⊎ Contains xs v → (Contains xs v → Contains ys v) → Contains (y ∷ ys) v
-      by (inl is) go = subst (λ z. Contains (y ∷ ys) z) (same ∙ sym is) (at_head y ys)
-      by (inr later) go = in_tail y ys v (go later)
+use Rattle.lisp_deployment.proofs.Among.{among_itself, among_after, among_front, among_both, contains_among}
 
 falls_among : (xs ys : List ℕ) → IsAmong xs ys → Falls ys → Falls xs
 falls_among [] ys among falls = tt
@@ -74,11 +47,7 @@ module _ (server : ℕ) (router : RouterId) (key : ℕ) where
   step_nonces steps = nonces (map (λ s. s.line) steps)
 
   numbered_nonce : (n : ℕ) (line : Line) → nonce_in (numbered n line) ≡ nonce_in line
-  numbered_nonce n (lines.Sent router server part key nonce datagram) = refl
   numbered_nonce n (lines.Accepted server router key nonce datagram) = refl
-  numbered_nonce n (lines.Noticed router server nonce datagram) = refl
-  numbered_nonce n (lines.Notice server router key nonce datagram) = refl
-  numbered_nonce n (lines.Resent server router datagram) = refl
   numbered_nonce n _ = refl
 
   pub nonces_append : (xs ys : List Line) → nonces (xs ++ ys) ≡ nonces xs ++ nonces ys

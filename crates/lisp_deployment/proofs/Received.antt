@@ -18,10 +18,11 @@ use Rattle.lisp_refinement.specs.World.{DatagramValue, WorldState}
 use Rattle.lisp_refinement.proofs.ServerArrivals.{lies}
 use Rattle.lisp_turns.specs.Acts.{TurnAct, acts_calls}
 use Rattle.lisp_turns.specs.Outside.{Call}
-use Rattle.lisp_turns.specs.Part.{IsOwn, arrival, arrivals, datagram_from, lines_of, received_of}
+use Rattle.lisp_turns.specs.Part.{IsOwn, arrival, arrivals, datagram_from, lines_of, received_of, arrived_in}
+use Rattle.lisp_turns.proofs.Reaching.{all_split}
 use Rattle.lisp_deployment.specs.Deeds.{Deed, Turn, Life, BeginsAgain, DoesDeed, DoDeeds, IsOf, AreOf}
 use Rattle.lisp_deployment.specs.Deployment.{DeploymentState, sent_by, TakesTurn, DeploymentStands}
-use Rattle.lisp_deployment.specs.Lives.{IsLife, arrived_in, sites_taken}
+use Rattle.lisp_deployment.specs.Lives.{IsLife, sites_taken}
 use Rattle.lisp_deployment.specs.Received.{node_of, received_in, sites_told, given_in, given_by, IsForgedFor, IsUnforged, ReceivesUnforged, HasCleanTrace, UnforgedDeploymentsAreClean}
 use Rattle.lisp_deployment.specs.Printed.{lines_in, all_lines}
 use Rattle.lisp_deployment.specs.Opening.{DeploymentBegins, DeploymentOpens}
@@ -34,7 +35,7 @@ use Rattle.lisp_deployment.proofs.Holding.{TakeGiven, may_hold}
 use Rattle.lisp_deployment.proofs.Telling.{AreAllTold, turn_tells, life_tells}
 use Rattle.lisp_deployment.proofs.Living.{lives_are_told}
 use Rattle.lisp_deployment.proofs.Opening.{first_opens}
-use Rattle.lisp_deployment.proofs.Printed.{contains_among}
+use Rattle.lisp_deployment.proofs.Among.{contains_among}
 use Rattle.lisp_refinement.proofs.Headlines.{networks_promise}
 
 -- something that arrives at a node does no harm after a trace
@@ -51,14 +52,6 @@ module _ (o : Opening) (given : List (List SiteValue)) (T : List Step) (number :
       by (inl echo) = inl (record { item = echo.item; sent = Contains-append_left (bag o (steps ++ T)) _ echo.item echo.sent; source = echo.source; target = echo.target; same = echo.same })
       by (inr other) = inr other
 
-  all_later : (P : Addr × List ℕ → Type 0) (xs ys : List (Addr × List ℕ)) → AllByRecursion P (xs ++ ys) → AllByRecursion P xs
-  all_later P [] ys all = tt
-  all_later P (x ∷ xs) ys all = (all.0, all_later P xs ys all.1)
-
-  all_earlier : (P : Addr × List ℕ → Type 0) (xs ys : List (Addr × List ℕ)) → AllByRecursion P (xs ++ ys) → AllByRecursion P ys
-  all_earlier P [] ys all = all
-  all_earlier P (x ∷ xs) ys all = all_earlier P xs ys all.1
-
   -- an event of the node
   one_harmless : (steps : List Step) → LegalTrace o (steps ++ T) → TakeGiven o given (steps ++ T) → (event : EventValue) → IsOwn number event → AllByRecursion (IsHarmlessTo o given T number) (arrival event) → IsHarmless o (steps ++ T) event
   one_harmless steps legal take (events.Junk to from bytes) here all = subst (λ (n : ℕ). IsHarmless o (steps ++ T) (events.Junk n from bytes)) (sym here) (by (still_harmless steps (from, bytes) all.0))
@@ -72,10 +65,9 @@ module _ (o : Opening) (given : List (List SiteValue)) (T : List Step) (number :
   -- steps of the node
   clean_steps : (steps : List Step) → AllByRecursion (λ s. IsOwn number s.event) steps → LegalTrace o (steps ++ T) → TakeGiven o given (steps ++ T) → AllByRecursion (IsHarmlessTo o given T number) (arrivals steps) → Clean o T → Clean o (steps ++ T)
   clean_steps [] own legal take all clean = clean
-  clean_steps (s ∷ steps) own legal take all clean = (
-    one_harmless steps legal.1 take.1 s.event own.0 (all_later (IsHarmlessTo o given T number) (arrival s.event) (arrivals steps) all),
-    clean_steps steps own.1 legal.1 take.1 (all_earlier (IsHarmlessTo o given T number) (arrival s.event) (arrivals steps) all) clean,
-  )
+  clean_steps (s ∷ steps) own legal take all clean =
+      let parts = all_split (IsHarmlessTo o given T number) (arrival s.event) (arrivals steps) all in
+      (one_harmless steps legal.1 take.1 s.event own.0 parts.0, clean_steps steps own.1 legal.1 take.1 parts.1 clean)
 
 -- what isn't forged does no harm
 module _ (config : ConfigValue) (given : List (List SiteValue)) (d : DeploymentState) (w : WorldState) (o : Opening) (T : List Step) (stand : DeploymentStands config d w o T) (number : ℕ) where
@@ -154,7 +146,7 @@ module _ (A : Type 0) (config : ConfigValue) where
     one_life : (acts : List TurnAct) (begins : BeginsAgain A config number acts old new) → ((sites : List SiteValue) → Contains (begins.life.sites ∷ sites_taken (begins.life.untold ++ acts)) sites → Contains given sites)
         → AllByRecursion (IsUnforged config given old.sent number) (arrived_in (begins.life.untold ++ acts)) → GoesOnCleanly config given (Life number acts) new printed w o T
     one_life acts begins are_given unforged =
-        let tells = lives_are_told A config number acts old new begins.life begins.configured w o T stand in
+        let tells = lives_are_told A config number acts old new begins.life w o T stand begins.configured in
         let goes = tells.goes in
         let life = goes.life in
         let legal = goes.stands.stands.steps.legal in

@@ -1,40 +1,35 @@
 -- What steps put into a network's bag: each Map-Notify among it that has a nonce of a router is the reply of a step whose line says that the
 -- Map-Register was accepted. Where the steps' lines were printed, that one was.
-use Rattle.std.proofs.Common.{◌≡◌, ◌⊎◌, inl, inr, ℕ, ◌<◌, true, false, true≢false, List, [], ◌∷◌, ◌++◌, Option, Some, None, Ok, refl, sym, ap, subst, ◌∙◌, arith}
-use Rattle.std.specs.Prelude.{Result, slice_get}
+use Rattle.std.proofs.Common.{◌≡◌, ◌⊎◌, inl, inr, ℕ, ◌<◌, true, false, true≢false, List, [], ◌∷◌, ◌++◌, Option, Some, Ok, refl, sym, ap, subst, ◌∙◌, arith, ◌≤◌}
+use Rattle.std.specs.Prelude.{Result}
 use Rattle.std.specs.List.{Contains}
-use Rattle.std.specs.Option.{option_and_then}
 use Rattle.std.proofs.lemmas.List.Elements.{Contains-append_right}
 use Rattle.lisp_records.specs.declared.address.Addr.{Addr}
 use Rattle.lisp_records.specs.declared.router.RouterId.{RouterId}
-use Rattle.lisp_records.specs.Router.{router_eq}
 use Rattle.lisp_messages.specs.declared.fault.ReadFault.{ReadFault}
-use Rattle.lisp_messages.specs.Message.{MessageValue, MapRegisterValue, MapNotifyValue, Registers, Notifies}
+use Rattle.lisp_messages.specs.Message.{MessageValue, MapNotifyValue, Notifies}
 use Rattle.lisp_messages.specs.Reading.{message_at}
-use Rattle.lisp_etr.specs.Hearing.{first_notice, ack_of}
+use Rattle.lisp_etr.specs.Hearing.{first_notice}
 use Rattle.lisp_admission.specs.Checks.{reply_to}
 use Rattle.lisp_admission.specs.Pairs.{router_of}
 use Rattle.lisp_model.specs.declared.event.Event.TheVariants as events
 use Rattle.lisp_model.specs.declared.line.Line.{Line}
 use Rattle.lisp_model.specs.declared.line.Line.TheVariants as lines
-use Rattle.lisp_model.specs.Trace.{EventValue, Step, Opening, address_at, router_at, is_server, sites, clock}
+use Rattle.lisp_model.specs.Trace.{Step, Opening, address_at, is_server, sites}
 use Rattle.lisp_model.specs.Accepted.{acceptances, acceptances_in_step}
-use Rattle.lisp_model.specs.Bag.{Item, Arrival, arrival_in, as_notify, acceptances_in, register_item, reply_item, notice_item, ack_item, items_added, past, bag, since_start}
-use Rattle.lisp_model.specs.Clean.{Clean}
-use Rattle.lisp_model.specs.Context.{Context}
-use Rattle.lisp_model.specs.Held.{Acceptance, heard_last}
+use Rattle.lisp_model.specs.Bag.{Item, Arrival, arrival_in, reply_item, items_added, past, bag}
+use Rattle.lisp_model.specs.Held.{Acceptance}
 use Rattle.lisp_model.specs.Legal.{MayCome, LegalTrace, context_of}
-use Rattle.lisp_model.specs.Timers.{Notice, notices, notice_to}
-use Rattle.lisp_model.proofs.CleanLemmas.{in_find, in_option, from_map}
 use Rattle.lisp_model.proofs.ListLemmas.{at_head, head_or_tail, in_none}
-use Rattle.lisp_model.proofs.ReplyOrigins.{from_some, stays_accepted}
+use Rattle.lisp_model.proofs.ReplyOrigins.{stays_accepted, said_same}
+use Rattle.lisp_model.proofs.Rows.{Following, tells}
 use Rattle.lisp_refinement.specs.World.{DatagramValue, WorldState}
 use Rattle.lisp_refinement.specs.Stands.{Stands}
-use Rattle.lisp_refinement.proofs.Gets.{none_is_some, same_some}
 use Rattle.lisp_refinement.proofs.ServerArrivals.{carries_arrival}
 use Rattle.lisp_client.proofs.Steps.{adds, taken_of, taken_alone, accepting}
 use Rattle.lisp_deployment.proofs.Adding.{carried}
-use Rattle.lisp_deployment.proofs.Standing.{goes_out, are_high}
+use Rattle.lisp_deployment.proofs.Standing.{each_added}
+use Rattle.lisp_model.proofs.Origins.{said_clash}
 
 -- a Map-Notify that a Map-Server sent as the reply to a Map-Register that it accepted, and whose line was printed
 pub record WasReplied (o : Opening) (T : List Step) (printed : List Line) (from to : Addr) (n : MapNotifyValue) : Type 0 where
@@ -49,42 +44,27 @@ pub record WasReplied (o : Opening) (T : List Step) (printed : List Line) (from 
   pub told : Contains printed (lines.Accepted server (router_of acceptance.message) acceptance.message.key_id acceptance.message.nonce reply)
 
 -- it is so after more steps, and more lines
+still_taken : (o : Opening) (steps T : List Step) (server : ℕ) (x : Acceptance) → Contains (acceptances o T server) x → Contains (acceptances o (steps ++ T) server) x
+still_taken o [] T server x has = has
+still_taken o (s ∷ steps) T server x has = stays_accepted s.line (acceptances_in_step o (steps ++ T) s) server (acceptances o (steps ++ T) server) x (still_taken o steps T server x has)
+
 pub replied_still : (o : Opening) (steps T : List Step) (more printed : List Line) (from to : Addr) (n : MapNotifyValue) → WasReplied o T printed from to n → WasReplied o (steps ++ T) (more ++ printed) from to n
-replied_still o [] T more printed from to n was = record {
+replied_still o steps T more printed from to n was = record {
   server = was.server;
   kind = was.kind;
   acceptance = was.acceptance;
-  taken = was.taken;
+  taken = still_taken o steps T was.server was.acceptance was.taken;
   source = was.source;
   target = was.target;
   value = was.value;
   reply = was.reply;
   told = Contains-append_right more printed _ was.told;
 }
-replied_still o (s ∷ steps) T more printed from to n was =
-    let rest = replied_still o steps T more printed from to n was in
-    record {
-      server = rest.server;
-      kind = rest.kind;
-      acceptance = rest.acceptance;
-      taken = stays_accepted s.line (acceptances_in_step o (steps ++ T) s) rest.server (acceptances o (steps ++ T) rest.server) rest.acceptance rest.taken;
-      source = rest.source;
-      target = rest.target;
-      value = rest.value;
-      reply = rest.reply;
-      told = rest.told;
-    }
 
 -- the lines of the Map-Registers that were accepted in steps, and to which a reply went out, were printed
 abbrev pub RepliesAreTold : List Line → List Step → Type 0
 RepliesAreTold printed steps = (s : Step) → Contains steps s → (server : ℕ) (router : RouterId) (key nonce datagram : ℕ) → s.line ≡ lines.Accepted server router key nonce (Some datagram)
     → Contains printed (lines.Accepted server router key nonce (Some 0))
-
-says_other : {m : MapRegisterValue} {n : MapNotifyValue} → ◌≡◌ {A = MessageValue} (Registers m) (Notifies n) → ⊥
-says_other e = absurd cc
-
-pub says_same : (m n : MapNotifyValue) → ◌≡◌ {A = MessageValue} (Notifies m) (Notifies n) → m ≡ n
-says_same m n e = cc
 
 -- a Map-Notify that a router may count
 pub record MayCount (n : MapNotifyValue) : Type 0 where
@@ -103,61 +83,17 @@ record IsReplied (o : Opening) (T : List Step) (s : Step) (line : Line) (i : Ite
   among : Contains (acceptances_in_step o T s) acceptance
   is : i ≡ reply_item o.config (sites o T server) server acceptance
 
--- who accepts is a Map-Server
-accepts_at : (t : Context) (e : EventValue) (server : ℕ) (router : RouterId) (key nonce : ℕ) (reply : Option ℕ) → MayCome t e (lines.Accepted server router key nonce reply) → is_server t.opening.config server ≡ true
-accepts_at t (events.Deliver k fate) server router key nonce reply row = row.arrives.acts.kind
-accepts_at t (events.Junk to from bytes) server router key nonce reply row = row.arrives.acts.kind
-accepts_at t _ server router key nonce reply row = absurd row
-
-module _ (o : Opening) (T : List Step) (legal : LegalTrace o T) (s : Step) where
-  abbrev added : Line → List Item
-  added line = items_added o T (past o T) (arrival_in (bag o T) s.event) line
-
-  replied : (line : Line) → MayCome (context_of o T s) s.event line → (i : Item) → Contains (added line) i → (n : MapNotifyValue) → i.message ≡ Notifies n → MayCount n → IsReplied o T s line i
-  replied (lines.Sent router server part key nonce datagram) row i has n says may = by (head_or_tail (register_item o T router server part nonce) [] i has)
-    where
-      by : (i ≡ register_item o T router server part nonce) ⊎ Contains [] i → IsReplied o T s (lines.Sent router server part key nonce datagram) i
-      by (inl is) = absurd (says_other (sym (ap (λ (x : Item). x.message) is) ∙ says))
-      by (inr none) = absurd (in_none i none)
-  replied (lines.Accepted server router key nonce (Some datagram)) row i has n says may =
-      let found = from_map (reply_item o.config (sites o T server) server) (acceptances_in (arrival_in (bag o T) s.event) (clock T)) i has in
-      record {
-        server = server;
-        router = router;
-        key = key;
-        nonce = nonce;
-        datagram = datagram;
-        line_is = refl;
-        acceptance = found.0;
-        among = found.1;
-        is = found.2;
-      }
-  replied (lines.Accepted server router key nonce None) row i has n says may = absurd (in_none i has)
-  replied (lines.Noticed router server nonce datagram) row i has n says may = by (arrival_in (bag o T) s.event) has
-    where
-      by : (a : Option Arrival) → Contains (items_added o T (past o T) a (lines.Noticed router server nonce datagram)) i → IsReplied o T s (lines.Noticed router server nonce datagram) i
-      by None has = absurd (in_none i has)
-      by (Some a) has =
-          let found = from_some (ack_item o T router a) (as_notify a.read) i has in
-          let same : ack_of found.value ≡ n = says_same (ack_of found.value) n (ap (λ (x : Item). x.message) found.is ∙ says) in
-          absurd (true≢false (ap (λ (x : MapNotifyValue). x.ack) same ∙ may.plain))
-  replied (lines.Notice server router key nonce datagram) row i has n says may =
-      let out = goes_out o T s s.event server router key nonce datagram row in
-      let found = from_some (notice_item o T (since_start o T server) server router key nonce) (heard_last (router_at o.config router).me (since_start o T server)) i has in
-      let number : nonce ≡ n.nonce = ap (λ (x : MapNotifyValue). x.nonce) (says_same _ n (ap (λ (x : Item). x.message) found.is ∙ says)) in
-      absurd (omega (arith, number, out.high, may.low))
-  replied (lines.Resent server router datagram) row i has n says may = by (notice_to o T server (router_at o.config router).me) refl
-      (in_option (option_and_then (λ (n : Notice). slice_get (bag o T) n.datagram) (notice_to o T server (router_at o.config router).me)) i has)
-    where
-      by : (x : Option Notice) → notice_to o T server (router_at o.config router).me ≡ x → option_and_then (λ (n : Notice). slice_get (bag o T) n.datagram) (notice_to o T server (router_at o.config router).me) ≡ Some i
-          → IsReplied o T s (lines.Resent server router datagram) i
-      by None is there = absurd (none_is_some (sym (ap (option_and_then (λ (n : Notice). slice_get (bag o T) n.datagram)) is) ∙ there))
-      by (Some x) is there =
-          let out = are_high o T legal server x (in_find (λ (y : Notice). router_eq y.router (router_at o.config router).me) (notices o T server) x is) in
-          let item : out.item ≡ i = same_some out.item i (sym out.place ∙ sym (ap (option_and_then (λ (n : Notice). slice_get (bag o T) n.datagram)) is) ∙ there) in
-          let number : out.value.nonce ≡ n.nonce = ap (λ (y : MapNotifyValue). y.nonce) (says_same out.value n (sym out.says ∙ ap (λ (y : Item). y.message) item ∙ says)) in
-          absurd (omega (arith, number, out.high, may.low))
-  replied _ row i has n says may = absurd (in_none i has)
+replied : (o : Opening) (T : List Step) → LegalTrace o T → (s : Step) → MayCome (context_of o T s) s.event s.line → (i : Item) → Contains (items_added o T (past o T) (arrival_in (bag o T) s.event) s.line) i
+    → (n : MapNotifyValue) → i.message ≡ Notifies n → MayCount n → IsReplied o T s s.line i
+replied o T legal s row i has =
+    each_added o T legal s (λ line i. (n : MapNotifyValue) → i.message ≡ Notifies n → MayCount n → IsReplied o T s line i)
+    (λ router server part key nonce datagram row n says may. absurd (said_clash (sym says)))
+    (λ server router key nonce datagram x among n says may. record { server = server; router = router; key = key; nonce = nonce; datagram = datagram; line_is = refl; acceptance = x; among = among; is = refl })
+    (λ line i n is un m says may. absurd (uncounted n m un (said_same n m (sym is ∙ says)) may)) s.line row i has
+  where
+    uncounted : (n m : MapNotifyValue) → (n.ack ≡ true) ⊎ (first_notice ≤ n.nonce) → n ≡ m → MayCount m → ⊥
+    uncounted n m (inl ack) same may = true≢false (sym ack ∙ ap (λ (x : MapNotifyValue). x.ack) same ∙ may.plain)
+    uncounted n m (inr high) same may = (let number : n.nonce ≡ m.nonce = ap (λ (x : MapNotifyValue). x.nonce) same in omega (arith, number, high, may.low))
 
 module _ (o : Opening) (printed : List Line) where
   -- each Map-Notify that a router may count was sent as the reply to what was accepted
@@ -177,12 +113,12 @@ module _ (o : Opening) (printed : List Line) where
       let item : i ≡ reply_item o.config (sites o U r.server) r.server x = r.is ∙ ap (reply_item o.config (sites o U r.server) r.server) only in
       record {
         server = r.server;
-        kind = accepts_at (context_of o U s) s.event r.server r.router r.key r.nonce (Some r.datagram) (subst (λ (line : Line). MayCome (context_of o U s) s.event line) r.line_is legal.0.row);
+        kind = (subst (λ (line : Line). Following (context_of o U s) s.event line) r.line_is (tells (context_of o U s) s.event s.line legal.0.row).follows).row.acts.kind;
         acceptance = x;
         taken = subst (λ (xs : List Acceptance). Contains xs x) (sym (adds o s U r.server r.router r.key r.nonce (Some r.datagram) r.line_is a)) (at_head x (acceptances o U r.server));
         source = ap (λ (y : Item). y.from) item;
         target = ap (λ (y : Item). y.to) item;
-        value = says_same n (reply_to a.message) (sym says ∙ ap (λ (y : Item). y.message) item);
+        value = said_same n (reply_to a.message) (sym says ∙ ap (λ (y : Item). y.message) item);
         reply = Some 0;
         told = subst (λ (line : Line). Contains printed line) (λ j. lines.Accepted r.server (sym a.who j) (sym a.under j) (sym a.number j) (Some 0)) told;
       }
@@ -191,9 +127,9 @@ module _ (o : Opening) (printed : List Line) where
       alone x (inl is) = is
       alone x (inr none) = absurd (in_none _ none)
 
-  its_reply : (s : Step) (U steps : List Step) → RepliesAreTold printed steps → Contains steps s → LegalTrace o (s ∷ U) → Clean o (s ∷ U) → (i : Item) → Contains (items_added o U (past o U) (arrival_in (bag o U) s.event) s.line) i → ItsReply (s ∷ U) i
-  its_reply s U steps told has legal clean i added n says may =
-      let r = replied o U legal.1 s s.line legal.0.row i added n says may in
+  its_reply : (s : Step) (U steps : List Step) → RepliesAreTold printed steps → Contains steps s → LegalTrace o (s ∷ U) → (i : Item) → Contains (items_added o U (past o U) (arrival_in (bag o U) s.event) s.line) i → ItsReply (s ∷ U) i
+  its_reply s U steps told has legal i added n says may =
+      let r = replied o U legal.1 s legal.0.row i added n says may in
       its_line s U legal i n says r (told s has r.server r.router r.key r.nonce r.datagram r.line_is)
 
 -- each Map-Notify among datagrams that a router may count was sent as a reply, and the line of that was printed
@@ -201,10 +137,10 @@ abbrev pub AreReplied : Opening → List Step → List Line → List DatagramVal
 AreReplied o T printed sent = (g : DatagramValue) → Contains sent g → (n : MapNotifyValue) → message_at g.bytes ≡ Ok (Notifies n) → MayCount n → WasReplied o T printed g.from g.to n
 
 -- so was each among those that a network has more after steps whose replies were told
-pub datagrams_replied : (w left : WorldState) (o : Opening) (T steps : List Step) (printed : List Line) (new : List DatagramValue) → Stands w o T → Stands left o (steps ++ T) → Clean o (steps ++ T) → RepliesAreTold printed steps
+pub datagrams_replied : (w left : WorldState) (o : Opening) (T steps : List Step) (printed : List Line) (new : List DatagramValue) → Stands w o T → Stands left o (steps ++ T) → RepliesAreTold printed steps
     → left.bag ≡ w.bag ++ new → AreReplied o (steps ++ T) printed new
-datagrams_replied w left o T steps printed new before after clean told bag_is g has n read may =
-    let found = carried o T (ItsReply o printed) (still o printed) w left steps new before after clean (λ s U there. its_reply o printed s U steps told there) bag_is g has in
+datagrams_replied w left o T steps printed new before after told bag_is g has n read may =
+    let found = carried o T (ItsReply o printed) (still o printed) w left steps new before after (λ s U there. its_reply o printed s U steps told there) bag_is g has in
     let i = found.0 in
     let said : ◌≡◌ {A = Result MessageValue ReadFault} (Ok i.message) (Ok (Notifies n)) = ap (λ (a : Arrival). a.read) (sym (carries_arrival g i found.2)) ∙ read in
     let says : i.message ≡ Notifies n = cc in
