@@ -11,7 +11,6 @@ use Rattle.lisp_nonces.specs.Kept.{Kept, kept_at, KeepsSome}
 use Rattle.lisp_nonces.specs.Store.{StoreState}
 use Rattle.lisp_etr.specs.Etr.{etr_started}
 use Rattle.lisp_model.specs.declared.event.Event.TheVariants as events
-use Rattle.lisp_model.specs.declared.line.Line.TheVariants as lines
 use Rattle.lisp_model.specs.Network.{IsNetwork}
 use Rattle.lisp_model.specs.Trace.{Step, Opening}
 use Rattle.lisp_server.specs.Server.{empty_server, reloaded}

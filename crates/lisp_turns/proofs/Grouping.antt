@@ -15,7 +15,7 @@ use Rattle.lisp_turns.specs.Group.{HearsEach, IsHeard, HearsNext, HearsOthers, H
 use Rattle.lisp_turns.specs.Node.{NodeState, core_of}
 use Rattle.lisp_turns.specs.Obeying.{Outcome, Obeys, obeyed, answer_of}
 use Rattle.lisp_turns.specs.Order.{event_of}
-use Rattle.lisp_turns.specs.Outside.{Reception, Datagram, Nothing, Failed, Call, Polls, Commits, Prints, Listens, Answers, OutsideState, IsApart, Logs}
+use Rattle.lisp_turns.specs.Outside.{Reception, Datagram, Nothing, Failed, Call, Polls, Commits, Prints, Listens, Answers, OutsideState, IsApart, Logs, logged}
 use Rattle.lisp_turns.specs.Requests.{ResolvingValue}
 use Rattle.lisp_turns.specs.Stretch.{Asks, Tells, TakesIn}
 use Rattle.lisp_turns.specs.Turn.{Hears, IsDatagram, IsGroup, Intake, acts_of, IsTakenIn, receives_after, failure_calls, commit_calls}
@@ -95,24 +95,12 @@ module _ (A : Type 0) (config : ConfigValue) (number now : ℕ) where
       }
   acted (_ ∷ earlier) heard old new before after hears tells = (let a = acted earlier heard old new before after hears tells in record { acts = a.acts; any_acts = a.any_acts; hears = a.hears; did = a.did; asked = a.asked })
 
-  -- and those which weren't
-  pub record Untold (received : List Reception) (heard : List Heard) (old new : NodeState) : Type 0 where
-    pub acts : List TurnAct
-    pub any_acts : any acts ≡ any heard
-    pub hears : Hears number received acts
-    pub did : DoesAll A config number old new now acts
-
-  pub untold : (received : List Reception) (heard : List Heard) (old new : NodeState) → HearsEach A config number now received heard old new → Untold received heard old new
-  untold [] heard old new (none, same) = record { acts = []; any_acts = sym (ap any none); hears = refl; did = same }
-  untold (Datagram from bytes ∷ earlier) heard old new (newest, rest, between, is, from_is, hears, does) =
-      let so_far = untold earlier rest old between hears in
-      record {
-        acts = record { event = events.Junk number from bytes; act = newest.act; told = true; taken = false } ∷ so_far.acts;
-        any_acts = sym (ap any is);
-        hears = (_, so_far.acts, refl, refl, refl, so_far.hears);
-        did = (between, so_far.did, does);
-      }
-  untold (_ ∷ earlier) heard old new hears = (let a = untold earlier heard old new hears in record { acts = a.acts; any_acts = a.any_acts; hears = a.hears; did = a.did })
+-- lines and messages could be told
+told_some : (heard : List Heard) (before : OutsideState) → (after : OutsideState) × TellsEach heard before after
+told_some [] before = (before, refl)
+told_some (h ∷ earlier) before =
+    let s = told_some earlier before in
+    (record s.0 { log = logged (send_calls h.act.message false ++ Prints (printed.Heard h.act.line h.from) ∷ []) s.0.log }, (s.0, s.1, record { taken = false; asked = refl }))
 
 -- a node heard some of the datagrams that waited, so many, and goes on
 pub record HeardSome (A : Type 0) (config : ConfigValue) (number places : ℕ) (old new : NodeState) (now count : ℕ) (heard : List Heard) (before after : OutsideState) : Type 0 where
@@ -294,7 +282,8 @@ module _ (A : Type 0) (config : ConfigValue) (number places : ℕ) (old new : No
 
   pub loses : (sends sends_left : Pause) (after : OutsideState) → has_acts heard outcome ≡ true → Logs s after (Commits false) → Takes receives sends sends_left after false
   loses sends sends_left after has logs =
-      let all = untold A config number now received heard old takes.between takes.hears.hears in
+      let told = told_some heard s in
+      let all = acted A config number now received heard old takes.between s told.0 takes.hears.hears told.1 in
       let committed = commits all.acts false false all.any_acts ∙ ap (λ (b : Bool). to_commit b false) has in
       record {
         intake = intake_of all.acts false;

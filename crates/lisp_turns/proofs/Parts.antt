@@ -21,8 +21,6 @@ use Rattle.lisp_turns.specs.Part.{WasOrdered, lines_of, sent_of, received_of, Is
 use Rattle.lisp_turns.specs.Pause.{may_try}
 use Rattle.lisp_turns.specs.Requests.{RequestDeed, answered_calls}
 use Rattle.lisp_turns.specs.Turn.{TurnState, Intake, acts_of, IsTakenIn, failure_calls, rest_calls, expired_calls, commit_calls, hearing_calls, telling_calls, turn_calls, IsTurn, Turns}
-use Rattle.lisp_turns.specs.declared.outside.Printed.TheVariants as printed
-use Rattle.lisp_turns.specs.declared.outside.SocketCall.TheVariants as socket
 use Rattle.lisp_turns.specs.declared.pause.Pause.{Pause}
 use Rattle.lisp_turns.proofs.Calls.{lines_append, sent_append, received_append, no_lines, no_sent, none_received, of_five, of_four}
 use Rattle.lisp_turns.proofs.Asking.{logged_none, logged_twice}

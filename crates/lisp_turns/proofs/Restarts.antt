@@ -1,5 +1,5 @@
 -- A node of a network begins again, or a Map-Server takes sites: the network goes on by that step, and the other nodes are as they were.
-use Rattle.std.proofs.Common.{◌≡◌, ℕ, ◌+◌, ◌-◌, List, [], ◌∷◌, ◌++◌, length, Some, None, Ok, refl, ap, append-nil, arith}
+use Rattle.std.proofs.Common.{◌≡◌, ℕ, ◌-◌, List, [], ◌∷◌, ◌++◌, length, Some, None, Ok, refl, ap, append-nil, arith}
 use Rattle.std.specs.Prelude.{◌≢◌, if◌then◌else◌, slice_get, slice_set}
 use Rattle.std.proofs.lemmas.Option.{slice_get_within}
 use Rattle.lisp_policy.specs.Extends.{extends}
