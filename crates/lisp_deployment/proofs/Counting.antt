@@ -31,7 +31,7 @@ use Rattle.lisp_turns.proofs.Reaching.{all_split}
 use Rattle.lisp_deployment.specs.Received.{MayHold, IsUnforged}
 use Rattle.lisp_deployment.proofs.Adding.{reads}
 use Rattle.lisp_deployment.proofs.Holding.{TakeGiven, may_hold}
-use Rattle.lisp_deployment.proofs.Replying.{WasReplied, AreReplied}
+use Rattle.lisp_deployment.proofs.Posting.{WasReplied, AreReplied}
 
 -- a line was printed of the Map-Server that accepted a nonce of a router under a key
 abbrev pub AcceptanceIsTold : ConfigValue → List Line → (node server key nonce : ℕ) → Type 0

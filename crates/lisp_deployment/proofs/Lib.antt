@@ -1,7 +1,4 @@
-pub mod BudgetedTakes
-pub mod BudgetedCalls
-pub mod BudgetedRequests
-pub mod BudgetedTurns
+pub mod Budgeting
 pub mod BudgetedExamples
 pub mod Among
 pub mod Deploying
@@ -15,7 +12,6 @@ pub mod Holding
 pub mod Giving
 pub mod Standing
 pub mod Posting
-pub mod Replying
 pub mod Counting
 pub mod Accepting
 pub mod AcceptedLines
