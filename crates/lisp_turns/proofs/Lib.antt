@@ -31,4 +31,3 @@ pub mod BeginningLater
 pub mod Running
 pub mod Examples
 pub mod ExamplesOfActs
-pub mod Placing
