@@ -1,14 +1,12 @@
 pub mod Answering
 pub mod Hearing
 pub mod ServingPlaces
-pub mod ServingRounds
 pub mod ServingDue
 pub mod ServingRouter
 pub mod NoticedRouters
 pub mod ServingServer
 pub mod Obeying
-pub mod ObeyingServer
-pub mod ObeyingRouter
+pub mod ObeyingNodes
 pub mod AgreeingFaults
 pub mod Asking
 pub mod Duties
