@@ -15,9 +15,7 @@ use Rattle.lisp_turns.specs.Obeying.{answer_of}
 use Rattle.lisp_turns.specs.Outside.{Call, Reception, Receives, Polls, Reads, Listens, Answers, Replies, Prints, Requests, OutsideState, logged}
 use Rattle.lisp_turns.specs.Requests.{counted, Passage, Held, Sent, is_sent, PassesEach, PassesOf, RequestDeed, DoesRequests, passage_calls, passages_calls, outcome_calls, made_calls, deed_calls, deeds_calls, end_calls, answered_calls}
 use Rattle.lisp_turns.specs.Turn.{Intake, acts_of, failure_calls, rest_calls, expired_calls, commit_calls, hearing_calls, telling_calls, turn_calls, TurnState, IsTurn, UncutTurns}
-use Rattle.lisp_turns.specs.declared.outside.Printed.{Printed}
 use Rattle.lisp_turns.specs.declared.outside.Printed.TheVariants as printed
-use Rattle.lisp_turns.specs.declared.outside.SocketCall.TheVariants as socket
 use Rattle.lisp_turns.specs.declared.pause.Pause.{Pause}
 use Rattle.lisp_turns.proofs.CallKinds.{IsOfKinds, AreOfKinds, acts_kinds, polls_kinds, rest_kinds, failure_kinds, expired_kinds, commit_kinds, outcomes_kinds, end_kinds, passage_kinds, deeds_kinds}
 use Rattle.lisp_turns.proofs.Reaching.{all_append}

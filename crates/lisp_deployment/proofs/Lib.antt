@@ -8,11 +8,9 @@ pub mod Deeds
 pub mod Printed
 pub mod Killed
 pub mod Adding
-pub mod Holding
 pub mod Giving
 pub mod Standing
 pub mod Posting
-pub mod Counting
 pub mod Accepting
 pub mod AcceptedLines
 pub mod Telling

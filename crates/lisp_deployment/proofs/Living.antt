@@ -10,9 +10,6 @@ use Rattle.lisp_policy.specs.Extends.{extends}
 use Rattle.lisp_policy.specs.Site.{SiteValue}
 use Rattle.lisp_nonces.specs.Store.{StoreState}
 use Rattle.lisp_server.specs.Server.{ServerState, empty_server, reloaded}
-use Rattle.lisp_model.specs.declared.event.Event.TheVariants as events
-use Rattle.lisp_model.specs.declared.line.Line.{Line}
-use Rattle.lisp_model.specs.declared.line.Line.TheVariants as lines
 use Rattle.lisp_model.specs.Trace.{EventValue, router_at, etr_config_of, Step, Opening}
 use Rattle.lisp_refinement.specs.World.{ServerNodeState, RouterNodeState, DatagramValue, WorldState}
 use Rattle.lisp_refinement.specs.Calls.{CoreAnswersStartOver, config_of, database_of}

@@ -12,7 +12,6 @@ use Rattle.lisp_messages.specs.Message.{MessageValue, MapRegisterValue, Register
 use Rattle.lisp_messages.specs.Reading.{message_at}
 use Rattle.lisp_etr.specs.Sending.{map_register_of}
 use Rattle.lisp_etr.specs.Hearing.{first_notice}
-use Rattle.lisp_model.specs.declared.event.Event.TheVariants as events
 use Rattle.lisp_model.specs.declared.line.Line.{Line}
 use Rattle.lisp_model.specs.declared.line.Line.TheVariants as lines
 use Rattle.lisp_model.specs.Trace.{Step, Opening, router_at, etr_config, etr_config_of, database, address_at, is_server, sites}

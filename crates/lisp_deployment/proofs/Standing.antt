@@ -9,7 +9,6 @@ use Rattle.lisp_records.specs.Router.{router_eq}
 use Rattle.lisp_messages.specs.Message.{MapNotifyValue, Notifies}
 use Rattle.lisp_etr.specs.Hearing.{first_notice, ack_of}
 use Rattle.lisp_admission.specs.Nonces.{nonce_after}
-use Rattle.lisp_model.specs.declared.event.Event.TheVariants as events
 use Rattle.lisp_model.specs.declared.line.Line.{Line}
 use Rattle.lisp_model.specs.declared.line.Line.TheVariants as lines
 use Rattle.lisp_model.specs.Trace.{EventValue, Step, Opening, router_at, clock, sites}

@@ -16,10 +16,9 @@ use Rattle.lisp_refinement.specs.Stands.{Stands}
 use Rattle.lisp_turns.specs.Act.{numbered}
 use Rattle.lisp_turns.specs.Part.{IsOwn, IsQuiet, ArePrinted, arrivals}
 use Rattle.lisp_deployment.specs.Received.{IsUnforged}
-use Rattle.lisp_deployment.proofs.Holding.{TakeGiven}
+use Rattle.lisp_deployment.proofs.Giving.{TakeGiven}
 use Rattle.lisp_deployment.proofs.Posting.{WasTold, told_still, SendsAreTold, datagrams_told, WasReplied, replied_still, RepliesAreTold, AreReplied, datagrams_replied}
-use Rattle.lisp_deployment.proofs.Accepting.{AreTold, AcceptedAreTold, accepted_told, restarted_told}
-use Rattle.lisp_deployment.proofs.Counting.{CountsAreTold, more_counted, counts_told, restarted_counts}
+use Rattle.lisp_deployment.proofs.Accepting.{AreTold, AcceptedAreTold, accepted_told, restarted_told, CountsAreTold, more_counted, counts_told, restarted_counts}
 use Rattle.lisp_deployment.proofs.AcceptedLines.{ToldSince, turn_told, life_told}
 
 -- a step of which the lines are there is quiet, or its line is one of them
