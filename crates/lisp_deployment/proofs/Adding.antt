@@ -6,7 +6,6 @@ use Rattle.std.proofs.lemmas.List.{append_assoc}
 use Rattle.std.proofs.lemmas.List.Elements.{Contains-append_cases}
 use Rattle.lisp_model.specs.Trace.{Step, Opening}
 use Rattle.lisp_model.specs.Bag.{Item, bytes_of, arrival_in, items_added, past, bag}
-use Rattle.lisp_model.specs.Clean.{Clean}
 use Rattle.lisp_model.specs.Legal.{LegalTrace}
 use Rattle.lisp_model.proofs.CleanLemmas.{in_get}
 use Rattle.lisp_model.proofs.ListLemmas.{at_head, in_tail, head_or_tail, in_none}
@@ -45,7 +44,7 @@ behind (x ∷ xs) ys k (suc place) y at is = behind xs ys k place y (omega (arit
 module _ (o : Opening) (T : List Step) (P : List Step → Item → Type 0) (still : (s : Step) (U : List Step) (i : Item) → P U i → P (s ∷ U) i) where
   -- it holds of what a step adds
   abbrev pub IsOfAdded : Step → List Step → Type 0
-  IsOfAdded s U = LegalTrace o (s ∷ U) → Clean o (s ∷ U) → (i : Item) → Contains (items_added o U (past o U) (arrival_in (bag o U) s.event) s.line) i → P (s ∷ U) i
+  IsOfAdded s U = LegalTrace o (s ∷ U) → (i : Item) → Contains (items_added o U (past o U) (arrival_in (bag o U) s.event) s.line) i → P (s ∷ U) i
 
   -- so it does of all that steps added to the bag
   record HaveAdded (steps : List Step) : Type 0 where
@@ -53,10 +52,10 @@ module _ (o : Opening) (T : List Step) (P : List Step → Item → Type 0) (stil
     bag_is : bag o (steps ++ T) ≡ bag o T ++ more
     each : (i : Item) → Contains more i → P (steps ++ T) i
 
-  have_added : (steps : List Step) → LegalTrace o (steps ++ T) → Clean o (steps ++ T) → ((s : Step) (U : List Step) → Contains steps s → IsOfAdded s U) → HaveAdded steps
-  have_added [] legal clean adds = record { more = []; bag_is = sym (append-nil (bag o T)); each = λ i has. absurd (in_none i has) }
-  have_added (s ∷ steps) legal clean adds =
-      let rest = have_added steps legal.1 clean.1 (λ x U has. adds x U (in_tail s steps x has)) in
+  have_added : (steps : List Step) → LegalTrace o (steps ++ T) → ((s : Step) (U : List Step) → Contains steps s → IsOfAdded s U) → HaveAdded steps
+  have_added [] legal adds = record { more = []; bag_is = sym (append-nil (bag o T)); each = λ i has. absurd (in_none i has) }
+  have_added (s ∷ steps) legal adds =
+      let rest = have_added steps legal.1 (λ x U has. adds x U (in_tail s steps x has)) in
       record {
         more = rest.more ++ new;
         bag_is = ap (λ (b : List Item). b ++ new) rest.bag_is ∙ append_assoc (bag o T) rest.more new;
@@ -68,13 +67,13 @@ module _ (o : Opening) (T : List Step) (P : List Step → Item → Type 0) (stil
 
       by : (i : Item) (rest : HaveAdded steps) → Contains rest.more i ⊎ Contains new i → P (s ∷ steps ++ T) i
       by i rest (inl before) = still s (steps ++ T) i (rest.each i before)
-      by i rest (inr now) = adds s (steps ++ T) (at_head s steps) legal clean i now
+      by i rest (inr now) = adds s (steps ++ T) (at_head s steps) legal i now
 
   -- each datagram that a network has more then carries an item of which it holds
-  pub carried : (w left : WorldState) (steps : List Step) (new : List DatagramValue) → Stands w o T → Stands left o (steps ++ T) → Clean o (steps ++ T) → ((s : Step) (U : List Step) → Contains steps s → IsOfAdded s U)
+  pub carried : (w left : WorldState) (steps : List Step) (new : List DatagramValue) → Stands w o T → Stands left o (steps ++ T) → ((s : Step) (U : List Step) → Contains steps s → IsOfAdded s U)
       → left.bag ≡ w.bag ++ new → (g : DatagramValue) → Contains new g → (i : Item) × P (steps ++ T) i × Carries g i
-  carried w left steps new before after clean adds bag_is g has =
-      let added = have_added steps after.steps.legal clean adds in
+  carried w left steps new before after adds bag_is g has =
+      let added = have_added steps after.steps.legal adds in
       let at = got new g has in
       let place : ℕ = length w.bag + at.0 in
       let l = lies left o (steps ++ T) after place g (ap (λ (b : List DatagramValue). slice_get b place) bag_is ∙ got_behind w.bag new at.0 place g refl at.1) in

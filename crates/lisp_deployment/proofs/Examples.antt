@@ -1,6 +1,6 @@
 -- Examples: a turn and a life of a deployment, and near misses, each but for one thing: what the definitions don't allow.
 use Rattle.std.proofs.Common.{Ok, Err, length, true≢false, ◌≡◌, inl, inr, ℕ, zero, suc, ◌<◌, ◌≤◌, Bool, true, false, List, [], ◌∷◌, ◌++◌, map, Option, Some, None, refl, sym, ap, subst, ◌∙◌, arith}
-use Rattle.std.specs.Prelude.{◌≢◌, ◌⊎◌, ◌==◌, if◌then◌else◌, IsTrue}
+use Rattle.std.specs.Prelude.{◌≢◌, ◌⊎◌, ◌==◌, if◌then◌else◌, IsTrue, Result}
 use Rattle.std.specs.FinMap.{empty}
 use Rattle.std.specs.List.{Contains, flat_map}
 use Rattle.std.specs.Option.{option_and_then}
@@ -19,7 +19,7 @@ use Rattle.lisp_model.proofs.ListLemmas.{in_tail}
 use Rattle.lisp_model.proofs.Locality.{other_number}
 use Rattle.lisp_turns.specs.declared.order.Order.TheVariants as orders
 use Rattle.lisp_refinement.specs.Calls.{config_of, database_of}
-use Rattle.lisp_refinement.specs.World.{ServerNodeState, RouterNodeState}
+use Rattle.lisp_refinement.specs.World.{ServerNodeState, RouterNodeState, DatagramValue}
 use Rattle.lisp_nodes.specs.Cores.{first_used}
 use Rattle.lisp_turns.specs.Acts.{TurnAct}
 use Rattle.lisp_turns.specs.Beginning.{Begins}
@@ -28,7 +28,7 @@ use Rattle.lisp_turns.specs.Node.{NodeState, Server, Router}
 use Rattle.lisp_turns.specs.Outside.{Call, Listens}
 use Rattle.lisp_turns.specs.Turn.{TurnState, IsTurn}
 use Rattle.lisp_deployment.specs.Deployment.{DeploymentState, node_count, calls_in, sent_by, TakesTurn, IsAmong}
-use Rattle.lisp_deployment.specs.Lives.{Survives, IsCut, BeginsLife, EndsAsConfigured}
+use Rattle.lisp_deployment.specs.Lives.{Survives, IsCut, BeginsLife, EndsAsConfigured, sites_taken}
 use Rattle.lisp_deployment.specs.Opening.{DeploymentBegins, DeploymentsBegin}
 use Rattle.lisp_refinement.specs.Passing.{PassesNode}
 use Rattle.lisp_deployment.specs.Deeds.{Deed, Turn, Life, DoesDeed, DoDeeds}
@@ -37,8 +37,7 @@ use Rattle.lisp_model.specs.declared.event.Event.TheVariants as events
 use Rattle.lisp_model.specs.declared.line.Line.TheVariants as lines
 use Rattle.lisp_records.specs.declared.address.Addr.TheVariants.{V4}
 use Rattle.lisp_turns.specs.Act.{ActValue, line_act, numbered}
-use Rattle.lisp_turns.specs.Part.{lines_of}
-use Rattle.std.specs.Prelude.{Result}
+use Rattle.lisp_turns.specs.Part.{lines_of, arrived_in}
 use Rattle.lisp_records.specs.declared.address.Addr.{Addr}
 use Rattle.lisp_messages.specs.declared.fault.ReadFault.{ReadFault}
 use Rattle.lisp_messages.specs.Authentic.{is_authentic}
@@ -48,8 +47,6 @@ use Rattle.lisp_model.specs.declared.line.Line.{Line}
 use Rattle.lisp_model.specs.Keys.{KnowsKey}
 use Rattle.lisp_model.specs.Network.{IsNetwork}
 use Rattle.lisp_model.specs.Trace.{Step, Opening, address_at, etr_config_of, router_at, secret_at, is_server}
-use Rattle.lisp_refinement.specs.World.{DatagramValue}
-use Rattle.lisp_deployment.specs.Lives.{arrived_in, sites_taken}
 use Rattle.lisp_deployment.specs.Received.{received_in, sites_told, MayHold, IsUnforged, ReceivesUnforged}
 use Rattle.lisp_deployment.specs.Told.{Holds, AnswersShowHeld, RowWasSent, HeldRowsWereSent, CountedLinesWereAccepted}
 

@@ -1,38 +1,37 @@
--- What steps put into a network's bag: each Map-Register among it is of a step whose line says that it was sent. Where the steps' lines were
--- printed, that one was.
-use Rattle.std.proofs.Common.{◌≡◌, ◌⊎◌, inl, inr, ℕ, true, List, [], ◌∷◌, ◌++◌, length, Option, Some, None, Ok, refl, sym, ap, subst, ◌∙◌}
-use Rattle.std.specs.Prelude.{◌≢◌, Result, slice_get}
-use Rattle.std.specs.List.{AllPairs, Contains}
-use Rattle.std.specs.Option.{option_and_then}
+-- What steps put into a network's bag: each Map-Register among it is of a step whose line says that it was sent, and each Map-Notify that a
+-- router may count is the reply of a step whose line says that the Map-Register was accepted. Where the steps' lines were printed, that one was.
+use Rattle.std.proofs.Common.{◌≡◌, ℕ, List, [], ◌∷◌, ◌++◌, length, Ok, refl, sym, ap, subst, ◌∙◌, ◌⊎◌, inl, inr, ◌<◌, true, false, true≢false, Option, Some, arith, ◌≤◌}
+use Rattle.std.specs.Prelude.{Result}
+use Rattle.std.specs.List.{Contains}
 use Rattle.std.proofs.lemmas.List.Elements.{Contains-append_right}
 use Rattle.lisp_records.specs.Parts.{part_at}
+use Rattle.lisp_records.specs.declared.address.Addr.{Addr}
+use Rattle.lisp_records.specs.declared.router.RouterId.{RouterId}
 use Rattle.lisp_messages.specs.declared.fault.ReadFault.{ReadFault}
-use Rattle.lisp_messages.specs.Message.{MessageValue, MapRegisterValue, MapNotifyValue, Registers, Notifies}
+use Rattle.lisp_messages.specs.Message.{MessageValue, MapRegisterValue, Registers, MapNotifyValue, Notifies}
 use Rattle.lisp_messages.specs.Reading.{message_at}
 use Rattle.lisp_etr.specs.Sending.{map_register_of}
-use Rattle.lisp_records.specs.Router.{router_eq}
-use Rattle.lisp_model.specs.declared.event.Event.TheVariants as events
+use Rattle.lisp_etr.specs.Hearing.{first_notice}
 use Rattle.lisp_model.specs.declared.line.Line.{Line}
 use Rattle.lisp_model.specs.declared.line.Line.TheVariants as lines
-use Rattle.lisp_model.specs.Trace.{EventValue, Step, Opening, addresses, router_at, key as key_of, etr_config, etr_config_of, sites, database, clock, is_server}
-use Rattle.lisp_model.specs.Bag.{Item, Arrival, arrival_in, as_notify, acceptances_in, register_item, reply_item, notice_item, ack_item, items_added, past, bag, since_start}
-use Rattle.lisp_model.specs.Clean.{Clean}
-use Rattle.lisp_model.specs.Context.{Context}
-use Rattle.lisp_model.specs.Held.{heard_last}
+use Rattle.lisp_model.specs.Trace.{Step, Opening, router_at, etr_config, etr_config_of, database, address_at, is_server, sites}
+use Rattle.lisp_model.specs.Bag.{Item, Arrival, arrival_in, register_item, items_added, past, bag, reply_item}
 use Rattle.lisp_model.specs.History.{SentRegister, sent_registers_in, history, message_of}
 use Rattle.lisp_model.specs.Legal.{MayCome, LegalTrace, context_of}
-use Rattle.lisp_model.specs.Timers.{Notice, notices, notice_to}
-use Rattle.lisp_model.proofs.CleanLemmas.{server_in, one_node, in_find, in_get, in_option, from_map}
-use Rattle.lisp_model.proofs.HearingLemmas.{router_in, not_both}
 use Rattle.lisp_model.proofs.ListLemmas.{at_head, head_or_tail, in_none}
-use Rattle.lisp_model.proofs.NoticeOrigins.{all_went_out}
-use Rattle.lisp_model.proofs.Origins.{all_from}
-use Rattle.lisp_model.proofs.ReplyOrigins.{from_some}
+use Rattle.lisp_model.proofs.Rows.{tells, Following}
+use Rattle.lisp_model.proofs.Origins.{said_clash}
+use Rattle.lisp_model.specs.Accepted.{acceptances, acceptances_in_step}
+use Rattle.lisp_model.specs.Held.{Acceptance}
+use Rattle.lisp_model.proofs.ReplyOrigins.{stays_accepted, said_same}
 use Rattle.lisp_refinement.specs.World.{DatagramValue, WorldState}
 use Rattle.lisp_refinement.specs.Stands.{Stands}
-use Rattle.lisp_refinement.proofs.Gets.{none_is_some, same_some}
 use Rattle.lisp_refinement.proofs.ServerArrivals.{carries_arrival}
-use Rattle.lisp_deployment.proofs.Adding.{reads, carried}
+use Rattle.lisp_deployment.proofs.Adding.{carried}
+use Rattle.lisp_deployment.proofs.Standing.{each_added}
+use Rattle.lisp_admission.specs.Checks.{reply_to}
+use Rattle.lisp_admission.specs.Pairs.{router_of}
+use Rattle.lisp_client.proofs.Steps.{adds, taken_of, taken_alone, accepting}
 
 -- a Map-Register that was sent, and whose line was printed
 pub record WasTold (o : Opening) (T : List Step) (printed : List Line) (m : MapRegisterValue) : Type 0 where
@@ -53,10 +52,6 @@ abbrev pub SendsAreTold : List Line → List Step → Type 0
 SendsAreTold printed steps = (s : Step) → Contains steps s → (router server part key nonce datagram : ℕ) → s.line ≡ lines.Sent router server part key nonce datagram
     → Contains printed (lines.Sent router server part key nonce 0)
 
--- a Map-Notify is no Map-Register
-says_other : {m : MapRegisterValue} {n : MapNotifyValue} → ◌≡◌ {A = MessageValue} (Notifies n) (Registers m) → ⊥
-says_other e = absurd cc
-
 -- a Map-Register that a line put into the bag: the line tells of it
 record IsPosted (o : Opening) (T : List Step) (line : Line) (m : MapRegisterValue) : Type 0 where
   router : ℕ
@@ -68,69 +63,30 @@ record IsPosted (o : Opening) (T : List Step) (line : Line) (m : MapRegisterValu
   line_is : line ≡ lines.Sent router server part key nonce datagram
   message : m ≡ message_of o.config (record { router = router; key = key; nonce = nonce; server = server; database = database o T router; part = part; position = length T })
 
--- who sends is under its key
-sent_under : (t : Context) (e : EventValue) (router server part key nonce datagram : ℕ) → MayCome t e (lines.Sent router server part key nonce datagram) → key ≡ key_of t.opening t.past router
-sent_under t (events.Send r s p fate) router server part key nonce datagram row = row.3.under ∙ ap (λ (n : ℕ). key_of t.opening t.past n) (sym row.0)
-sent_under t (events.Deliver _ _) router server part key nonce datagram row = absurd row.arrives
-sent_under t (events.Junk _ _ _) router server part key nonce datagram row = absurd row.arrives
-sent_under t _ router server part key nonce datagram row = absurd row
+posted : (o : Opening) (T : List Step) → LegalTrace o T → (s : Step) → MayCome (context_of o T s) s.event s.line → (i : Item) → Contains (items_added o T (past o T) (arrival_in (bag o T) s.event) s.line) i
+    → (m : MapRegisterValue) → i.message ≡ Registers m → IsPosted o T s.line m
+posted o T legal s row i has =
+    each_added o T legal s (λ line i. (m : MapRegisterValue) → i.message ≡ Registers m → IsPosted o T line m) register
+    (λ server router key nonce datagram x has m says. absurd (said_clash says)) (λ line i n is low m says. absurd (said_clash (sym is ∙ says))) s.line row i has
+  where
+    register : (router server part key nonce datagram : ℕ) → MayCome (context_of o T s) s.event (lines.Sent router server part key nonce datagram)
+        → (m : MapRegisterValue) → (register_item o T router server part nonce).message ≡ Registers m → IsPosted o T (lines.Sent router server part key nonce datagram) m
+    register router server part key nonce datagram row m says =
+        let said : ◌≡◌ {A = MessageValue} (Registers (map_register_of (etr_config o T router) (part_at (database o T router) part) nonce)) (Registers m) = says in
+        let message : map_register_of (etr_config o T router) (part_at (database o T router) part) nonce ≡ m = cc in
+        let under = (tells (context_of o T s) s.event (lines.Sent router server part key nonce datagram) row).follows.2.under in
+        record {
+          router = router;
+          server = server;
+          part = part;
+          key = key;
+          nonce = nonce;
+          datagram = datagram;
+          line_is = refl;
+          message = sym message ∙ ap (λ (k : ℕ). map_register_of (record (etr_config_of o.config (router_at o.config router)) { key_id = k }) (part_at (database o T router) part) nonce) (sym under);
+        }
 
-module _ (o : Opening) (T : List Step) (distinct : AllPairs (λ a b. a ≢ b) (addresses o.config)) (legal : LegalTrace o T) (clean : Clean o T) where
-  -- a notice that is sent again is no Map-Register: it went to a router
-  resent : (server : ℕ) (n : Notice) → Contains (notices o T server) n → (i : Item) → slice_get (bag o T) n.datagram ≡ Some i → (m : MapRegisterValue) → i.message ≡ Registers m → ⊥
-  resent server n stands i there m says =
-      let out = all_went_out o distinct reads T legal clean server n stands in
-      let from = all_from o T legal i (in_get (bag o T) n.datagram i there) m says in
-      let item : out.item ≡ i = same_some out.item i (sym out.place ∙ there) in
-      let one : from.entry.server ≡ out.router = one_node o.config distinct from.entry.server out.router (server_in o.config from.entry.server from.kind) (router_in o.config out.router out.kind)
-      (sym from.to ∙ ap (λ (x : Item). x.to) (sym item) ∙ out.to) in
-      not_both o.config out.router out.kind (subst (λ (k : ℕ). ◌≡◌ (is_server o.config k) true) one from.kind)
-
-  module _ (s : Step) where
-    abbrev added : Line → List Item
-    added line = items_added o T (past o T) (arrival_in (bag o T) s.event) line
-
-    posted : (line : Line) → MayCome (context_of o T s) s.event line → (i : Item) → Contains (added line) i → (m : MapRegisterValue) → i.message ≡ Registers m → IsPosted o T line m
-    posted (lines.Sent router server part key nonce datagram) row i has m says = by (head_or_tail (register_item o T router server part nonce) [] i has)
-      where
-        by : (i ≡ register_item o T router server part nonce) ⊎ Contains [] i → IsPosted o T (lines.Sent router server part key nonce datagram) m
-        by (inl is) =
-            let said : Registers (map_register_of (etr_config o T router) (part_at (database o T router) part) nonce) ≡ Registers m = ap (λ (x : Item). x.message) (sym is) ∙ says in
-            let message : map_register_of (etr_config o T router) (part_at (database o T router) part) nonce ≡ m = cc in
-            let under = sent_under (context_of o T s) s.event router server part key nonce datagram row in
-            record {
-              router = router;
-              server = server;
-              part = part;
-              key = key;
-              nonce = nonce;
-              datagram = datagram;
-              line_is = refl;
-              message = sym message ∙ ap (λ (k : ℕ). map_register_of (record (etr_config_of o.config (router_at o.config router)) { key_id = k }) (part_at (database o T router) part) nonce) (sym under);
-            }
-        by (inr none) = absurd (in_none i none)
-    posted (lines.Accepted server router key nonce (Some datagram)) row i has m says =
-        let found = from_map (reply_item o.config (sites o T server) server) (acceptances_in (arrival_in (bag o T) s.event) (clock T)) i has in absurd (says_other (sym (ap (λ (x : Item). x.message) found.2) ∙ says))
-    posted (lines.Accepted server router key nonce None) row i has m says = absurd (in_none i has)
-    posted (lines.Noticed router server nonce datagram) row i has m says = by (arrival_in (bag o T) s.event) has
-      where
-        by : (a : Option Arrival) → Contains (items_added o T (past o T) a (lines.Noticed router server nonce datagram)) i → IsPosted o T (lines.Noticed router server nonce datagram) m
-        by None has = absurd (in_none i has)
-        by (Some a) has = let found = from_some (ack_item o T router a) (as_notify a.read) i has in absurd (says_other (ap (λ (x : Item). x.message) found.is ∙ says))
-    posted (lines.Notice server router key nonce datagram) row i has m says =
-        let found = from_some (notice_item o T (since_start o T server) server router key nonce) (heard_last (router_at o.config router).me (since_start o T server)) i has in
-        absurd (says_other (ap (λ (x : Item). x.message) found.is ∙ says))
-    posted (lines.Resent server router datagram) row i has m says = by (notice_to o T server (router_at o.config router).me) refl
-        (in_option (option_and_then (λ (n : Notice). slice_get (bag o T) n.datagram) (notice_to o T server (router_at o.config router).me)) i has)
-      where
-        by : (n : Option Notice) → notice_to o T server (router_at o.config router).me ≡ n → option_and_then (λ (n : Notice). slice_get (bag o T) n.datagram) (notice_to o T server (router_at o.config router).me) ≡ Some i
-            → IsPosted o T (lines.Resent server router datagram) m
-        by None is there = absurd (none_is_some (sym (ap (option_and_then (λ (n : Notice). slice_get (bag o T) n.datagram)) is) ∙ there))
-        by (Some n) is there = absurd (resent server n (in_find (λ (x : Notice). router_eq x.router (router_at o.config router).me) (notices o T server) n is) i
-            (sym (ap (option_and_then (λ (n : Notice). slice_get (bag o T) n.datagram)) is) ∙ there) m says)
-    posted _ row i has m says = absurd (in_none i has)
-
-module _ (o : Opening) (distinct : AllPairs (λ a b. a ≢ b) (addresses o.config)) (printed : List Line) where
+module _ (o : Opening) (printed : List Line) where
   -- each Map-Register was sent, and its line was printed
   abbrev ItsSend : List Step → Item → Type 0
   ItsSend U i = (m : MapRegisterValue) → i.message ≡ Registers m → WasTold o U printed m
@@ -148,17 +104,133 @@ module _ (o : Opening) (distinct : AllPairs (λ a b. a ≢ b) (addresses o.confi
         told = told;
       }
 
-  its_send : (s : Step) (U steps : List Step) → SendsAreTold printed steps → Contains steps s → LegalTrace o (s ∷ U) → Clean o (s ∷ U) → (i : Item) → Contains (items_added o U (past o U) (arrival_in (bag o U) s.event) s.line) i → ItsSend (s ∷ U) i
-  its_send s U steps told has legal clean i added m says =
-      let p = posted o U distinct legal.1 clean.1 s s.line legal.0.row i added m says in
+  its_send : (s : Step) (U steps : List Step) → SendsAreTold printed steps → Contains steps s → LegalTrace o (s ∷ U) → (i : Item) → Contains (items_added o U (past o U) (arrival_in (bag o U) s.event) s.line) i → ItsSend (s ∷ U) i
+  its_send s U steps told has legal i added m says =
+      let p = posted o U legal.1 s legal.0.row i added m says in
       its s U m p (told s has p.router p.server p.part p.key p.nonce p.datagram p.line_is)
 
 -- the datagrams that a network has more after steps whose sends were told: so was each Map-Register that one of them carries
-pub datagrams_told : (w left : WorldState) (o : Opening) (T steps : List Step) (printed : List Line) (new : List DatagramValue) → Stands w o T → Stands left o (steps ++ T) → Clean o (steps ++ T) → SendsAreTold printed steps
+pub datagrams_told : (w left : WorldState) (o : Opening) (T steps : List Step) (printed : List Line) (new : List DatagramValue) → Stands w o T → Stands left o (steps ++ T) → SendsAreTold printed steps
     → left.bag ≡ w.bag ++ new → (g : DatagramValue) → Contains new g → (m : MapRegisterValue) → message_at g.bytes ≡ Ok (Registers m) → WasTold o (steps ++ T) printed m
-datagrams_told w left o T steps printed new before after clean told bag_is g has m read =
-    let distinct = before.steps.network.addresses in
-    let found = carried o T (ItsSend o distinct printed) (still o distinct printed) w left steps new before after clean (λ s U there. its_send o distinct printed s U steps told there) bag_is g has in
+datagrams_told w left o T steps printed new before after told bag_is g has m read =
+    let found = carried o T (ItsSend o printed) (still o printed) w left steps new before after (λ s U there. its_send o printed s U steps told there) bag_is g has in
     let i = found.0 in
     let said : ◌≡◌ {A = Result MessageValue ReadFault} (Ok i.message) (Ok (Registers m)) = ap (λ (a : Arrival). a.read) (sym (carries_arrival g i found.2)) ∙ read in
     found.1 m (let same : i.message ≡ Registers m = cc in same)
+
+-- ---- replies
+
+-- a Map-Notify that a Map-Server sent as the reply to a Map-Register that it accepted, and whose line was printed
+pub record WasReplied (o : Opening) (T : List Step) (printed : List Line) (from to : Addr) (n : MapNotifyValue) : Type 0 where
+  pub server : ℕ
+  pub kind : is_server o.config server ≡ true
+  pub acceptance : Acceptance
+  pub taken : Contains (acceptances o T server) acceptance
+  pub source : from ≡ address_at o.config server
+  pub target : to ≡ acceptance.from
+  pub value : n ≡ reply_to acceptance.message
+  pub reply : Option ℕ
+  pub told : Contains printed (lines.Accepted server (router_of acceptance.message) acceptance.message.key_id acceptance.message.nonce reply)
+
+-- it is so after more steps, and more lines
+still_taken : (o : Opening) (steps T : List Step) (server : ℕ) (x : Acceptance) → Contains (acceptances o T server) x → Contains (acceptances o (steps ++ T) server) x
+still_taken o [] T server x has = has
+still_taken o (s ∷ steps) T server x has = stays_accepted s.line (acceptances_in_step o (steps ++ T) s) server (acceptances o (steps ++ T) server) x (still_taken o steps T server x has)
+
+pub replied_still : (o : Opening) (steps T : List Step) (more printed : List Line) (from to : Addr) (n : MapNotifyValue) → WasReplied o T printed from to n → WasReplied o (steps ++ T) (more ++ printed) from to n
+replied_still o steps T more printed from to n was = record {
+  server = was.server;
+  kind = was.kind;
+  acceptance = was.acceptance;
+  taken = still_taken o steps T was.server was.acceptance was.taken;
+  source = was.source;
+  target = was.target;
+  value = was.value;
+  reply = was.reply;
+  told = Contains-append_right more printed _ was.told;
+}
+
+-- the lines of the Map-Registers that were accepted in steps, and to which a reply went out, were printed
+abbrev pub RepliesAreTold : List Line → List Step → Type 0
+RepliesAreTold printed steps = (s : Step) → Contains steps s → (server : ℕ) (router : RouterId) (key nonce datagram : ℕ) → s.line ≡ lines.Accepted server router key nonce (Some datagram)
+    → Contains printed (lines.Accepted server router key nonce (Some 0))
+
+-- a Map-Notify that a router may count
+pub record MayCount (n : MapNotifyValue) : Type 0 where
+  pub plain : n.ack ≡ false
+  pub low : n.nonce < first_notice
+
+-- a reply that a line put into the bag
+record IsReplied (o : Opening) (T : List Step) (s : Step) (line : Line) (i : Item) : Type 0 where
+  server : ℕ
+  router : RouterId
+  key : ℕ
+  nonce : ℕ
+  datagram : ℕ
+  line_is : line ≡ lines.Accepted server router key nonce (Some datagram)
+  acceptance : Acceptance
+  among : Contains (acceptances_in_step o T s) acceptance
+  is : i ≡ reply_item o.config (sites o T server) server acceptance
+
+replied : (o : Opening) (T : List Step) → LegalTrace o T → (s : Step) → MayCome (context_of o T s) s.event s.line → (i : Item) → Contains (items_added o T (past o T) (arrival_in (bag o T) s.event) s.line) i
+    → (n : MapNotifyValue) → i.message ≡ Notifies n → MayCount n → IsReplied o T s s.line i
+replied o T legal s row i has =
+    each_added o T legal s (λ line i. (n : MapNotifyValue) → i.message ≡ Notifies n → MayCount n → IsReplied o T s line i)
+    (λ router server part key nonce datagram row n says may. absurd (said_clash (sym says)))
+    (λ server router key nonce datagram x among n says may. record { server = server; router = router; key = key; nonce = nonce; datagram = datagram; line_is = refl; acceptance = x; among = among; is = refl })
+    (λ line i n is un m says may. absurd (uncounted n m un (said_same n m (sym is ∙ says)) may)) s.line row i has
+  where
+    uncounted : (n m : MapNotifyValue) → (n.ack ≡ true) ⊎ (first_notice ≤ n.nonce) → n ≡ m → MayCount m → ⊥
+    uncounted n m (inl ack) same may = true≢false (sym ack ∙ ap (λ (x : MapNotifyValue). x.ack) same ∙ may.plain)
+    uncounted n m (inr high) same may = (let number : n.nonce ≡ m.nonce = ap (λ (x : MapNotifyValue). x.nonce) same in omega (arith, number, high, may.low))
+
+module _ (o : Opening) (printed : List Line) where
+  -- each Map-Notify that a router may count was sent as the reply to what was accepted
+  abbrev ItsReply : List Step → Item → Type 0
+  ItsReply U i = (n : MapNotifyValue) → i.message ≡ Notifies n → MayCount n → WasReplied o U printed i.from i.to n
+
+  still_replied : (s : Step) (U : List Step) (i : Item) → ItsReply U i → ItsReply (s ∷ U) i
+  still_replied s U i its n says may = replied_still o (s ∷ []) U [] printed i.from i.to n (its n says may)
+
+  -- the line is that of the acceptance
+  its_line : (s : Step) (U : List Step) → LegalTrace o (s ∷ U) → (i : Item) (n : MapNotifyValue) → i.message ≡ Notifies n → (r : IsReplied o U s s.line i)
+      → Contains printed (lines.Accepted r.server r.router r.key r.nonce (Some 0)) → WasReplied o (s ∷ U) printed i.from i.to n
+  its_line s U legal i n says r told =
+      let a = accepting o s U legal.0 r.server r.router r.key r.nonce (Some r.datagram) r.line_is in
+      let x = taken_of o s U r.router r.key r.nonce a in
+      let only : r.acceptance ≡ x = alone x (head_or_tail x [] r.acceptance (subst (λ (xs : List Acceptance). Contains xs r.acceptance) (taken_alone o s U r.router r.key r.nonce a) r.among)) in
+      let item : i ≡ reply_item o.config (sites o U r.server) r.server x = r.is ∙ ap (reply_item o.config (sites o U r.server) r.server) only in
+      record {
+        server = r.server;
+        kind = (subst (λ (line : Line). Following (context_of o U s) s.event line) r.line_is (tells (context_of o U s) s.event s.line legal.0.row).follows).row.acts.kind;
+        acceptance = x;
+        taken = subst (λ (xs : List Acceptance). Contains xs x) (sym (adds o s U r.server r.router r.key r.nonce (Some r.datagram) r.line_is a)) (at_head x (acceptances o U r.server));
+        source = ap (λ (y : Item). y.from) item;
+        target = ap (λ (y : Item). y.to) item;
+        value = said_same n (reply_to a.message) (sym says ∙ ap (λ (y : Item). y.message) item);
+        reply = Some 0;
+        told = subst (λ (line : Line). Contains printed line) (λ j. lines.Accepted r.server (sym a.who j) (sym a.under j) (sym a.number j) (Some 0)) told;
+      }
+    where
+      alone : {y : Acceptance} (x : Acceptance) → (y ≡ x) ⊎ Contains [] y → y ≡ x
+      alone x (inl is) = is
+      alone x (inr none) = absurd (in_none _ none)
+
+  its_reply : (s : Step) (U steps : List Step) → RepliesAreTold printed steps → Contains steps s → LegalTrace o (s ∷ U) → (i : Item) → Contains (items_added o U (past o U) (arrival_in (bag o U) s.event) s.line) i → ItsReply (s ∷ U) i
+  its_reply s U steps told has legal i added n says may =
+      let r = replied o U legal.1 s legal.0.row i added n says may in
+      its_line s U legal i n says r (told s has r.server r.router r.key r.nonce r.datagram r.line_is)
+
+-- each Map-Notify among datagrams that a router may count was sent as a reply, and the line of that was printed
+abbrev pub AreReplied : Opening → List Step → List Line → List DatagramValue → Type 0
+AreReplied o T printed sent = (g : DatagramValue) → Contains sent g → (n : MapNotifyValue) → message_at g.bytes ≡ Ok (Notifies n) → MayCount n → WasReplied o T printed g.from g.to n
+
+-- so was each among those that a network has more after steps whose replies were told
+pub datagrams_replied : (w left : WorldState) (o : Opening) (T steps : List Step) (printed : List Line) (new : List DatagramValue) → Stands w o T → Stands left o (steps ++ T) → RepliesAreTold printed steps
+    → left.bag ≡ w.bag ++ new → AreReplied o (steps ++ T) printed new
+datagrams_replied w left o T steps printed new before after told bag_is g has n read may =
+    let found = carried o T (ItsReply o printed) (still_replied o printed) w left steps new before after (λ s U there. its_reply o printed s U steps told there) bag_is g has in
+    let i = found.0 in
+    let said : ◌≡◌ {A = Result MessageValue ReadFault} (Ok i.message) (Ok (Notifies n)) = ap (λ (a : Arrival). a.read) (sym (carries_arrival g i found.2)) ∙ read in
+    let says : i.message ≡ Notifies n = cc in
+    subst (λ (p : Addr × Addr). WasReplied o (steps ++ T) printed p.0 p.1 n) {x = (i.from, i.to)} {y = (g.from, g.to)} (λ j. (sym found.2.from j, sym found.2.to j)) (found.1 n says may)

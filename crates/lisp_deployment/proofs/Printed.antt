@@ -1,7 +1,7 @@
 -- The nonces that a Map-Server says that it accepted rise over all its lives, since all lines are of one legal trace.
-use Rattle.std.proofs.Common.{◌≡◌, ◌⊎◌, inl, inr, ℕ, ◌<◌, Bool, true, false, cond, List, [], ◌∷◌, ◌++◌, map, refl, sym, ap, subst, ◌∙◌}
+use Rattle.std.proofs.Common.{◌≡◌, inl, inr, ℕ, ◌<◌, Bool, true, false, cond, List, [], ◌∷◌, ◌++◌, map, refl, sym, ap, subst, ◌∙◌}
 use Rattle.std.specs.Prelude.{Decides, ◌==◌, ◌&&◌, if◌then◌else◌}
-use Rattle.std.specs.List.{Contains, filter}
+use Rattle.std.specs.List.{filter}
 use Rattle.std.proofs.lemmas.Bool.Decides.{Decides-and, Decides-eqb}
 use Rattle.std.proofs.lemmas.List.{append_assoc, map-append}
 use Rattle.lisp_records.specs.declared.router.RouterId.{RouterId}
@@ -17,7 +17,6 @@ use Rattle.lisp_model.specs.Held.{Acceptance, is_of_pair}
 use Rattle.lisp_model.specs.Legal.{LegalTrace}
 use Rattle.lisp_model.specs.Promises.{Falls}
 use Rattle.lisp_model.specs.Trace.{Step, Opening}
-use Rattle.lisp_model.proofs.ListLemmas.{at_head, in_tail, head_or_tail, in_none}
 use Rattle.lisp_refinement.specs.World.{WorldState}
 use Rattle.lisp_client.specs.Steps.{Arrives}
 use Rattle.lisp_client.proofs.Steps.{adds, taken_of, accepting}
@@ -29,39 +28,34 @@ use Rattle.lisp_deployment.specs.Deeds.{Deed, Turn, Life, IsOf, AreOf}
 use Rattle.lisp_deployment.specs.Deployment.{IsAmong}
 use Rattle.lisp_deployment.specs.Printed.{lines_in, all_lines, accepted_nonce, accepted_nonces, PrintedNoncesRise}
 use Rattle.lisp_deployment.proofs.Deeds.{deployments_have_traces}
-use Rattle.lisp_deployment.proofs.Deploying.{among_itself}
-
--- what is among a list
-module _ {X : Type 0} where
-  among_after : (us zs : List X) (y : X) → IsAmong us zs → IsAmong us (y ∷ zs)
-  among_after [] zs y among = tt
-  among_after (u ∷ us) zs y among = inr among
-
-  among_front : (us ys zs : List X) → IsAmong us zs → IsAmong us (ys ++ zs)
-  among_front us [] zs among = among
-  among_front us (y ∷ ys) zs among = among_after us (ys ++ zs) y (among_front us ys zs among)
-
-  among_both : (xs ys us vs : List X) → IsAmong xs ys → IsAmong us vs → IsAmong (xs ++ us) (ys ++ vs)
-  among_both [] ys us vs among more = among_front us ys vs more
-  among_both (x ∷ xs) [] us vs among more = absurd among
-  among_both (x ∷ xs) (y ∷ ys) us vs (inl (same, among)) more = inl (same, among_both xs ys us vs among more)
-  among_both (x ∷ xs) (y ∷ ys) us vs (inr among) more = inr (among_both (x ∷ xs) ys us vs among more)
-
-  pub contains_among : (xs ys : List X) (v : X) → IsAmong xs ys → Contains xs v → Contains ys v
-  contains_among [] ys v among has = absurd (in_none v has)
-  contains_among (x ∷ xs) [] v among has = absurd among
-  contains_among (x ∷ xs) (y ∷ ys) v (inr among) has = in_tail y ys v (contains_among (x ∷ xs) ys v among has)
-  contains_among (x ∷ xs) (y ∷ ys) v (inl (same, among)) has = by (head_or_tail x xs v has) (λ later. contains_among xs ys v among later)
-    where
-      by : (v ≡ x) ⊎ Contains xs v → (Contains xs v → Contains ys v) → Contains (y ∷ ys) v
-      by (inl is) go = subst (λ z. Contains (y ∷ ys) z) (same ∙ sym is) (at_head y ys)
-      by (inr later) go = in_tail y ys v (go later)
+use Rattle.lisp_deployment.proofs.Among.{among_itself, among_after, among_front, among_both, contains_among}
 
 falls_among : (xs ys : List ℕ) → IsAmong xs ys → Falls ys → Falls xs
 falls_among [] ys among falls = tt
 falls_among (x ∷ xs) [] among falls = absurd among
 falls_among (x ∷ xs) (y ∷ ys) (inl (same, among)) falls = ((λ m has. subst (λ z. m < z) same (falls.0 m (contains_among xs ys m among has))), falls_among xs ys among falls.1)
 falls_among (x ∷ xs) (y ∷ ys) (inr among) falls = falls_among (x ∷ xs) ys among falls.1
+
+-- the lines of steps, as they are printed; what was printed of them, and in deeds, is among those
+abbrev pub told_lines : List Step → List Line
+told_lines steps = map (λ s. numbered 0 s.line) steps
+
+printed_among : (steps : List Step) (ls : List Line) → ArePrinted steps ls → IsAmong ls (told_lines steps)
+printed_among [] ls is = subst (λ (l : List Line). IsAmong l []) (sym is) tt
+printed_among (s ∷ steps) ls (inl (quiet, printed)) = among_after ls (told_lines steps) (numbered 0 s.line) (printed_among steps ls printed)
+printed_among (s ∷ steps) ls (inr (line, rest, is, same, printed)) = subst (λ (l : List Line). IsAmong l (told_lines (s ∷ steps))) (sym is) (inl (sym same, printed_among steps rest printed))
+
+deed_among : (deed : Deed) (old new : WorldState) (o : Opening) (T steps : List Step) → IsOf deed old new o T steps → IsAmong (lines_in deed) (told_lines steps)
+deed_among (Turn number calls) old new o T steps part = printed_among steps (lines_of calls) part.printed
+deed_among (Life number told) old new o T steps life =
+    subst (λ (l : List Line). IsAmong (lines_of (acts_calls told)) l) (sym (ap told_lines life.is ∙ map-append (λ (s : Step). numbered 0 s.line) (life.restart ∷ life.untold) life.first))
+    (among_front (lines_of (acts_calls told)) (told_lines (life.restart ∷ life.untold)) (told_lines life.first) (printed_among life.first (lines_of (acts_calls told)) life.printed))
+
+pub deeds_among : (deeds : List Deed) (old new : WorldState) (o : Opening) (T steps : List Step) → AreOf deeds old new o T steps → IsAmong (all_lines deeds) (told_lines steps)
+deeds_among [] old new o T steps are = tt
+deeds_among (deed ∷ earlier) old new o T steps (between, first, second, are, is_of, is) =
+    subst (λ (l : List Line). IsAmong (all_lines (deed ∷ earlier)) l) (sym (ap told_lines is ∙ map-append (λ (s : Step). numbered 0 s.line) second first))
+    (among_both (lines_in deed) (told_lines second) (all_lines earlier) (told_lines first) (deed_among deed between new o (first ++ T) second is_of) (deeds_among earlier old between o T first are))
 
 module _ (server : ℕ) (router : RouterId) (key : ℕ) where
   abbrev pub nonce_in : Line → List ℕ
@@ -74,43 +68,24 @@ module _ (server : ℕ) (router : RouterId) (key : ℕ) where
   step_nonces steps = nonces (map (λ s. s.line) steps)
 
   numbered_nonce : (n : ℕ) (line : Line) → nonce_in (numbered n line) ≡ nonce_in line
-  numbered_nonce n (lines.Sent router server part key nonce datagram) = refl
   numbered_nonce n (lines.Accepted server router key nonce datagram) = refl
-  numbered_nonce n (lines.Noticed router server nonce datagram) = refl
-  numbered_nonce n (lines.Notice server router key nonce datagram) = refl
-  numbered_nonce n (lines.Resent server router datagram) = refl
   numbered_nonce n _ = refl
 
   pub nonces_append : (xs ys : List Line) → nonces (xs ++ ys) ≡ nonces xs ++ nonces ys
   nonces_append [] ys = refl
   nonces_append (x ∷ xs) ys = ap (λ (ns : List ℕ). nonce_in x ++ ns) (nonces_append xs ys) ∙ sym (append_assoc (nonce_in x) (nonces xs) (nonces ys))
 
-  steps_append : (later earlier : List Step) → step_nonces (later ++ earlier) ≡ step_nonces later ++ step_nonces earlier
-  steps_append later earlier = ap nonces (map-append (λ (s : Step). s.line) later earlier) ∙ nonces_append (map (λ s. s.line) later) (map (λ s. s.line) earlier)
+  -- those of printed lines are among those of the steps
+  nonces_among : (ls ms : List Line) → IsAmong ls ms → IsAmong (nonces ls) (nonces ms)
+  nonces_among [] ms among = tt
+  nonces_among (l ∷ ls) [] among = absurd among
+  nonces_among (l ∷ ls) (m ∷ ms) (inl (same, among)) = subst (λ (x : Line). IsAmong (nonces (x ∷ ls)) (nonces (m ∷ ms))) same
+      (among_both (nonce_in m) (nonce_in m) (nonces ls) (nonces ms) (among_itself (nonce_in m)) (nonces_among ls ms among))
+  nonces_among (l ∷ ls) (m ∷ ms) (inr among) = among_front (nonces (l ∷ ls)) (nonce_in m) (nonces ms) (nonces_among (l ∷ ls) ms among)
 
-  -- the printed lines of steps
-  printed_among : (steps : List Step) (ls : List Line) → ArePrinted steps ls → IsAmong (nonces ls) (step_nonces steps)
-  printed_among [] ls is = subst (λ (l : List Line). IsAmong (nonces l) []) (sym is) tt
-  printed_among (s ∷ steps) ls (inl (quiet, printed)) = among_front (nonces ls) (nonce_in s.line) (step_nonces steps) (printed_among steps ls printed)
-  printed_among (s ∷ steps) ls (inr (line, rest, is, same, printed)) =
-      subst (λ (l : List Line). IsAmong (nonces l) (nonce_in s.line ++ step_nonces steps)) (sym is)
-      (subst (λ (ns : List ℕ). IsAmong (ns ++ nonces rest) (nonce_in s.line ++ step_nonces steps)) (sym (ap nonce_in same ∙ numbered_nonce 0 s.line))
-      (among_both (nonce_in s.line) (nonce_in s.line) (nonces rest) (step_nonces steps) (among_itself (nonce_in s.line)) (printed_among steps rest printed)))
-
-  -- and of deeds
-  deed_among : (deed : Deed) (old new : WorldState) (o : Opening) (T steps : List Step) → IsOf deed old new o T steps → IsAmong (nonces (lines_in deed)) (step_nonces steps)
-  deed_among (Turn number calls) old new o T steps part = printed_among steps (lines_of calls) part.printed
-  deed_among (Life number told) old new o T steps life =
-      subst (λ (l : List Step). IsAmong (nonces (lines_of (acts_calls told))) (step_nonces l)) (sym life.is)
-      (subst (λ (ns : List ℕ). IsAmong (nonces (lines_of (acts_calls told))) ns) (sym (steps_append (life.restart ∷ life.untold) life.first))
-      (among_front (nonces (lines_of (acts_calls told))) (step_nonces (life.restart ∷ life.untold)) (step_nonces life.first) (printed_among life.first (lines_of (acts_calls told)) life.printed)))
-
-  deeds_among : (deeds : List Deed) (old new : WorldState) (o : Opening) (T steps : List Step) → AreOf deeds old new o T steps → IsAmong (nonces (all_lines deeds)) (step_nonces steps)
-  deeds_among [] old new o T steps are = tt
-  deeds_among (deed ∷ earlier) old new o T steps (between, first, second, are, is_of, is) =
-      subst (λ (p : List ℕ × List ℕ). IsAmong p.0 p.1) {x = (nonces (lines_in deed) ++ nonces (all_lines earlier), step_nonces second ++ step_nonces first)} {y = (nonces (all_lines (deed ∷ earlier)), step_nonces steps)}
-      (λ i. (sym (nonces_append (lines_in deed) (all_lines earlier)) i, sym (ap step_nonces is ∙ steps_append second first) i))
-      (among_both (nonces (lines_in deed)) (step_nonces second) (nonces (all_lines earlier)) (step_nonces first) (deed_among deed between new o (first ++ T) second is_of) (deeds_among earlier old between o T first are))
+  numbered_nonces : (steps : List Step) → nonces (told_lines steps) ≡ step_nonces steps
+  numbered_nonces [] = refl
+  numbered_nonces (s ∷ steps) = λ i. numbered_nonce 0 s.line i ++ numbered_nonces steps i
 
   -- the lines of a legal trace say what was accepted
   abbrev pair : Pair
@@ -170,6 +145,7 @@ pub printed_nonces_rise : (A : Type 0) → PrintedNoncesRise A
 printed_nonces_rise A config stores begun d deeds network begins did server router key =
     let all = deployments_have_traces A config stores begun d deeds network begins did in
     let has = all.3 in
-    falls_among (accepted_nonces server router key (all_lines deeds)) (step_nonces server router key has.trace) (deeds_among server router key deeds all.0 has.network all.1 [] has.trace has.are_of)
+    falls_among (accepted_nonces server router key (all_lines deeds)) (step_nonces server router key has.trace) (subst (λ (ns : List ℕ). IsAmong (nonces server router key (all_lines deeds)) ns) (numbered_nonces server router key has.trace)
+    (nonces_among server router key (all_lines deeds) (told_lines has.trace) (deeds_among deeds all.0 has.network all.1 [] has.trace has.are_of)))
     (falls_among (step_nonces server router key has.trace) (accepted server router key all.1 has.trace) (trace_among server router key all.1 has.trace has.stands.stands.steps.legal)
     (has.headline.nonces_rise server (pair server router key)))

@@ -1,7 +1,6 @@
 -- Where nothing that was received is forged, the trace of a deployment is clean.
-use Rattle.std.proofs.Common.{◌≡◌, ◌⊎◌, inl, inr, ℕ, List, [], ◌∷◌, ◌++◌, refl, sym, subst, append-nil}
+use Rattle.std.proofs.Common.{ap, ◌∙◌, ◌≡◌, ◌⊎◌, inl, inr, ℕ, List, [], ◌∷◌, ◌++◌, sym, subst}
 use Rattle.std.specs.List.{AllByRecursion, Contains}
-use Rattle.std.proofs.lemmas.List.{append_assoc}
 use Rattle.std.proofs.lemmas.List.Elements.{Contains-append_left, Contains-append_right}
 use Rattle.lisp_records.specs.declared.address.Addr.{Addr}
 use Rattle.lisp_policy.specs.Configuration.{ConfigValue}
@@ -18,24 +17,24 @@ use Rattle.lisp_refinement.specs.World.{DatagramValue, WorldState}
 use Rattle.lisp_refinement.proofs.ServerArrivals.{lies}
 use Rattle.lisp_turns.specs.Acts.{TurnAct, acts_calls}
 use Rattle.lisp_turns.specs.Outside.{Call}
-use Rattle.lisp_turns.specs.Part.{IsOwn, arrival, arrivals, datagram_from, lines_of, received_of}
-use Rattle.lisp_deployment.specs.Deeds.{Deed, Turn, Life, BeginsAgain, DoesDeed, DoDeeds, IsOf, AreOf}
+use Rattle.lisp_turns.specs.Part.{IsOwn, arrival, arrivals, datagram_from, lines_of, received_of, arrived_in}
+use Rattle.lisp_turns.proofs.Reaching.{all_split}
+use Rattle.lisp_deployment.specs.Deeds.{Deed, Turn, Life, BeginsAgain, DoesDeed, DoDeeds}
 use Rattle.lisp_deployment.specs.Deployment.{DeploymentState, sent_by, TakesTurn, DeploymentStands}
-use Rattle.lisp_deployment.specs.Lives.{IsLife, arrived_in, sites_taken}
+use Rattle.lisp_deployment.specs.Lives.{IsLife, sites_taken}
 use Rattle.lisp_deployment.specs.Received.{node_of, received_in, sites_told, given_in, given_by, IsForgedFor, IsUnforged, ReceivesUnforged, HasCleanTrace, UnforgedDeploymentsAreClean}
 use Rattle.lisp_deployment.specs.Printed.{lines_in, all_lines}
 use Rattle.lisp_deployment.specs.Opening.{DeploymentBegins, DeploymentOpens}
 use Rattle.lisp_nonces.specs.Store.{StoreState}
 use Rattle.lisp_model.specs.Network.{IsNetwork}
-use Rattle.lisp_deployment.proofs.Deploying.{turned, its_part, turn_bag, turn_stands}
+use Rattle.lisp_deployment.proofs.Deeds.{one_deed, deeds_stand, its_trace}
+use Rattle.lisp_deployment.proofs.Deploying.{turned, its_part, turn_bag}
 use Rattle.lisp_deployment.proofs.Adding.{got}
-use Rattle.lisp_deployment.proofs.Giving.{ordered_given, taken_given, more_given}
-use Rattle.lisp_deployment.proofs.Holding.{TakeGiven, may_hold}
+use Rattle.lisp_deployment.proofs.Giving.{ordered_given, taken_given, more_given, TakeGiven, may_hold}
 use Rattle.lisp_deployment.proofs.Telling.{AreAllTold, turn_tells, life_tells}
 use Rattle.lisp_deployment.proofs.Living.{lives_are_told}
 use Rattle.lisp_deployment.proofs.Opening.{first_opens}
-use Rattle.lisp_deployment.proofs.Printed.{contains_among}
-use Rattle.lisp_refinement.proofs.Headlines.{networks_promise}
+use Rattle.lisp_deployment.proofs.Among.{contains_among}
 
 -- something that arrives at a node does no harm after a trace
 abbrev IsHarmlessTo : Opening → List (List SiteValue) → List Step → ℕ → Addr × List ℕ → Type 0
@@ -51,14 +50,6 @@ module _ (o : Opening) (given : List (List SiteValue)) (T : List Step) (number :
       by (inl echo) = inl (record { item = echo.item; sent = Contains-append_left (bag o (steps ++ T)) _ echo.item echo.sent; source = echo.source; target = echo.target; same = echo.same })
       by (inr other) = inr other
 
-  all_later : (P : Addr × List ℕ → Type 0) (xs ys : List (Addr × List ℕ)) → AllByRecursion P (xs ++ ys) → AllByRecursion P xs
-  all_later P [] ys all = tt
-  all_later P (x ∷ xs) ys all = (all.0, all_later P xs ys all.1)
-
-  all_earlier : (P : Addr × List ℕ → Type 0) (xs ys : List (Addr × List ℕ)) → AllByRecursion P (xs ++ ys) → AllByRecursion P ys
-  all_earlier P [] ys all = all
-  all_earlier P (x ∷ xs) ys all = all_earlier P xs ys all.1
-
   -- an event of the node
   one_harmless : (steps : List Step) → LegalTrace o (steps ++ T) → TakeGiven o given (steps ++ T) → (event : EventValue) → IsOwn number event → AllByRecursion (IsHarmlessTo o given T number) (arrival event) → IsHarmless o (steps ++ T) event
   one_harmless steps legal take (events.Junk to from bytes) here all = subst (λ (n : ℕ). IsHarmless o (steps ++ T) (events.Junk n from bytes)) (sym here) (by (still_harmless steps (from, bytes) all.0))
@@ -72,10 +63,9 @@ module _ (o : Opening) (given : List (List SiteValue)) (T : List Step) (number :
   -- steps of the node
   clean_steps : (steps : List Step) → AllByRecursion (λ s. IsOwn number s.event) steps → LegalTrace o (steps ++ T) → TakeGiven o given (steps ++ T) → AllByRecursion (IsHarmlessTo o given T number) (arrivals steps) → Clean o T → Clean o (steps ++ T)
   clean_steps [] own legal take all clean = clean
-  clean_steps (s ∷ steps) own legal take all clean = (
-    one_harmless steps legal.1 take.1 s.event own.0 (all_later (IsHarmlessTo o given T number) (arrival s.event) (arrivals steps) all),
-    clean_steps steps own.1 legal.1 take.1 (all_earlier (IsHarmlessTo o given T number) (arrival s.event) (arrivals steps) all) clean,
-  )
+  clean_steps (s ∷ steps) own legal take all clean =
+      let parts = all_split (IsHarmlessTo o given T number) (arrival s.event) (arrivals steps) all in
+      (one_harmless steps legal.1 take.1 s.event own.0 parts.0, clean_steps steps own.1 legal.1 take.1 parts.1 clean)
 
 -- what isn't forged does no harm
 module _ (config : ConfigValue) (given : List (List SiteValue)) (d : DeploymentState) (w : WorldState) (o : Opening) (T : List Step) (stand : DeploymentStands config d w o T) (number : ℕ) where
@@ -96,15 +86,11 @@ module _ (config : ConfigValue) (given : List (List SiteValue)) (d : DeploymentS
   all_harmless [] all = tt
   all_harmless (m ∷ ms) all = (unforged_harmless m all.0, all_harmless ms all.1)
 
--- a deployment goes on to be a network with a clean trace, by a deed
-record GoesOnCleanly (config : ConfigValue) (given : List (List SiteValue)) (deed : Deed) (new : DeploymentState) (printed : List Line) (w : WorldState) (o : Opening) (T : List Step) : Type 0 where
-  pub steps : List Step
-  pub left : WorldState
-  pub is_of : IsOf deed w left o T steps
-  pub stands : DeploymentStands config new left o (steps ++ T)
-  pub take : TakeGiven o given (steps ++ T)
-  pub clean : Clean o (steps ++ T)
-  pub all_told : AreAllTold o (steps ++ T) (lines_in deed ++ printed) new.sent
+-- after a trace no other sites were taken, it is clean, and all was told, with these lines, of what was sent
+record AreClean (o : Opening) (given : List (List SiteValue)) (T : List Step) (printed : List Line) (sent : List DatagramValue) : Type 0 where
+  pub take : TakeGiven o given T
+  pub clean : Clean o T
+  pub all_told : AreAllTold o T printed sent
 
 -- the steps of a life
 life_clean : (config : ConfigValue) (given : List (List SiteValue)) (number : ℕ) (told : List TurnAct) (o : Opening) (T steps : List Step) (life : IsLife number told steps) → LegalTrace o (steps ++ T) → TakeGiven o given (steps ++ T)
@@ -122,8 +108,7 @@ before_restart : (P : Addr × List ℕ → Type 0) (number : ℕ) (told : List T
 before_restart P number told steps life all = subst (λ (e : EventValue). AllByRecursion P (arrival e ++ arrivals (life.untold ++ life.first))) life.event (subst (λ (l : List Step). AllByRecursion P (arrivals l)) life.is all)
 
 module _ (A : Type 0) (config : ConfigValue) where
-  module _ (given : List (List SiteValue)) (printed : List Line) (number : ℕ) (old new : DeploymentState) (w : WorldState) (o : Opening) (T : List Step) (stand : DeploymentStands config old w o T) (took : TakeGiven o given T) (clean : Clean o T)
-      (told : AreAllTold o T printed old.sent) where
+  module _ (given : List (List SiteValue)) (printed : List Line) (number : ℕ) (old new : DeploymentState) (w : WorldState) (o : Opening) (T : List Step) (stand : DeploymentStands config old w o T) (are : AreClean o given T printed old.sent) where
     -- as its network's configuration says
     abbrev ItsUnforged : Addr × List ℕ → Type 0
     ItsUnforged m = IsUnforged o.config given old.sent number m
@@ -132,90 +117,58 @@ module _ (A : Type 0) (config : ConfigValue) where
     still_unforged ms all = subst (λ (c : ConfigValue). AllByRecursion (IsUnforged c given old.sent number) ms) (sym stand.config_is) all
 
     one_turn : (calls : List Call) (takes : TakesTurn A config number calls old new) → ((sites : List SiteValue) → Contains (sites_told calls) sites → Contains given sites)
-        → AllByRecursion (IsUnforged config given old.sent number) (received_of calls) → GoesOnCleanly config given (Turn number calls) new printed w o T
+        → AllByRecursion (IsUnforged config given old.sent number) (received_of calls) → AreClean o given ((turned A config number calls old new takes w o T stand).steps ++ T) (lines_of calls ++ printed) new.sent
     one_turn calls takes are_given unforged =
         let goes = turned A config number calls old new takes w o T stand in
         let part = its_part A config number calls old new takes w o T stand in
-        let take = ordered_given o calls given are_given goes.steps T part.ordered took in
-        let clean_then = clean_steps o given T number goes.steps part.own part.stands.steps.legal take
-        (subst (λ (ms : List (Addr × List ℕ)). AllByRecursion (IsHarmlessTo o given T number) ms) (sym part.heard) (all_harmless config given old w o T stand number (received_of calls) unforged)) clean in
+        let take = ordered_given o calls given are_given goes.steps T part.ordered are.take in
+        let clean = clean_steps o given T number goes.steps part.own part.stands.steps.legal take
+        (subst (λ (ms : List (Addr × List ℕ)). AllByRecursion (IsHarmlessTo o given T number) ms) (sym part.heard) (all_harmless config given old w o T stand number (received_of calls) unforged)) are.clean in
         record {
-          steps = goes.steps;
-          left = goes.left;
-          is_of = part;
-          stands = turn_stands A config number calls old new takes w o T stand;
           take = take;
-          clean = clean_then;
+          clean = clean;
           all_told = subst (λ (l : List DatagramValue). AreAllTold o (goes.steps ++ T) (lines_of calls ++ printed) l) (sym takes.sent)
-              (turn_tells o given T printed old.sent told number w goes.left goes.steps (lines_of calls) (sent_by config number calls) stand.stands part.stands (turn_bag A config number calls old new takes w o T stand) part.own part.printed
-              (subst (λ (ms : List (Addr × List ℕ)). AllByRecursion ItsUnforged ms) (sym part.heard) (still_unforged (received_of calls) unforged)) take clean_then);
+              (turn_tells o given T printed old.sent are.all_told number w goes.left goes.steps (lines_of calls) (sent_by config number calls) stand.stands part.stands (turn_bag A config number calls old new takes w o T stand) part.own part.printed
+              (subst (λ (ms : List (Addr × List ℕ)). AllByRecursion ItsUnforged ms) (sym part.heard) (still_unforged (received_of calls) unforged)) take clean);
         }
 
     one_life : (acts : List TurnAct) (begins : BeginsAgain A config number acts old new) → ((sites : List SiteValue) → Contains (begins.life.sites ∷ sites_taken (begins.life.untold ++ acts)) sites → Contains given sites)
-        → AllByRecursion (IsUnforged config given old.sent number) (arrived_in (begins.life.untold ++ acts)) → GoesOnCleanly config given (Life number acts) new printed w o T
+        → AllByRecursion (IsUnforged config given old.sent number) (arrived_in (begins.life.untold ++ acts))
+        → AreClean o given ((lives_are_told A config number acts old new begins.life w o T stand begins.configured).goes.steps ++ T) (lines_of (acts_calls acts) ++ printed) new.sent
     one_life acts begins are_given unforged =
-        let tells = lives_are_told A config number acts old new begins.life begins.configured w o T stand in
+        let tells = lives_are_told A config number acts old new begins.life w o T stand begins.configured in
         let goes = tells.goes in
         let life = goes.life in
-        let legal = goes.stands.stands.steps.legal in
-        let take = taken_given o (begins.life.sites ∷ sites_taken (begins.life.untold ++ acts)) given are_given goes.steps T goes.takes took in
-        let clean_then = life_clean config given number acts o T goes.steps life legal take
-        (subst (λ (ms : List (Addr × List ℕ)). AllByRecursion (IsHarmlessTo o given T number) ms) (sym goes.heard) (all_harmless config given old w o T stand number (arrived_in (begins.life.untold ++ acts)) unforged)) clean in
+        let take = taken_given o (begins.life.sites ∷ sites_taken (begins.life.untold ++ acts)) given are_given goes.steps T goes.takes are.take in
+        let clean = life_clean config given number acts o T goes.steps life goes.stands.stands.steps.legal take
+        (subst (λ (ms : List (Addr × List ℕ)). AllByRecursion (IsHarmlessTo o given T number) ms) (sym goes.heard) (all_harmless config given old w o T stand number (arrived_in (begins.life.untold ++ acts)) unforged)) are.clean in
         record {
-          steps = goes.steps;
-          left = goes.left;
-          is_of = life;
-          stands = goes.stands;
           take = take;
-          clean = clean_then;
+          clean = clean;
           all_told = subst (λ (p : List Step × List DatagramValue). AreAllTold o (p.0 ++ T) (lines_of (acts_calls acts) ++ printed) p.1)
               {x = (life.restart ∷ life.untold ++ life.first, old.sent ++ sent_by config number (acts_calls acts))} {y = (goes.steps, new.sent)} (λ i. (sym life.is i, sym begins.life.sent i))
-              (life_tells o given T printed old.sent told number w tells.left life.restart life.untold life.first (lines_of (acts_calls acts)) (sent_by config number (acts_calls acts)) life.line stand.stands tells.stands tells.bag life.own life.printed
+              (life_tells o given T printed old.sent are.all_told number w tells.left life.restart life.untold life.first (lines_of (acts_calls acts)) (sent_by config number (acts_calls acts)) life.line stand.stands tells.stands tells.bag life.own life.printed
               (before_restart ItsUnforged number acts goes.steps life (subst (λ (ms : List (Addr × List ℕ)). AllByRecursion ItsUnforged ms) (sym goes.heard) (still_unforged (arrived_in (begins.life.untold ++ acts)) unforged)))
-              (subst (λ (l : List Step). LegalTrace o (l ++ T)) life.is legal).1 (subst (λ (l : List Step). TakeGiven o given (l ++ T)) life.is take).1 (subst (λ (l : List Step). Clean o (l ++ T)) life.is clean_then).1);
+              (subst (λ (l : List Step). LegalTrace o (l ++ T)) life.is goes.stands.stands.steps.legal).1 (subst (λ (l : List Step). TakeGiven o given (l ++ T)) life.is take).1 (subst (λ (l : List Step). Clean o (l ++ T)) life.is clean).1);
         }
 
-  one_deed : (given : List (List SiteValue)) (deed : Deed) (old new : DeploymentState) (does : DoesDeed A config deed old new) → ((sites : List SiteValue) → Contains (given_in A config deed old new does) sites → Contains given sites)
-      → AllByRecursion (IsUnforged config given old.sent (node_of deed)) (received_in A config deed old new does) → (printed : List Line) (w : WorldState) (o : Opening) (T : List Step) → DeploymentStands config old w o T → TakeGiven o given T → Clean o T
-      → AreAllTold o T printed old.sent → GoesOnCleanly config given deed new printed w o T
-  one_deed given (Turn number calls) old new takes are_given unforged printed w o T stand took clean told = one_turn given printed number old new w o T stand took clean told calls takes are_given unforged
-  one_deed given (Life number acts) old new begins are_given unforged printed w o T stand took clean told = one_life given printed number old new w o T stand took clean told acts begins are_given unforged
+  deed_clean : (given : List (List SiteValue)) (deed : Deed) (old new : DeploymentState) (does : DoesDeed A config deed old new) → ((sites : List SiteValue) → Contains (given_in A config deed old new does) sites → Contains given sites)
+      → AllByRecursion (IsUnforged config given old.sent (node_of deed)) (received_in A config deed old new does) → (printed : List Line) (w : WorldState) (o : Opening) (T : List Step) (stand : DeploymentStands config old w o T)
+      → AreClean o given T printed old.sent → AreClean o given ((one_deed A config deed old new does w o T stand).steps ++ T) (lines_in deed ++ printed) new.sent
+  deed_clean given (Turn number calls) old new takes are_given unforged printed w o T stand are = one_turn given printed number old new w o T stand are calls takes are_given unforged
+  deed_clean given (Life number acts) old new begins are_given unforged printed w o T stand are = one_life given printed number old new w o T stand are acts begins are_given unforged
 
-  -- and by deeds
-  record GoOnCleanly (given : List (List SiteValue)) (deeds : List Deed) (new : DeploymentState) (w : WorldState) (o : Opening) (T : List Step) : Type 0 where
-    pub steps : List Step
-    pub left : WorldState
-    pub are_of : AreOf deeds w left o T steps
-    pub stands : DeploymentStands config new left o (steps ++ T)
-    pub take : TakeGiven o given (steps ++ T)
-    pub clean : Clean o (steps ++ T)
-    pub all_told : AreAllTold o (steps ++ T) (all_lines deeds) new.sent
+  -- by deeds in which nothing that was received is forged
+  abbrev AreCleanThen : (o : Opening) (old : DeploymentState) (deeds : List Deed) (new : DeploymentState) → DoDeeds A config deeds old new → List Step → Type 0
+  AreCleanThen o old deeds new did T = ReceivesUnforged A config deeds old new did → AreClean o (given_by A config deeds old new did) T (all_lines deeds) new.sent
 
-  deeds_clean : (deeds : List Deed) (old new : DeploymentState) (did : DoDeeds A config deeds old new) → ReceivesUnforged A config deeds old new did → (w : WorldState) (o : Opening) (T : List Step) → DeploymentStands config old w o T → TakeGiven o [] T → Clean o T
-      → AreAllTold o T [] old.sent → GoOnCleanly (given_by A config deeds old new did) deeds new w o T
-  deeds_clean [] old new is unforged w o T stand took clean told = record {
-    steps = [];
-    left = w;
-    are_of = (refl, refl);
-    stands = subst (λ (d : DeploymentState). DeploymentStands config d w o T) (sym is) stand;
-    take = took;
-    clean = clean;
-    all_told = subst (λ (d : DeploymentState). AreAllTold o T [] d.sent) (sym is) told;
-  }
-  deeds_clean (deed ∷ earlier) old new (between, did, does) unforged w o T stand took clean told =
+  deed_keeps : (o : Opening) (old : DeploymentState) (deed : Deed) (earlier : List Deed) (between new : DeploymentState) (did : DoDeeds A config earlier old between) (does : DoesDeed A config deed between new) (w : WorldState) (T : List Step)
+      (stand : DeploymentStands config between w o T) → AreCleanThen o old earlier between did T → AreCleanThen o old (deed ∷ earlier) new (between, did, does) ((one_deed A config deed between new does w o T stand).steps ++ T)
+  deed_keeps o old deed earlier between new did does w T stand before unforged =
       let now = given_in A config deed between new does in
-      let before = given_by A config earlier old between did in
-      let first = deeds_clean earlier old between did unforged.0 w o T stand took clean told in
-      let second = one_deed (now ++ before) deed between new does (Contains-append_left now before) unforged.1 (all_lines earlier) first.left o (first.steps ++ T) first.stands (more_given o now before (first.steps ++ T) first.take) first.clean first.all_told in
-      record {
-        steps = second.steps ++ first.steps;
-        left = second.left;
-        are_of = (first.left, first.steps, second.steps, first.are_of, second.is_of, refl);
-        stands = subst (λ (l : List Step). DeploymentStands config new second.left o l) (sym (append_assoc second.steps first.steps T)) second.stands;
-        take = subst (λ (l : List Step). TakeGiven o (now ++ before) l) (sym (append_assoc second.steps first.steps T)) second.take;
-        clean = subst (λ (l : List Step). Clean o l) (sym (append_assoc second.steps first.steps T)) second.clean;
-        all_told = subst (λ (l : List Step). AreAllTold o l (all_lines (deed ∷ earlier)) new.sent) (sym (append_assoc second.steps first.steps T)) second.all_told;
-      }
+      let given = given_by A config earlier old between did in
+      let are = before unforged.0 in
+      deed_clean (now ++ given) deed between new does (Contains-append_left now given) unforged.1 (all_lines earlier) w o T stand (record { take = more_given o now given T are.take; clean = are.clean; all_told = are.all_told })
 
 -- it has a clean trace, and what was told of it
 pub record CleanRun (A : Type 0) (config : ConfigValue) (stores : ℕ → StoreState) (begun d : DeploymentState) (deeds : List Deed) (did : DoDeeds A config deeds begun d) : Type 0 where
@@ -239,20 +192,20 @@ pub runs_cleanly : (A : Type 0) (config : ConfigValue) (stores : ℕ → StoreSt
     → ReceivesUnforged A config deeds begun d did → CleanRun A config stores begun d deeds did
 runs_cleanly A config stores begun d deeds network begins did unforged =
     let opens = first_opens config stores begun network begins in
-    let goes = deeds_clean A config deeds begun d did unforged opens.0 opens.1 [] opens.2.stands tt tt (none_told opens.1 begun.sent begins.unsent) in
-    let stand = subst (λ (l : List Step). DeploymentStands config d goes.left opens.1 l) (append-nil goes.steps) goes.stands in
-    let clean = subst (λ (l : List Step). Clean opens.1 l) (append-nil goes.steps) goes.clean in
-    let headline = networks_promise goes.left opens.1 goes.steps stand.stands in
+    let none : (e : DeploymentState) (is : e ≡ begun) → AreCleanThen A config opens.1 begun [] e is [] = λ e is nothing. record {
+      take = tt;
+      clean = tt;
+      all_told = none_told opens.1 e.sent (ap (λ (x : DeploymentState). x.sent) is ∙ begins.unsent);
+    } in
+    let goes = deeds_stand A config opens.1 begun (AreCleanThen A config opens.1 begun) opens.0 [] opens.2.stands none (deed_keeps A config opens.1 begun) deeds d did in
+    let all = its_trace A config opens.1 begun (AreCleanThen A config opens.1 begun) deeds d did opens.0 goes in
+    let are = all.1 unforged in
     record {
       first = opens.0;
       opening = opens.1;
       opens = opens.2;
-      clean = record {
-        has = record { trace = goes.steps; network = goes.left; are_of = goes.are_of; stands = stand; headline = headline };
-        clean = clean;
-        over_clean = headline.over_clean clean;
-      };
-      all_told = subst (λ (l : List Step). AreAllTold opens.1 l (all_lines deeds) d.sent) (append-nil goes.steps) goes.all_told;
+      clean = record { has = all.0; clean = are.clean; over_clean = all.0.headline.over_clean are.clean };
+      all_told = are.all_told;
     }
 
 pub unforged_deployments_are_clean : (A : Type 0) → UnforgedDeploymentsAreClean A

@@ -1,6 +1,6 @@
 -- What was told of what the nodes of a deployment did: of the Map-Registers that they sent, of those that Map-Servers accepted, of the replies
 -- to them, of what routers counted, and of what a Map-Server accepted since its last start.
-use Rattle.std.proofs.Common.{◌≡◌, ◌⊎◌, inl, inr, ℕ, List, [], ◌∷◌, ◌++◌, Some, sym, ap, subst, ◌∙◌}
+use Rattle.std.proofs.Common.{◌≡◌, ◌⊎◌, inl, inr, ℕ, List, [], ◌∷◌, ◌++◌, sym, ap, subst, ◌∙◌}
 use Rattle.std.specs.List.{AllByRecursion, Contains}
 use Rattle.std.proofs.lemmas.List.{append_assoc}
 use Rattle.std.proofs.lemmas.List.Elements.{Contains-append_left, Contains-append_cases}
@@ -16,11 +16,9 @@ use Rattle.lisp_refinement.specs.Stands.{Stands}
 use Rattle.lisp_turns.specs.Act.{numbered}
 use Rattle.lisp_turns.specs.Part.{IsOwn, IsQuiet, ArePrinted, arrivals}
 use Rattle.lisp_deployment.specs.Received.{IsUnforged}
-use Rattle.lisp_deployment.proofs.Holding.{TakeGiven}
-use Rattle.lisp_deployment.proofs.Posting.{WasTold, told_still, SendsAreTold, datagrams_told}
-use Rattle.lisp_deployment.proofs.Accepting.{AreTold, AcceptedAreTold, accepted_told, restarted_told}
-use Rattle.lisp_deployment.proofs.Replying.{WasReplied, replied_still, RepliesAreTold, AreReplied, datagrams_replied}
-use Rattle.lisp_deployment.proofs.Counting.{CountsAreTold, more_counted, counts_told, restarted_counts}
+use Rattle.lisp_deployment.proofs.Giving.{TakeGiven}
+use Rattle.lisp_deployment.proofs.Posting.{WasTold, told_still, SendsAreTold, datagrams_told, WasReplied, replied_still, RepliesAreTold, AreReplied, datagrams_replied}
+use Rattle.lisp_deployment.proofs.Accepting.{AreTold, AcceptedAreTold, accepted_told, restarted_told, CountsAreTold, more_counted, counts_told, restarted_counts}
 use Rattle.lisp_deployment.proofs.AcceptedLines.{ToldSince, turn_told, life_told}
 
 -- a step of which the lines are there is quiet, or its line is one of them
@@ -41,21 +39,22 @@ printed_told (x ∷ steps) ls (inr (line, rest, is, same, printed)) s has = subs
         later (inl quiet) = inl quiet
         later (inr found) = inr (in_tail line rest (numbered 0 s.line) found)
 
--- so the lines of what was sent are
-sends_told : (steps : List Step) (ls more : List Line) → ArePrinted steps ls → SendsAreTold (ls ++ more) steps
-sends_told steps ls more is s has router server part key nonce datagram line = by (printed_told steps ls is s has)
+-- so a line that isn't quiet is among those, and more
+line_told : (steps : List Step) (ls more : List Line) → ArePrinted steps ls → (s : Step) → Contains steps s → (IsQuiet s.line → ⊥) → Contains (ls ++ more) (numbered 0 s.line)
+line_told steps ls more is s has loud = by (printed_told steps ls is s has)
   where
-    by : IsQuiet s.line ⊎ Contains ls (numbered 0 s.line) → Contains (ls ++ more) (lines.Sent router server part key nonce 0)
-    by (inl quiet) = absurd (subst IsQuiet line quiet)
-    by (inr found) = Contains-append_left ls more _ (subst (λ (l : Line). Contains ls (numbered 0 l)) line found)
+    by : IsQuiet s.line ⊎ Contains ls (numbered 0 s.line) → Contains (ls ++ more) (numbered 0 s.line)
+    by (inl quiet) = absurd (loud quiet)
+    by (inr found) = Contains-append_left ls more _ found
 
--- and those of replies
+-- those of what was sent, and of replies
+sends_told : (steps : List Step) (ls more : List Line) → ArePrinted steps ls → SendsAreTold (ls ++ more) steps
+sends_told steps ls more is s has router server part key nonce datagram line =
+    subst (λ (l : Line). Contains (ls ++ more) (numbered 0 l)) line (line_told steps ls more is s has (λ quiet. subst IsQuiet line quiet))
+
 replies_told : (steps : List Step) (ls more : List Line) → ArePrinted steps ls → RepliesAreTold (ls ++ more) steps
-replies_told steps ls more is s has server router key nonce datagram line = by (printed_told steps ls is s has)
-  where
-    by : IsQuiet s.line ⊎ Contains ls (numbered 0 s.line) → Contains (ls ++ more) (lines.Accepted server router key nonce (Some 0))
-    by (inl quiet) = absurd (subst IsQuiet line quiet)
-    by (inr found) = Contains-append_left ls more _ (subst (λ (l : Line). Contains ls (numbered 0 l)) line found)
+replies_told steps ls more is s has server router key nonce datagram line =
+    subst (λ (l : Line). Contains (ls ++ more) (numbered 0 l)) line (line_told steps ls more is s has (λ quiet. subst IsQuiet line quiet))
 
 -- after a trace all of it was told, with these lines; of what was sent that of which the datagrams are given
 pub record AreAllTold (o : Opening) (T : List Step) (printed : List Line) (sent : List DatagramValue) : Type 0 where
@@ -89,9 +88,9 @@ module _ (o : Opening) (given : List (List SiteValue)) (T : List Step) (printed 
   pub turn_tells : (w left : WorldState) (steps : List Step) (ls : List Line) (new : List DatagramValue) → Stands w o T → Stands left o (steps ++ T) → left.bag ≡ w.bag ++ new → AllByRecursion (λ s. IsOwn number s.event) steps → ArePrinted steps ls
       → AllByRecursion (IsUnforged o.config given sent number) (arrivals steps) → TakeGiven o given (steps ++ T) → Clean o (steps ++ T) → AreAllTold o (steps ++ T) (ls ++ printed) (sent ++ new)
   turn_tells w left steps ls new before after bag own is unforged take clean = record {
-    sent_are = more_sent steps ls new (datagrams_told w left o T steps (ls ++ printed) new before after clean (sends_told steps ls printed is) bag);
+    sent_are = more_sent steps ls new (datagrams_told w left o T steps (ls ++ printed) new before after (sends_told steps ls printed is) bag);
     accepted_are = λ server x has. told_still o [] (steps ++ T) ls printed x.message (accepted_told o given T printed sent told.sent_are number steps own after.steps.legal take unforged told.accepted_are server x has);
-    replies_are = more_replied steps ls new (datagrams_replied w left o T steps (ls ++ printed) new before after clean (replies_told steps ls printed is) bag);
+    replies_are = more_replied steps ls new (datagrams_replied w left o T steps (ls ++ printed) new before after (replies_told steps ls printed is) bag);
     counts_are = more_counted o (steps ++ T) ls printed (counts_told o given T printed sent told.replies_are number before.steps.legal before.steps.network (clean_before steps T clean) steps own after.steps.legal take unforged told.counts_are);
     since = λ server. turn_told server ls printed steps T (printed_told steps ls is) (told.since server);
   }
@@ -104,13 +103,13 @@ module _ (o : Opening) (given : List (List SiteValue)) (T : List Step) (printed 
     sent_are = more_sent (restart ∷ untold ++ first) ls new (λ g has m read.
         subst (λ (l : List Step). WasTold o (restart ∷ l) (ls ++ printed) m) (sym (append_assoc untold first T))
         (told_still o (restart ∷ untold) (first ++ T) [] (ls ++ printed) m
-        (datagrams_told w left o T first (ls ++ printed) new before after (clean_before untold (first ++ T) (subst (Clean o) (append_assoc untold first T) clean)) (sends_told first ls printed is) bag g has m read)));
+        (datagrams_told w left o T first (ls ++ printed) new before after (sends_told first ls printed is) bag g has m read)));
     accepted_are = λ server x has. told_still o [] (restart ∷ (untold ++ first) ++ T) ls printed x.message
         (restarted_told o ((untold ++ first) ++ T) restart number printed line (accepted_told o given T printed sent told.sent_are number (untold ++ first) own legal take unforged told.accepted_are) server x has);
     replies_are = more_replied (restart ∷ untold ++ first) ls new (λ g has n read may.
         subst (λ (l : List Step). WasReplied o (restart ∷ l) (ls ++ printed) g.from g.to n) (sym (append_assoc untold first T))
         (replied_still o (restart ∷ untold) (first ++ T) [] (ls ++ printed) g.from g.to n
-        (datagrams_replied w left o T first (ls ++ printed) new before after (clean_before untold (first ++ T) (subst (Clean o) (append_assoc untold first T) clean)) (replies_told first ls printed is) bag g has n read may)));
+        (datagrams_replied w left o T first (ls ++ printed) new before after (replies_told first ls printed is) bag g has n read may)));
     counts_are = more_counted o (restart ∷ (untold ++ first) ++ T) ls printed (restarted_counts o ((untold ++ first) ++ T) restart number printed line
         (counts_told o given T printed sent told.replies_are number before.steps.legal before.steps.network (clean_before (untold ++ first) T clean) (untold ++ first) own legal take unforged told.counts_are));
     since = λ server. life_told o T number restart (untold ++ first) line own legal server ls printed (told.since server);

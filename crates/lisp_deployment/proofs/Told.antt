@@ -1,8 +1,7 @@
 -- Over a clean trace: of the rows that a Map-Server holds, and of what a router counted, the lines are there.
-use Rattle.std.proofs.Common.{◌≡◌, ◌⊎◌, inl, inr, ℕ, List, [], ◌∷◌, ◌++◌, sym, ap, subst, ◌∙◌, arith}
+use Rattle.std.proofs.Common.{◌≡◌, ℕ, List, [], sym, ap, subst, ◌∙◌, arith}
 use Rattle.std.specs.Option.{option_map}
 use Rattle.std.specs.List.{Contains}
-use Rattle.std.proofs.lemmas.List.Elements.{Contains-append_left, Contains-append_right, Contains-append_cases}
 use Rattle.lisp_records.specs.declared.address.Addr.{Addr}
 use Rattle.lisp_messages.specs.Message.{MapRegisterValue}
 use Rattle.lisp_admission.specs.Pairs.{router_of}
@@ -15,64 +14,25 @@ use Rattle.lisp_model.specs.Legal.{LegalTrace}
 use Rattle.lisp_model.specs.Network.{IsNetwork}
 use Rattle.lisp_model.specs.Trace.{Step, Opening}
 use Rattle.lisp_model.proofs.Sound.{unique}
-use Rattle.lisp_model.proofs.ListLemmas.{at_head, in_tail, head_or_tail, in_none}
 use Rattle.lisp_refinement.specs.Headline.{Lists}
 use Rattle.lisp_refinement.specs.World.{ServerNodeState, WorldState}
 use Rattle.lisp_client.specs.Steps.{WasSent}
 use Rattle.lisp_client.proofs.Steps.{stays_accepted, taken_of}
 use Rattle.lisp_model.proofs.CleanLaws.{one_router}
+use Rattle.lisp_model.proofs.CleanLemmas.{from_map}
 use Rattle.lisp_client.proofs.Rows.{entry_of, was_entered, enters, router_sends, registered, agree}
 use Rattle.lisp_turns.specs.Act.{numbered}
-use Rattle.lisp_turns.specs.Acts.{acts_calls}
 use Rattle.lisp_turns.specs.Node.{NodeState, Server, HasNode}
-use Rattle.lisp_turns.specs.Part.{ArePrinted, lines_of}
 use Rattle.lisp_nonces.specs.Store.{StoreState}
-use Rattle.lisp_deployment.specs.Deeds.{Deed, Turn, Life, DoDeeds, IsOf, AreOf}
+use Rattle.lisp_deployment.specs.Deeds.{Deed, DoDeeds}
 use Rattle.lisp_deployment.specs.Deployment.{DeploymentState, DeploymentStands}
-use Rattle.lisp_deployment.specs.Printed.{lines_in, all_lines}
+use Rattle.lisp_deployment.specs.Printed.{all_lines}
 use Rattle.lisp_deployment.specs.Told.{Holds, RowWasSent, HeldRowsWereSent, HeldRowsAgree, CountedLinesWereAccepted}
 use Rattle.lisp_deployment.proofs.Posting.{WasTold}
-use Rattle.lisp_deployment.proofs.Counting.{AcceptanceIsTold}
+use Rattle.lisp_deployment.proofs.Accepting.{AcceptanceIsTold}
 use Rattle.lisp_deployment.proofs.Received.{CleanRun, runs_cleanly}
-
--- the step of a line
-record IsStepOf (steps : List Step) (line : Line) : Type 0 where
-  pub step : Step
-  pub there : Contains steps step
-  pub line_is : line ≡ numbered 0 step.line
-
-later_step : (x : Step) (steps : List Step) (line : Line) → IsStepOf steps line → IsStepOf (x ∷ steps) line
-later_step x steps line is = record { step = is.step; there = in_tail x steps is.step is.there; line_is = is.line_is }
-
-printed_step : (steps : List Step) (ls : List Line) → ArePrinted steps ls → (line : Line) → Contains ls line → IsStepOf steps line
-printed_step [] ls is line has = absurd (in_none line (subst (λ (l : List Line). Contains l line) is has))
-printed_step (x ∷ steps) ls (inl (quiet, printed)) line has = later_step x steps line (printed_step steps ls printed line has)
-printed_step (x ∷ steps) ls (inr (first, rest, is, same, printed)) line has = by (head_or_tail first rest line (subst (λ (l : List Line). Contains l line) is has)) (printed_step steps rest printed line)
-  where
-    by : (line ≡ first) ⊎ Contains rest line → (Contains rest line → IsStepOf steps line) → IsStepOf (x ∷ steps) line
-    by (inl here) go = record { step = x; there = at_head x steps; line_is = here ∙ same }
-    by (inr there) go = later_step x steps line (go there)
-
-deed_step : (deed : Deed) (old new : WorldState) (o : Opening) (T steps : List Step) → IsOf deed old new o T steps → (line : Line) → Contains (lines_in deed) line → IsStepOf steps line
-deed_step (Turn number calls) old new o T steps part line has = printed_step steps (lines_of calls) part.printed line has
-deed_step (Life number told) old new o T steps life line has =
-    let is = printed_step life.first (lines_of (acts_calls told)) life.printed line has in
-    record {
-      step = is.step;
-      there = subst (λ (l : List Step). Contains l is.step) (sym life.is) (Contains-append_right (life.restart ∷ life.untold) life.first is.step is.there);
-      line_is = is.line_is;
-    }
-
-step_of : (deeds : List Deed) (old new : WorldState) (o : Opening) (T steps : List Step) → AreOf deeds old new o T steps → (line : Line) → Contains (all_lines deeds) line → IsStepOf steps line
-step_of [] old new o T steps are line has = absurd (in_none line has)
-step_of (deed ∷ earlier) old new o T steps (between, first, second, are, is_of, is) line has =
-    by (Contains-append_cases (lines_in deed) (all_lines earlier) line has) (deed_step deed between new o (first ++ T) second is_of line) (step_of earlier old between o T first are line)
-  where
-    by : Contains (lines_in deed) line ⊎ Contains (all_lines earlier) line → (Contains (lines_in deed) line → IsStepOf second line) → (Contains (all_lines earlier) line → IsStepOf first line) → IsStepOf steps line
-    by (inl later) here there = let at = here later in
-        record { step = at.step; there = subst (λ (l : List Step). Contains l at.step) (sym is) (Contains-append_left second first at.step at.there); line_is = at.line_is }
-    by (inr before) here there = let at = there before in
-        record { step = at.step; there = subst (λ (l : List Step). Contains l at.step) (sym is) (Contains-append_right second first at.step at.there); line_is = at.line_is }
+use Rattle.lisp_deployment.proofs.Among.{contains_among}
+use Rattle.lisp_deployment.proofs.Printed.{told_lines, deeds_among}
 
 -- a line of a count has no datagram's number
 count_is : (line : Line) (node server part key nonce : ℕ) → lines.Counted node server part key nonce ≡ numbered 0 line → line ≡ lines.Counted node server part key nonce
@@ -86,9 +46,11 @@ count_is _ node server part key nonce e = sym e
 pub counted_lines_were_accepted : (A : Type 0) → CountedLinesWereAccepted A
 counted_lines_were_accepted A config stores begun d deeds network begins did unforged node server part key nonce has =
     let run = runs_cleanly A config stores begun d deeds network begins did unforged in
-    let at = step_of deeds run.first run.clean.has.network run.opening [] run.clean.has.trace run.clean.has.are_of (lines.Counted node server part key nonce) has in
+    let trace = run.clean.has.trace in
+    let at = from_map (λ (s : Step). numbered 0 s.line) trace (lines.Counted node server part key nonce)
+    (contains_among (all_lines deeds) (told_lines trace) _ (deeds_among deeds run.first run.clean.has.network run.opening [] trace run.clean.has.are_of) has) in
     subst (λ (c : ConfigValue). AcceptanceIsTold c (all_lines deeds) node server key nonce) run.clean.has.stands.config_is
-    (run.all_told.counts_are at.step at.there node server part key nonce (count_is at.step.line node server part key nonce at.line_is))
+    (run.all_told.counts_are at.0 at.1 node server part key nonce (count_is at.0.line node server part key nonce at.2))
 
 -- what a Map-Server of the deployment holds that of the network lists
 listed : (config : ConfigValue) (d : DeploymentState) (w : WorldState) (o : Opening) (T : List Step) → DeploymentStands config d w o T → (server : ℕ) (held : List RowValue) → Holds config d server held → Lists w server held

@@ -1,7 +1,6 @@
 -- The lives of a node in a deployment: it starts, takes turns, and stops, perhaps in the middle of one.
 use Rattle.std.specs.Prelude.{◌≡◌, ◌≢◌, ◌⊎◌, ℕ, ◌<◌, ◌≤◌, IsTrue, true, false, List, [], ◌∷◌, ◌++◌, map, None}
 use Rattle.std.specs.List.{AllByRecursion, Contains}
-use Rattle.lisp_records.specs.declared.address.Addr.{Addr}
 use Rattle.lisp_records.specs.Moment.{max_moment}
 use Rattle.lisp_policy.specs.Configuration.{ConfigValue}
 use Rattle.lisp_policy.specs.Site.{SiteValue}
@@ -17,7 +16,7 @@ use Rattle.lisp_turns.specs.Acts.{TurnAct, DoesAll, acts_calls}
 use Rattle.lisp_turns.specs.Beginning.{Begins, TakesSites}
 use Rattle.lisp_turns.specs.Due.{IsDuty, IsRefused}
 use Rattle.lisp_turns.specs.Node.{NodeState, Server, Router, Passes}
-use Rattle.lisp_turns.specs.Part.{IsOwn, ArePrinted, arrival, arrivals, lines_of}
+use Rattle.lisp_turns.specs.Part.{IsOwn, ArePrinted, arrivals, arrived_in, lines_of}
 use Rattle.lisp_turns.specs.Outside.{OutsideState}
 use Rattle.lisp_turns.specs.Stretch.{beginning}
 use Rattle.lisp_turns.specs.Turn.{TurnState, acts_of, IsLostTurn}
@@ -78,11 +77,6 @@ pub record IsAsConfigured (config : ConfigValue) (number : ℕ) (n : RouterNodeS
 abbrev pub EndsAsConfigured : ConfigValue → ℕ → NodeState → Type 0
 EndsAsConfigured config number (Server n) = Unit {0}
 EndsAsConfigured config number (Router n) = IsAsConfigured config number n
-
--- what arrived in acts, and from which address
-abbrev pub arrived_in : List TurnAct → List (Addr × List ℕ)
-arrived_in [] = []
-arrived_in (a ∷ earlier) = arrival a.event ++ arrived_in earlier
 
 -- the sites that a Map-Server took in acts, each time all of them
 abbrev pub sites_taken_in : EventValue → List (List SiteValue)

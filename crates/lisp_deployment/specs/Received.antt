@@ -13,11 +13,11 @@ use Rattle.lisp_model.specs.Trace.{Opening, address_at, router_at, secret_at, is
 use Rattle.lisp_refinement.specs.Headline.{OverClean}
 use Rattle.lisp_refinement.specs.World.{DatagramValue, WorldState}
 use Rattle.lisp_turns.specs.Outside.{Call, Listens}
-use Rattle.lisp_turns.specs.Part.{datagram_from, received_of}
+use Rattle.lisp_turns.specs.Part.{datagram_from, received_of, arrived_in}
 use Rattle.lisp_turns.specs.declared.order.Order.TheVariants as orders
 use Rattle.lisp_deployment.specs.Deeds.{Deed, Turn, Life, DoesDeed, DoDeeds, HasTrace}
 use Rattle.lisp_deployment.specs.Deployment.{DeploymentState}
-use Rattle.lisp_deployment.specs.Lives.{arrived_in, sites_taken}
+use Rattle.lisp_deployment.specs.Lives.{sites_taken}
 use Rattle.lisp_deployment.specs.Opening.{DeploymentBegins, DeploymentOpens}
 
 -- the node whose deed it is

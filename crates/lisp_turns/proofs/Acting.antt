@@ -1,6 +1,6 @@
 -- A node of a network acts, and the network goes on by its step.
-use Rattle.std.proofs.Common.{◌≡◌, ◌⊎◌, inl, inr, ℕ, zero, suc, ◌+◌, ◌-◌, ◌<◌, Bool, true, false, true≢false, List, [], ◌∷◌, ◌++◌, length, map, reverse, Option, Some, None, Result, Ok, Err, refl, sym, ap, subst, ◌∙◌, append-nil, arith}
-use Rattle.std.specs.Prelude.{if◌then◌else◌, slice_get, slice_set}
+use Rattle.std.proofs.Common.{◌≡◌, ◌⊎◌, inl, inr, ℕ, ◌+◌, Bool, true, false, true≢false, List, [], ◌∷◌, ◌++◌, length, map, reverse, Option, Some, None, Result, Ok, Err, refl, sym, ap, subst, ◌∙◌, append-nil, arith}
+use Rattle.std.specs.Prelude.{if◌then◌else◌}
 use Rattle.std.specs.List.{AllByRecursion}
 use Rattle.std.specs.Option.{option_to_list}
 use Rattle.std.proofs.lemmas.Option.{slice_get_within}
@@ -22,32 +22,21 @@ use Rattle.lisp_refinement.proofs.Taking.{taking_agrees}
 use Rattle.lisp_turns.specs.Act.{ActValue, numbered}
 use Rattle.lisp_turns.specs.Acts.{datagrams, with_act, DoesOne, TurnAct, DoesAll, printed_of, act_calls, acts_calls}
 use Rattle.lisp_turns.specs.Due.{IsDuty, IsRefused}
-use Rattle.lisp_turns.specs.Node.{NodeState, Server, Router, HasNode, IsPlaced}
+use Rattle.lisp_turns.specs.Node.{NodeState, Server, Router, HasNode, with_node, IsPlaced}
 use Rattle.lisp_turns.specs.Outside.{Call}
-use Rattle.lisp_turns.specs.Part.{IsOwn, IsQuiet, arrival, lines_of, sent_of, datagram_from}
+use Rattle.lisp_turns.specs.Part.{IsOwn, IsQuiet, ArePrinted, arrival, lines_of, sent_of, datagram_from}
+use Rattle.lisp_turns.proofs.Beside.{IsThere, has_one, has_others}
 use Rattle.lisp_turns.proofs.Calls.{lines_append, sent_append, told_calls, told_lines, told_sent, numbered_last}
 use Rattle.lisp_turns.proofs.Reaching.{Reaches, stays_there, goes_further}
 
--- what was set at a place stands there
-pub get_set_there : {X : Type 0} (xs : List X) (i : ℕ) (x : X) → i < length xs → slice_get (slice_set xs i x) i ≡ Some x
-get_set_there [] i x low = absurd (omega (arith, low))
-get_set_there (a ∷ xs) zero x low = refl
-get_set_there (a ∷ xs) (suc i) x low = get_set_there xs i x (omega (arith, low))
-
--- a node that is in the place of another has its number
-pub has_placed : (w : WorldState) (o : Opening) (T : List Step) (config : ConfigValue) (number : ℕ) (node : NodeState) (act : ActValue) → Stands w o T → o.config ≡ config → IsPlaced config number node
-    → HasNode (with_act w number node act) number node
-has_placed w o T config number (Server n) act stand same placed =
-    get_set_there w.servers number n (omega (arith, placed, stand.steps.servers, ap (λ (c : ConfigValue). length c.servers) same))
-has_placed w o T config number (Router n) act stand same (place, entry, number_is, there, listed, rounds) =
+-- a network has a node in the place of another
+placed_there : (w : WorldState) (o : Opening) (T : List Step) (config : ConfigValue) (number : ℕ) (node : NodeState) → Stands w o T → o.config ≡ config → IsPlaced config number node → IsThere w number node
+placed_there w o T config number (Server n) stand same placed = omega (arith, placed, stand.steps.servers, ap (λ (c : ConfigValue). length c.servers) same)
+placed_there w o T config number (Router n) stand same (place, entry, number_is, there, listed, rounds) =
     let servers = stand.steps.servers ∙ ap (λ (c : ConfigValue). length c.servers) same in
     let routers = stand.steps.routers ∙ ap (λ (c : ConfigValue). length c.routers) same in
     let within = slice_get_within config.routers place entry there in
-    let at : number - length w.servers ≡ place = omega (arith, number_is, servers) in (
-      place,
-      number_is ∙ ap (λ m. m + place) (sym servers),
-      ap (λ m. slice_get (slice_set w.routers m n) place) at ∙ get_set_there w.routers place n (omega (arith, within, routers)),
-    )
+    (place, number_is ∙ ap (λ m. m + place) (sym servers), omega (arith, within, routers))
 
 -- the clock stays
 same_clock : (w : WorldState) (number : ℕ) (node : NodeState) (act : ActValue) → (with_act w number node act).clock ≡ w.clock
@@ -121,6 +110,12 @@ module _ (A : Type 0) (Allows : EventValue → Type 0) (config : ConfigValue) (n
   abbrev line : Line
   line = numbered (length w.bag) a.act.line
 
+  abbrev more : List DatagramValue
+  more = w.bag ++ datagrams (address_of w number) a.act.message
+
+  there : IsThere w number new
+  there = placed_there w o T config number new stand same does.placed
+
   takes : NetworkTakes A w left a.event line
   takes = does.does w o T stand same has clock
 
@@ -133,37 +128,33 @@ module _ (A : Type 0) (Allows : EventValue → Type 0) (config : ConfigValue) (n
   abbrev ByTold : List Call → Type 0
   ByTold calls = Reaches Allows number (lines_of calls) (sent_of calls) (arrival a.event) new now w o T
 
-  -- it is told
-  told_reaches : ByTold its_calls
-  told_reaches = record {
+  -- by its step, of which these lines were printed, and this was sent
+  by_step : (said : List Line) (sent : List (Addr × List ℕ)) → ArePrinted (step ∷ []) said → left.bag ≡ w.bag ++ map (datagram_from (address_of w number)) (reverse sent) → Reaches Allows number said sent (arrival a.event) new now w o T
+  by_step said sent printed bag = record {
     steps = step ∷ [];
     left = left;
     stands = (taking_agrees A w left a.event line takes o T stand).2;
     own = (own, tt);
     allowed = (allowed, tt);
-    are_printed = inr (a.act.line, [], told_lines a.act.message a.taken a.event a.act.line, does.plain ∙ sym (numbered_last 0 (length w.bag) a.act.line), refl);
-    bag = ap (λ (l : List DatagramValue). w.bag ++ l) (sent_is (address_of w number) a.act.message ∙ ap (λ (l : List (Addr × List ℕ)). map (datagram_from (address_of w number)) (reverse l)) (sym (told_sent a.act.message a.taken (printed_of a.event a.act.line))));
+    are_printed = printed;
+    bag = bag;
     heard = append-nil (arrival a.event);
-    node_is = has_placed w o T config number new a.act stand same does.placed;
+    node_is = has_one w number (with_node w number new).clock more new there;
     clock = same_clock w number new a.act ∙ clock;
+    others = has_others w number (with_node w number new).clock more new there;
   }
+
+  -- it is told
+  told_reaches : ByTold its_calls
+  told_reaches = by_step (lines_of its_calls) (sent_of its_calls)
+      (inr (a.act.line, [], told_lines a.act.message a.taken a.event a.act.line, does.plain ∙ sym (numbered_last 0 (length w.bag) a.act.line), refl))
+      (ap (λ (l : List DatagramValue). w.bag ++ l) (sent_is (address_of w number) a.act.message ∙ ap (λ (l : List (Addr × List ℕ)). map (datagram_from (address_of w number)) (reverse l)) (sym (told_sent a.act.message a.taken (printed_of a.event a.act.line)))))
 
   -- it isn't
   quiet_reaches : IsDuty number a.event → IsRefused a.act.line → ByTold []
   quiet_reaches duty refused =
       let quiet = put_off A w left number a.event line duty (still_refused (length w.bag) a.act.line refused) takes in
-      record {
-        steps = step ∷ [];
-        left = left;
-        stands = (taking_agrees A w left a.event line takes o T stand).2;
-        own = (own, tt);
-        allowed = (allowed, tt);
-        are_printed = inl (quiet.0, refl);
-        bag = quiet.1 ∙ sym (append-nil w.bag);
-        heard = append-nil (arrival a.event);
-        node_is = has_placed w o T config number new a.act stand same does.placed;
-        clock = same_clock w number new a.act ∙ clock;
-      }
+      by_step [] [] (inl (quiet.0, refl)) (quiet.1 ∙ sym (append-nil w.bag))
 
   pub act_reaches : IsTold number a → ByTold (act_calls a)
   act_reaches told = by a.told told

@@ -92,9 +92,6 @@ module _ {now : ℕ} {from : Addr} {ds : List DatagramValue} {old between new : 
     asked = subst (λ (l : List Call). Asks a b l) (sym (calls_push from now ds d so_far.passages one.passage old between so_far.passes)) (asks_then a s b (passages_calls from ds so_far.passages) (passage_calls from d one.passage) so_far.asked one.asked);
   }
 
-pub passes_none : (now : ℕ) (from : Addr) (budget : BudgetState) (s : OutsideState) → PassesAll now from [] budget budget s s
-passes_none now from budget s = record { passages = []; passes = (refl, refl); asked = asks_none s }
-
 -- ---- lines of EID-Prefixes
 
 -- so many of them were told, and these are left
@@ -133,9 +130,6 @@ answers_one {config} {number} {node} {quiet} {now} came {made} {old} {new} {a} {
   does = record { makes = makes; passes = tells.passes };
   asked = asks_then a s b (Requests (Some came) ∷ []) (made_calls came.from made tells.passages) (asks_one a s (Requests (Some came)) logs) tells.asked;
 }
-
-pub answered_none : (config : ConfigValue) (number : ℕ) (node : NodeState) (quiet now : ℕ) (budget : BudgetState) (s : OutsideState) → HasAnswered config number 0 node quiet now budget budget s s
-answered_none config number node quiet now budget s = record { deeds = []; counted = refl; does = refl; asked = asks_none s }
 
 module _ {config : ConfigValue} {number : ℕ} {node : NodeState} {quiet now : ℕ} {old between new : BudgetState} {a s b : OutsideState} where
   pub answered_more : {count : ℕ} → HasAnswered config number count node quiet now old between a s → AnswersOne config number node quiet now between new s b → HasAnswered config number (count + 1) node quiet now old new a b

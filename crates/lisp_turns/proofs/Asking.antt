@@ -22,7 +22,3 @@ pub asks_then : (a b c : OutsideState) (xs ys : List Call) → Asks a b xs → A
 asks_then a b c xs ys first second =
     let log = ap (λ (s : OutsideState). logged ys s.log) first ∙ logged_twice xs ys a.log in
     second ∙ (λ i. record { log = log i; moment = (first i).moment; is_cut = c.is_cut; is_asked = (first i).is_asked })
-
--- nothing behind them
-pub asks_same : (a b : OutsideState) (xs : List Call) → Asks a b xs → Asks a b (xs ++ [])
-asks_same a b xs asked = rw (append-nil xs) asked

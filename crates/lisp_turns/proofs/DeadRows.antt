@@ -28,11 +28,6 @@ abbrev pub row_count : NodeState → ℕ
 row_count (Server n) = length n.core.rows
 row_count (Router n) = 0
 
-pub fewer_rows : (old new : NodeState) (now : ℕ) (key : Key) → DropsRow old new now key → row_count new < row_count old
-fewer_rows (Server old) (Server new) now key drops = drops.0.fewer
-fewer_rows (Server old) (Router new) now key drops = absurd drops
-fewer_rows (Router old) new now key drops = absurd drops
-
 -- a row that is found is one of the rows, and that of its router and prefix
 found : (rows : List RowValue) (key : Key) (row : RowValue) → row_at rows key.0 key.1 ≡ Some row → Contains rows row × (row_key row ≡ key)
 unfolding row_at

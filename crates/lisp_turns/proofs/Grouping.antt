@@ -15,13 +15,13 @@ use Rattle.lisp_turns.specs.Group.{HearsEach, IsHeard, HearsNext, HearsOthers, H
 use Rattle.lisp_turns.specs.Node.{NodeState, core_of}
 use Rattle.lisp_turns.specs.Obeying.{Outcome, Obeys, obeyed, answer_of}
 use Rattle.lisp_turns.specs.Order.{event_of}
-use Rattle.lisp_turns.specs.Outside.{Reception, Datagram, Nothing, Failed, Call, Polls, Commits, Prints, Listens, Answers, OutsideState, IsApart, Logs}
+use Rattle.lisp_turns.specs.Outside.{Reception, Datagram, Nothing, Failed, Call, Polls, Commits, Prints, Listens, Answers, OutsideState, IsApart, Logs, logged}
 use Rattle.lisp_turns.specs.Requests.{ResolvingValue}
 use Rattle.lisp_turns.specs.Stretch.{Asks, Tells, TakesIn}
 use Rattle.lisp_turns.specs.Turn.{Hears, IsDatagram, IsGroup, Intake, acts_of, IsTakenIn, receives_after, failure_calls, commit_calls}
 use Rattle.lisp_turns.specs.declared.group.Heard.{Heard}
 use Rattle.lisp_turns.specs.declared.order.Order.{Order}
-use Rattle.lisp_turns.specs.declared.order.Order.TheVariants.{Notice, Change, Rotate, Reload}
+use Rattle.lisp_turns.specs.declared.order.Order.TheVariants.{Notice}
 use Rattle.lisp_turns.specs.declared.outside.Printed.{Printed}
 use Rattle.lisp_turns.specs.declared.outside.Printed.TheVariants as printed
 use Rattle.lisp_turns.specs.declared.pause.Pause.{Pause}
@@ -48,15 +48,13 @@ module _ (A : Type 0) (config : ConfigValue) (number now : ℕ) where
     pub hears_more : (reception : Reception) (newest : Heard) → HearsEach A config number now received (reverse heard) old between → IsHeard A config number now reception (Some newest) between new
         → HearsEach A config number now (reception ∷ received) (reverse (heard ++ newest ∷ [])) old new
     hears_more (Datagram from bytes) newest so_far (from_is, does) = (newest, reverse heard, between, reverse-append heard (newest ∷ []), from_is, so_far, does)
-    hears_more Nothing newest so_far is = absurd is
-    hears_more Failed newest so_far is = absurd is
+    hears_more _ newest so_far is = absurd is
 
     -- or by nothing
     pub hears_no_more : (reception : Reception) → HearsEach A config number now received heard old between → IsHeard A config number now reception None between new
         → HearsEach A config number now (reception ∷ received) heard old new
     hears_no_more (Datagram from bytes) so_far is = absurd is
-    hears_no_more Nothing so_far is = subst (λ (n : NodeState). HearsEach A config number now received heard old n) (sym is) so_far
-    hears_no_more Failed so_far is = subst (λ (n : NodeState). HearsEach A config number now received heard old n) (sym is) so_far
+    hears_no_more _ so_far is = subst (λ (n : NodeState). HearsEach A config number now received heard old n) (sym is) so_far
 
   -- the first was heard before all others
   pub hears_first : (others : List Reception) (heard : List Heard) (old between new : NodeState) (from : Addr) (bytes : List ℕ) (first : Heard) → first.from ≡ from
@@ -66,8 +64,7 @@ module _ (A : Type 0) (config : ConfigValue) (number now : ℕ) where
       (first, [], old, ap (λ (l : List Heard). l ++ first ∷ []) none, from_is, (refl, refl), subst (λ (n : NodeState). DoesOne A config number old n now (events.Junk number from bytes) first.act) (sym same) does)
   hears_first (Datagram where_from more ∷ earlier) heard old between new from bytes first from_is does (newest, rest, middle, is, its_from, so_far, its) =
       (newest, rest ++ first ∷ [], middle, ap (λ (l : List Heard). l ++ first ∷ []) is, its_from, hears_first earlier rest old between middle from bytes first from_is does so_far, its)
-  hears_first (Nothing ∷ earlier) heard old between new from bytes first from_is does hears = hears_first earlier heard old between new from bytes first from_is does hears
-  hears_first (Failed ∷ earlier) heard old between new from bytes first from_is does hears = hears_first earlier heard old between new from bytes first from_is does hears
+  hears_first (_ ∷ earlier) heard old between new from bytes first from_is does hears = hears_first earlier heard old between new from bytes first from_is does hears
 
   -- the acts of a turn's datagrams, which were told
   pub record Acted (received : List Reception) (heard : List Heard) (old new : NodeState) (before after : OutsideState) : Type 0 where
@@ -96,28 +93,14 @@ module _ (A : Type 0) (config : ConfigValue) (number now : ℕ) where
         asked = asks_then before told.0 after (acts_calls so_far.acts) _ so_far.asked
             (subst (λ (a : Addr). Asks told.0 after (send_calls newest.act.message told.2.taken ++ Prints (printed.Heard newest.act.line a) ∷ [])) from_is told.2.asked);
       }
-  acted (Nothing ∷ earlier) heard old new before after hears tells = (let a = acted earlier heard old new before after hears tells in record { acts = a.acts; any_acts = a.any_acts; hears = a.hears; did = a.did; asked = a.asked })
-  acted (Failed ∷ earlier) heard old new before after hears tells = (let a = acted earlier heard old new before after hears tells in record { acts = a.acts; any_acts = a.any_acts; hears = a.hears; did = a.did; asked = a.asked })
+  acted (_ ∷ earlier) heard old new before after hears tells = (let a = acted earlier heard old new before after hears tells in record { acts = a.acts; any_acts = a.any_acts; hears = a.hears; did = a.did; asked = a.asked })
 
-  -- and those which weren't
-  pub record Untold (received : List Reception) (heard : List Heard) (old new : NodeState) : Type 0 where
-    pub acts : List TurnAct
-    pub any_acts : any acts ≡ any heard
-    pub hears : Hears number received acts
-    pub did : DoesAll A config number old new now acts
-
-  pub untold : (received : List Reception) (heard : List Heard) (old new : NodeState) → HearsEach A config number now received heard old new → Untold received heard old new
-  untold [] heard old new (none, same) = record { acts = []; any_acts = sym (ap any none); hears = refl; did = same }
-  untold (Datagram from bytes ∷ earlier) heard old new (newest, rest, between, is, from_is, hears, does) =
-      let so_far = untold earlier rest old between hears in
-      record {
-        acts = record { event = events.Junk number from bytes; act = newest.act; told = true; taken = false } ∷ so_far.acts;
-        any_acts = sym (ap any is);
-        hears = (_, so_far.acts, refl, refl, refl, so_far.hears);
-        did = (between, so_far.did, does);
-      }
-  untold (Nothing ∷ earlier) heard old new hears = (let a = untold earlier heard old new hears in record { acts = a.acts; any_acts = a.any_acts; hears = a.hears; did = a.did })
-  untold (Failed ∷ earlier) heard old new hears = (let a = untold earlier heard old new hears in record { acts = a.acts; any_acts = a.any_acts; hears = a.hears; did = a.did })
+-- lines and messages could be told
+told_some : (heard : List Heard) (before : OutsideState) → (after : OutsideState) × TellsEach heard before after
+told_some [] before = (before, refl)
+told_some (h ∷ earlier) before =
+    let s = told_some earlier before in
+    (record s.0 { log = logged (send_calls h.act.message false ++ Prints (printed.Heard h.act.line h.from) ∷ []) s.0.log }, (s.0, s.1, record { taken = false; asked = refl }))
 
 -- a node heard some of the datagrams that waited, so many, and goes on
 pub record HeardSome (A : Type 0) (config : ConfigValue) (number places : ℕ) (old new : NodeState) (now count : ℕ) (heard : List Heard) (before after : OutsideState) : Type 0 where
@@ -141,13 +124,11 @@ all_drop_one (r ∷ earlier) all = all.1
 module _ (A : Type 0) (config : ConfigValue) (number now : ℕ) (old new : NodeState) where
   is_datagram : (heard : Heard) (reception : Reception) → IsHeard A config number now reception (Some heard) old new → IsDatagram reception
   is_datagram heard (Datagram from bytes) is = tt
-  is_datagram heard Nothing is = absurd is
-  is_datagram heard Failed is = absurd is
+  is_datagram heard _ is = absurd is
 
   no_datagram : (reception : Reception) → IsHeard A config number now reception None old new → IsDatagram reception → ⊥
   no_datagram (Datagram from bytes) is there = is
-  no_datagram Nothing is there = there
-  no_datagram Failed is there = there
+  no_datagram _ is there = there
 
 module _ {A : Type 0} {config : ConfigValue} {number places : ℕ} {old : NodeState} {now : ℕ} {before : OutsideState} where
   pub heard_none : HeardSome A config number places old old now 1 [] before before
@@ -247,9 +228,7 @@ some_acts acts done is none = absurd (let clash : ◌≡◌ {A = List Call} [] (
 -- an order's line is that of an event
 event_line : (number : ℕ) (order : Order) (line : Line) → printed_of (event_of number order) line ≡ printed.Event line
 event_line number (Notice router) line = refl
-event_line number (Change db) line = refl
-event_line number (Rotate key) line = refl
-event_line number (Reload sites) line = refl
+event_line number _ line = refl
 
 module _ (A : Type 0) (config : ConfigValue) (number now : ℕ) (between new : NodeState) where
   taken_commits : (order : Option Order) (outcome : Outcome) → Obeys A config number between new now order outcome → (taken : Bool) (heard : List Heard) (acts : List TurnAct) (done : Bool) → any acts ≡ any heard
@@ -303,7 +282,8 @@ module _ (A : Type 0) (config : ConfigValue) (number places : ℕ) (old new : No
 
   pub loses : (sends sends_left : Pause) (after : OutsideState) → has_acts heard outcome ≡ true → Logs s after (Commits false) → Takes receives sends sends_left after false
   loses sends sends_left after has logs =
-      let all = untold A config number now received heard old takes.between takes.hears.hears in
+      let told = told_some heard s in
+      let all = acted A config number now received heard old takes.between s told.0 takes.hears.hears told.1 in
       let committed = commits all.acts false false all.any_acts ∙ ap (λ (b : Bool). to_commit b false) has in
       record {
         intake = intake_of all.acts false;

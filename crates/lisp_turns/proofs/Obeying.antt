@@ -10,10 +10,10 @@ use Rattle.lisp_model.specs.declared.world_fault.WorldFault.{WorldFault}
 use Rattle.lisp_model.specs.declared.world_fault.WorldFault.TheVariants.{NoNode, WrongKind}
 use Rattle.lisp_refinement.specs.World.{WorldState}
 use Rattle.lisp_refinement.specs.Stands.{Stands}
+use Rattle.lisp_refinement.proofs.Gets.{get_within}
 use Rattle.lisp_world.specs.Faults.{server_fault, router_fault, pair_fault}
 use Rattle.lisp_turns.specs.Order.{name_fault}
 use Rattle.lisp_turns.proofs.ServingServer.{HasRouter}
-use Rattle.lisp_turns.proofs.ServingPlaces.{some_at}
 
 -- the fault of a name alone, and beside a node that is a Map-Server or a router
 abbrev alone : Bool → Bool → Option WorldFault
@@ -113,7 +113,7 @@ module _ (w : WorldState) (o : Opening) (T : List Step) (stand : Stands w o T) w
 
     pub there : HasRouter w router (router_at o.config router).me
     there =
-        let node = some_at w.routers (router - length w.servers) low in
+        let node = get_within w.routers (router - length w.servers) low in
         record {
           place = router - length w.servers;
           is = sym high;

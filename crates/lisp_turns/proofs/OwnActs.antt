@@ -11,11 +11,11 @@ use Rattle.lisp_turns.specs.Due.{IsDuty}
 use Rattle.lisp_turns.specs.Node.{NodeState}
 use Rattle.lisp_turns.specs.Obeying.{Outcome, Obeys, obeyed}
 use Rattle.lisp_turns.specs.Order.{event_of}
-use Rattle.lisp_turns.specs.Outside.{Call, Reception, Datagram, Nothing, Failed, Receives, Polls, Listens}
+use Rattle.lisp_turns.specs.Outside.{Call, Reception, Datagram, Receives, Polls, Listens}
 use Rattle.lisp_turns.specs.Part.{IsOwn, WasOrdered, arrival, received_of}
 use Rattle.lisp_turns.specs.Turn.{Hears, IsDone, IsPut, AreDone, ServesIf}
 use Rattle.lisp_turns.specs.declared.order.Order.{Order}
-use Rattle.lisp_turns.specs.declared.order.Order.TheVariants.{Notice, Change, Rotate, Reload}
+use Rattle.lisp_turns.specs.declared.order.Order.TheVariants.{Notice}
 use Rattle.lisp_turns.specs.declared.pause.Pause.{Pause}
 use Rattle.lisp_turns.proofs.Acting.{IsTold, AreOwn, arrived, own_duty, nothing_arrives}
 
@@ -24,8 +24,7 @@ pub heard_own : (number : ℕ) (receptions : List Reception) (acts : List TurnAc
 heard_own number [] acts is = subst (λ (l : List TurnAct). AreOwn number l) (sym is) tt
 heard_own number (Datagram from bytes ∷ earlier) acts (a, rest, is, event, told, more) =
     subst (λ (l : List TurnAct). AreOwn number l) (sym is) ((subst (λ (e : EventValue). IsOwn number e) (sym event) refl, inl told), heard_own number earlier rest more)
-heard_own number (Nothing ∷ earlier) acts hears = heard_own number earlier acts hears
-heard_own number (Failed ∷ earlier) acts hears = heard_own number earlier acts hears
+heard_own number (_ ∷ earlier) acts hears = heard_own number earlier acts hears
 
 -- what a user tells a node was told, among what was asked
 module _ (asked : List Call) where
@@ -37,20 +36,15 @@ module _ (asked : List Call) where
   heard_ordered number [] acts is = subst AreOrdered (sym is) tt
   heard_ordered number (Datagram from bytes ∷ earlier) acts (a, rest, is, event, told, more) =
       subst AreOrdered (sym is) (subst (λ (e : EventValue). WasOrdered asked e) (sym event) tt, heard_ordered number earlier rest more)
-  heard_ordered number (Nothing ∷ earlier) acts hears = heard_ordered number earlier acts hears
-  heard_ordered number (Failed ∷ earlier) acts hears = heard_ordered number earlier acts hears
+  heard_ordered number (_ ∷ earlier) acts hears = heard_ordered number earlier acts hears
 
   order_heard : (number : ℕ) (order : Order) → Contains asked (Listens (Some order)) → WasOrdered asked (event_of number order)
   order_heard number (Notice router) has = has
-  order_heard number (Change db) has = has
-  order_heard number (Rotate key) has = has
-  order_heard number (Reload sites) has = has
+  order_heard number _ has = has
 
   pub taken_ordered : (number : ℕ) (order : Option Order) (outcome : Outcome) (taken : Bool) (heard : List TurnAct) → Contains asked (Listens order) → AreOrdered heard → AreOrdered (obeyed number order outcome taken ++ heard)
   taken_ordered number (Some order) (Some (Ok act)) taken heard has before = (order_heard number order has, before)
-  taken_ordered number (Some order) (Some (Err fault)) taken heard has before = before
-  taken_ordered number (Some order) None taken heard has before = before
-  taken_ordered number None outcome taken heard has before = before
+  taken_ordered number _ _ taken heard has before = before
 
   -- nor is what is due
   duty_ordered : (number : ℕ) (event : EventValue) → IsDuty number event → WasOrdered asked event
@@ -72,42 +66,31 @@ came (_ ∷ earlier) = came earlier
 pub heard_arrived : (number : ℕ) (receptions : List Reception) (acts : List TurnAct) → Hears number receptions acts → arrived acts ≡ came receptions
 heard_arrived number [] acts is = ap arrived is
 heard_arrived number (Datagram from bytes ∷ earlier) acts (a, rest, is, event, told, more) = ap arrived is ∙ (λ i. arrival (event i) ++ heard_arrived number earlier rest more i)
-heard_arrived number (Nothing ∷ earlier) acts hears = heard_arrived number earlier acts hears
-heard_arrived number (Failed ∷ earlier) acts hears = heard_arrived number earlier acts hears
+heard_arrived number (_ ∷ earlier) acts hears = heard_arrived number earlier acts hears
 
 -- they are those that were received first, and polled
 pub polls_came : (others : List Reception) (first : Reception) → received_of (map Polls others ++ Receives first ∷ []) ≡ came (others ++ first ∷ [])
 polls_came [] (Datagram from bytes) = refl
-polls_came [] Nothing = refl
-polls_came [] Failed = refl
+polls_came [] _ = refl
 polls_came (Datagram from bytes ∷ earlier) first = ap (λ (l : List (Addr × List ℕ)). (from, bytes) ∷ l) (polls_came earlier first)
-polls_came (Nothing ∷ earlier) first = polls_came earlier first
-polls_came (Failed ∷ earlier) first = polls_came earlier first
+polls_came (_ ∷ earlier) first = polls_came earlier first
 
 -- what a user tells the node is its own, and nothing arrives by it
 told_own : (number : ℕ) (order : Order) → IsOwn number (event_of number order)
 told_own number (Notice router) = refl
-told_own number (Change db) = refl
-told_own number (Rotate key) = refl
-told_own number (Reload sites) = refl
+told_own number _ = refl
 
 told_arrives : (number : ℕ) (order : Order) → arrival (event_of number order) ≡ []
 told_arrives number (Notice router) = refl
-told_arrives number (Change db) = refl
-told_arrives number (Rotate key) = refl
-told_arrives number (Reload sites) = refl
+told_arrives number _ = refl
 
 pub taken_own : (number : ℕ) (order : Option Order) (outcome : Outcome) (taken : Bool) (heard : List TurnAct) → AreOwn number heard → AreOwn number (obeyed number order outcome taken ++ heard)
 taken_own number (Some order) (Some (Ok act)) taken heard own = ((told_own number order, inl refl), own)
-taken_own number (Some order) (Some (Err fault)) taken heard own = own
-taken_own number (Some order) None taken heard own = own
-taken_own number None outcome taken heard own = own
+taken_own number _ _ taken heard own = own
 
 pub taken_arrived : (number : ℕ) (order : Option Order) (outcome : Outcome) (taken : Bool) (heard : List TurnAct) → arrived (obeyed number order outcome taken ++ heard) ≡ arrived heard
 taken_arrived number (Some order) (Some (Ok act)) taken heard = ap (λ (l : List (Addr × List ℕ)). l ++ arrived heard) (told_arrives number order)
-taken_arrived number (Some order) (Some (Err fault)) taken heard = refl
-taken_arrived number (Some order) None taken heard = refl
-taken_arrived number None outcome taken heard = refl
+taken_arrived number _ _ taken heard = refl
 
 -- the acts of what a node took in
 module _ (A : Type 0) (config : ConfigValue) (number now : ℕ) (old between new : NodeState) (heard : List TurnAct) (did : DoesAll A config number old between now heard) where

@@ -1,5 +1,6 @@
 -- A network goes on by steps of one node, and then by more of them.
 use Rattle.std.proofs.Common.{◌≡◌, inl, inr, ℕ, List, [], ◌∷◌, ◌++◌, map, reverse, refl, sym, ap, subst, ◌∙◌, append-nil}
+use Rattle.std.specs.Prelude.{◌≢◌}
 use Rattle.std.specs.List.{AllByRecursion}
 use Rattle.std.proofs.lemmas.List.{append_assoc, reverse-append, map-append}
 use Rattle.lisp_records.specs.declared.address.Addr.{Addr}
@@ -12,7 +13,7 @@ use Rattle.lisp_turns.specs.Node.{NodeState, HasNode}
 use Rattle.lisp_turns.specs.Part.{IsOwn, ArePrinted, arrival, arrivals, datagram_from}
 
 -- a network went on by steps of the node with a number, to a moment: their events are allowed ones, these lines were printed of
--- them, this was sent, and this arrived
+-- them, this was sent, and this arrived; the other nodes are as they were
 pub record Reaches (Allows : EventValue → Type 0) (number : ℕ) (lines : List Line) (sent received : List (Addr × List ℕ)) (node : NodeState) (now : ℕ)
     (old : WorldState) (o : Opening) (T : List Step) : Type 0 where
   pub steps : List Step
@@ -25,6 +26,7 @@ pub record Reaches (Allows : EventValue → Type 0) (number : ℕ) (lines : List
   pub heard : arrivals steps ≡ received
   pub node_is : HasNode left number node
   pub clock : left.clock ≡ now
+  pub others : (k : ℕ) (other : NodeState) → k ≢ number → HasNode old k other → HasNode left k other
 
 -- it goes nowhere
 pub stays_there : (Allows : EventValue → Type 0) (number : ℕ) (node : NodeState) (now : ℕ) (w : WorldState) (o : Opening) (T : List Step) → Stands w o T → HasNode w number node → w.clock ≡ now → Reaches Allows number [] [] [] node now w o T
@@ -39,12 +41,18 @@ stays_there Allows number node now w o T stand has clock = record {
   heard = refl;
   node_is = has;
   clock = clock;
+  others = λ k other differs there. there;
 }
 
 -- what holds of two lists holds of both
-all_append : {X : Type 0} (P : X → Type 0) (xs ys : List X) → AllByRecursion P xs → AllByRecursion P ys → AllByRecursion P (xs ++ ys)
+pub all_append : {X : Type 0} (P : X → Type 0) (xs ys : List X) → AllByRecursion P xs → AllByRecursion P ys → AllByRecursion P (xs ++ ys)
 all_append P [] ys first second = second
 all_append P (x ∷ xs) ys first second = (first.0, all_append P xs ys first.1 second)
+
+-- and what holds of both holds of each
+pub all_split : {X : Type 0} (P : X → Type 0) (xs ys : List X) → AllByRecursion P (xs ++ ys) → AllByRecursion P xs × AllByRecursion P ys
+all_split P [] ys all = (tt, all)
+all_split P (x ∷ xs) ys all = let rest = all_split P xs ys all.1 in ((all.0, rest.0), rest.1)
 
 -- the lines of both
 printed_append : (later earlier : List Step) (ls ms : List Line) → ArePrinted later ls → ArePrinted earlier ms → ArePrinted (later ++ earlier) (ls ++ ms)
@@ -54,7 +62,7 @@ printed_append (s ∷ later) earlier ls ms (inr (line, rest, is, same, first)) s
     inr (line, rest ++ ms, ap (λ (l : List Line). l ++ ms) is, same, printed_append later earlier rest ms first second)
 
 -- what arrived in both
-arrivals_append : (later earlier : List Step) → arrivals (later ++ earlier) ≡ arrivals later ++ arrivals earlier
+pub arrivals_append : (later earlier : List Step) → arrivals (later ++ earlier) ≡ arrivals later ++ arrivals earlier
 arrivals_append [] earlier = refl
 arrivals_append (s ∷ later) earlier = ap (λ (l : List (Addr × List ℕ)). arrival s.event ++ l) (arrivals_append later earlier) ∙ sym (append_assoc (arrival s.event) (arrivals later) (arrivals earlier))
 
@@ -90,10 +98,11 @@ module _ (Allows : EventValue → Type 0) (number : ℕ) (lines_1 lines_2 : List
     heard = arrivals_append second.steps first.steps ∙ (λ i. second.heard i ++ first.heard i);
     node_is = second.node_is;
     clock = second.clock;
+    others = λ k other differs there. second.others k other differs (first.others k other differs there);
   }
 
 -- each event that is allowed is so where more are
-all_wider : {X : Type 0} (P Q : X → Type 0) → ((x : X) → P x → Q x) → (xs : List X) → AllByRecursion P xs → AllByRecursion Q xs
+pub all_wider : {X : Type 0} (P Q : X → Type 0) → ((x : X) → P x → Q x) → (xs : List X) → AllByRecursion P xs → AllByRecursion Q xs
 all_wider P Q wider [] all = tt
 all_wider P Q wider (x ∷ xs) all = (wider x all.0, all_wider P Q wider xs all.1)
 
@@ -110,4 +119,5 @@ reaches_more Allows More more number lines sent received node now w o T reaches 
   heard = reaches.heard;
   node_is = reaches.node_is;
   clock = reaches.clock;
+  others = reaches.others;
 }

@@ -14,7 +14,7 @@ use Rattle.lisp_turns.specs.declared.turn.Uncommitted.{Uncommitted}
 use Rattle.lisp_turns.proofs.Turning.{turns_are}
 use Rattle.lisp_turns.proofs.Parts.{turns_are_parts, hearing_lines, hearing_sent}
 use Rattle.lisp_turns.proofs.BeginningLater.{beginnings_stand}
-use Rattle.lisp_turns.proofs.Calls.{logged_twice}
+use Rattle.lisp_turns.proofs.Asking.{logged_twice}
 
 module _ (A : Type 0) (config : ConfigValue) (number places count : ℕ) (begun : NodeState) (resolving : ResolvingValue) (before : OutsideState) (last : TurnState)
     (took : UncutTurns A config number places count (beginning begun resolving before) last) (network : IsNetwork config) (sites : List SiteValue) (store : StoreState) (may : MayBegin store before.moment)
@@ -63,7 +63,7 @@ loses_as_part {A} {config} {number} {places} {turns} {begun} {node} {resolving} 
     let lost = hearing_calls number turn.reception turn.now turn.dead turn.intake false in (
       part.calls,
       lost,
-      ap (λ (s : OutsideState). s.log) turn.calls ∙ ap (logged lost) part.asked ∙ logged_twice lost part.calls before.log,
+      ap (λ (s : OutsideState). s.log) turn.calls ∙ ap (logged lost) part.asked ∙ logged_twice part.calls lost before.log,
       (hearing_lines number turn.reception turn.now turn.dead turn.intake false, hearing_sent number turn.reception turn.now turn.dead turn.intake false),
       tt,
       part.part,

@@ -1,5 +1,5 @@
 -- The first place in a list whose element passes a test.
-use Rattle.std.proofs.Common.{◌≡◌, ℕ, zero, suc, Bool, true, false, cond, List, [], ◌∷◌, length, position, Option, Some, None, refl, sym, ap, ◌∙◌, true≢false, ◌<◌, arith}
+use Rattle.std.proofs.Common.{◌≡◌, ℕ, zero, suc, Bool, true, false, cond, List, [], ◌∷◌, length, position, Option, Some, None, refl, sym, ap, ◌∙◌, true≢false}
 use Rattle.std.specs.Prelude.{◌≢◌, ◌==◌, ◌+◌, slice_get, slice_index_or}
 use Rattle.std.specs.List.{AllPairs, find}
 use Rattle.std.specs.Option.{unwrap_or}
@@ -62,9 +62,3 @@ router_is_at config number place entry is there =
   where
     nobody : RouterEntryValue
     nobody = record { name = []; address = V4 []; me = record { site = 0; xtr = [] }; key_id = 0; servers = []; proxy = false; use_ttl = false; nonce_block = 1; database = []; resolve = [] }
-
--- there is an element at each place of a list
-pub some_at : {X : Type 0} (xs : List X) (i : ℕ) → i < length xs → (x : X) × (slice_get xs i ≡ Some x)
-some_at [] i low = absurd (omega (arith, low))
-some_at (x ∷ xs) zero low = (x, refl)
-some_at (x ∷ xs) (suc i) low = some_at xs i (omega (arith, low))

@@ -23,7 +23,7 @@ use Rattle.lisp_turns.specs.Due.{IsRegisterDue, SendsDue, IsRefused, DoesDuty}
 use Rattle.lisp_turns.specs.Node.{Router, IsPlaced}
 use Rattle.lisp_turns.specs.Serving.{SendAct}
 use Rattle.lisp_turns.proofs.Hearing.{router_left, placed_up}
-use Rattle.lisp_turns.proofs.ServingRounds.{due_before}
+use Rattle.lisp_turns.proofs.ServingDue.{due_before}
 
 module _ (config : ConfigValue) (number server part now : ℕ) (old new : RouterNodeState) (act : ActValue) (answer : Result (List ℕ) SendFault)
     (sends : NodeSends old new server part Done now answer) (told : SendAct config number server part answer act) (kind : server < length config.servers) where

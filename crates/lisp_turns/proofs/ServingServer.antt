@@ -19,6 +19,7 @@ use Rattle.lisp_refinement.specs.World.{ServerNodeState, RouterNodeState, WorldS
 use Rattle.lisp_refinement.specs.Events.{address_of, ChangesNoticesAlone, NodeResends, SaysResendAnswer}
 use Rattle.lisp_refinement.specs.Stands.{Stands}
 use Rattle.lisp_refinement.proofs.NoticeParts.{its_router, kept_stands}
+use Rattle.lisp_refinement.proofs.Gets.{get_within}
 use Rattle.lisp_server.proofs.StandingLaws.{notice_held}
 use Rattle.lisp_turns.specs.Act.{ActValue, numbered}
 use Rattle.lisp_turns.specs.Acts.{Does, DoesOne, datagrams}
@@ -27,7 +28,7 @@ use Rattle.lisp_turns.specs.Made.{IsResent}
 use Rattle.lisp_turns.specs.Node.{Server, IsPlaced}
 use Rattle.lisp_turns.specs.Serving.{number_of, resend_act}
 use Rattle.lisp_turns.proofs.NoticedRouters.{IsConfigured, configured}
-use Rattle.lisp_turns.proofs.ServingPlaces.{FirstPlace, first, router_is_at, some_at}
+use Rattle.lisp_turns.proofs.ServingPlaces.{FirstPlace, first, router_is_at}
 
 -- the router of a network that has an identity, by its number
 pub record HasRouter (w : WorldState) (number : ℕ) (me : RouterId) : Type 0 where
@@ -40,7 +41,7 @@ pub record HasRouter (w : WorldState) (number : ℕ) (me : RouterId) : Type 0 wh
 module _ (w : WorldState) (o : Opening) (T : List Step) (stand : Stands w o T) (me : RouterId) where
   -- each router that is configured is there
   at_place : FirstPlace (λ (r : RouterEntryValue). router_eq r.me me) o.config.routers → HasRouter w (number_of o.config me) me
-  at_place f = let node = some_at w.routers f.place (omega (arith, slice_get_within o.config.routers f.place f.element f.there, stand.steps.routers)) in record {
+  at_place f = let node = get_within w.routers f.place (omega (arith, slice_get_within o.config.routers f.place f.element f.there, stand.steps.routers)) in record {
     place = f.place;
     is = ap (λ (p : Option ℕ). length o.config.servers + unwrap_or p (length o.config.routers)) f.is ∙ ap (λ (n : ℕ). n + f.place) (sym stand.steps.servers);
     node = node.0;

@@ -13,6 +13,7 @@ use Rattle.lisp_refinement.specs.World.{DatagramValue, WorldState}
 use Rattle.lisp_refinement.specs.Events.{address_of}
 use Rattle.lisp_refinement.specs.Stands.{Stands}
 use Rattle.lisp_turns.specs.Act.{numbered}
+use Rattle.lisp_turns.specs.Acts.{TurnAct}
 use Rattle.lisp_turns.specs.Node.{HasNode}
 use Rattle.lisp_turns.specs.Outside.{Call, Receives, Polls, Listens, Prints, Sends, Datagram, logged}
 use Rattle.lisp_turns.specs.Turn.{TurnState, Turns}
@@ -53,6 +54,11 @@ arrival _ = []
 abbrev pub arrivals : List Step → List (Addr × List ℕ)
 arrivals [] = []
 arrivals (s ∷ T) = arrival s.event ++ arrivals T
+
+-- and in acts
+abbrev pub arrived_in : List TurnAct → List (Addr × List ℕ)
+arrived_in [] = []
+arrived_in (a ∷ earlier) = arrival a.event ++ arrived_in earlier
 
 -- of what was asked outside, the newest first: the events' lines that were printed; what was sent, and to which address;
 -- what was received, and from which address

@@ -1,4 +1,4 @@
-use Rattle.lisp_deployment.proofs.BudgetedTurns.{replies_keep_the_budget}
+use Rattle.lisp_deployment.proofs.Budgeting.{replies_keep_the_budget}
 use Rattle.lisp_deployment.proofs.laws.replies_keep_the_budget.Goals as goal
 
 pub returns : goal.returns

@@ -1,7 +1,7 @@
 use Rattle.std.proofs.Common.{length, ap, ◌∙◌}
 use Rattle.lisp_nodes.proofs.RouterCalls.{changed_line}
 use Rattle.lisp_turns.specs.Act.{line_act}
-use Rattle.lisp_turns.proofs.ObeyingRouter.{change_does_one}
+use Rattle.lisp_turns.proofs.ObeyingNodes.{change_does_one}
 use Rattle.lisp_turns.proofs.router.change.Goals as goal
 
 pub returns-clause-does : goal.returns-clause-does

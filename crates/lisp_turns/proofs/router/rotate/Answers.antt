@@ -1,6 +1,6 @@
 use Rattle.std.proofs.Common.{ap, ◌∙◌, rules}
 use Rattle.lisp_turns.specs.Act.{line_act}
-use Rattle.lisp_turns.proofs.ObeyingRouter.{rotate_does_one}
+use Rattle.lisp_turns.proofs.ObeyingNodes.{rotate_does_one}
 use Rattle.lisp_turns.proofs.router.rotate.Goals as goal
 
 pub returns-clause-does : goal.returns-clause-does

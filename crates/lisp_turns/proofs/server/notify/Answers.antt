@@ -3,7 +3,7 @@ use Rattle.lisp_records.specs.declared.router.RouterId.{RouterId}
 use Rattle.lisp_nonces.specs.declared.fate.Fate.TheVariants.{Done}
 use Rattle.lisp_refinement.specs.Calls.{NodeNotifies}
 use Rattle.lisp_world.proofs.Noticing.{notice_headed}
-use Rattle.lisp_turns.proofs.ObeyingServer.{notice_does_one}
+use Rattle.lisp_turns.proofs.ObeyingNodes.{notice_does_one}
 use Rattle.lisp_turns.proofs.server.notify.Goals as goal
 
 pub act_of_notice-requires : goal.act_of_notice-requires

@@ -1,7 +1,7 @@
 use Rattle.std.proofs.Common.{length, ap, ◌∙◌}
 use Rattle.lisp_refinement.specs.Events.{reload_line}
 use Rattle.lisp_turns.specs.Act.{line_act}
-use Rattle.lisp_turns.proofs.ObeyingServer.{reload_does_one}
+use Rattle.lisp_turns.proofs.ObeyingNodes.{reload_does_one}
 use Rattle.lisp_turns.proofs.server.reload.Goals as goal
 
 pub returns-clause-does : goal.returns-clause-does
