@@ -31,8 +31,7 @@ cleared-again (V6 bytes) n = ap V6 (masked-again bytes n)
 
 -- clearing bits keeps the family
 pub family-cleared : (a : Addr) (n : ℕ) → family (cleared a n) ≡ family a
-family-cleared (V4 bytes) n = refl
-family-cleared (V6 bytes) n = refl
+family-cleared a n = grind arith
 
 -- a byte with bits cleared is no greater
 high_bits-le : (byte k : ℕ) → high_bits byte k ≤ byte

@@ -1,7 +1,7 @@
 -- How records are cut into parts.
-use Rattle.std.proofs.Common.{◌≡◌, ◌≢◌, ℕ, zero, suc, ◌+◌, ◌<◌, ◌≤◌, nat_le, Bool, true, false, ◌&&◌, List, [], ◌∷◌, ◌++◌, length, slice_index_or, refl, sym, ap, subst, ◌∙◌, append_assoc, arith}
+use Rattle.std.proofs.Common.{◌≡◌, ◌≢◌, ℕ, zero, suc, ◌+◌, ◌<◌, ◌≤◌, nat_le, Bool, true, false, List, [], ◌∷◌, ◌++◌, length, slice_index_or, refl, sym, ap, subst, ◌∙◌, append_assoc, arith}
 use Rattle.std.specs.List.{AllByRecursion, flat_map}
-use Rattle.std.proofs.lemmas.Bool.{le-leb, leb-true}
+use Rattle.std.proofs.lemmas.Bool.{and_parts, le-leb, leb-true}
 use Rattle.std.proofs.lemmas.List.{append-nil, length-append}
 use Rattle.std.proofs.lemmas.List.Sums.{sum_by-append}
 use Rattle.lisp_records.specs.Record.{MapRecordValue}
@@ -17,13 +17,9 @@ joined parts = flat_map (λ part. part) parts
 pub fits : (ms : List MapRecordValue) → length ms ≤ 255 → size ms ≤ 16384 → fits_message ms ≡ true
 fits ms few short = rw (le-leb (length ms) 255 few, le-leb (size ms) 16384 short) refl
 
-both : (a b : Bool) → (a && b) ≡ true → (a ≡ true) × (b ≡ true)
-both true b e = (refl, e)
-both false b e = absurd cc
-
 pub fits_is : (ms : List MapRecordValue) → fits_message ms ≡ true → (length ms ≤ 255) × (size ms ≤ 16384)
 fits_is ms e =
-    let is = both (nat_le (length ms) 255) (nat_le (size ms) 16384) e in
+    let is = and_parts (nat_le (length ms) 255) (nat_le (size ms) 16384) e in
     (leb-true (length ms) 255 is.0, leb-true (size ms) 16384 is.1)
 
 -- the size of records in a row

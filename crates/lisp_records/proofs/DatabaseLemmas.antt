@@ -1,12 +1,12 @@
 -- Records whose EID-Prefixes are compared with those of the later ones, one after the other.
-use Rattle.std.proofs.Common.{◌≡◌, ℕ, ◌+◌, ◌-◌, ◌<◌, ◌≤◌, Bool, true, false, ◌||◌, List, [], ◌∷◌, ◌++◌, length, get_or, take, drop, Result, Ok, Err, cond, ltb, refl, sym, ap, ◌∙◌, add-one, arith}
+use Rattle.std.proofs.Common.{◌≡◌, ℕ, ◌+◌, ◌-◌, ◌<◌, ◌≤◌, Bool, true, false, ◌||◌, List, [], ◌∷◌, ◌++◌, length, get_or, take, drop, Ok, Err, refl, sym, ap, ◌∙◌, add-one, arith}
 use Rattle.std.proofs.Math.Seq.{drop-cons}
 use Rattle.std.proofs.Math.ListN.{drop_of_length-le}
-use Rattle.std.proofs.lemmas.Bool.{ltb-false, le-ltb, lt-ltb}
+use Rattle.std.proofs.lemmas.Bool.{le-ltb, lt-ltb}
+use Rattle.std.proofs.lemmas.Bool.Decides.{nat_tests}
 use Rattle.std.proofs.lemmas.List.{take_all, take_more, length-drop}
 use Rattle.lisp_records.specs.Address.{PrefixValue, prefix_eq}
 use Rattle.lisp_records.specs.Record.{MapRecordValue}
-use Rattle.lisp_records.specs.declared.database.DatabaseFault.{DatabaseFault}
 use Rattle.lisp_records.specs.declared.database.DatabaseFault.TheVariants.{RepeatedPrefix, TooLarge}
 use Rattle.lisp_records.specs.Parts.{fits_message, most_parts, part_count}
 use Rattle.lisp_records.specs.Database.{has_prefix, repeats, database_of}
@@ -92,23 +92,8 @@ message_is_database ms fit once =
 
 -- what a database passed
 pub database_is : (ms : List MapRecordValue) → database_of ms ≡ Ok ms → (length ms ≤ 1024) × (repeats ms ≡ false) × (part_count ms ≤ most_parts)
-database_is ms is = by (ltb 1024 (length ms)) (repeats ms) (ltb most_parts (part_count ms)) refl refl refl
-  where
-    by : (many again large : Bool) → ltb 1024 (length ms) ≡ many → repeats ms ≡ again → ltb most_parts (part_count ms) ≡ large → (length ms ≤ 1024) × (repeats ms ≡ false) × (part_count ms ≤ most_parts)
-    by true again large m a l = absurd (let e : database_of ms ≡ Err TooLarge = rw m refl in cc)
-    by false true large m a l = absurd (let e : database_of ms ≡ Err RepeatedPrefix = rw (m, a) refl in cc)
-    by false false true m a l = absurd (let e : database_of ms ≡ Err TooLarge = rw (m, a, l) refl in cc)
-    by false false false m a l = (ltb-false 1024 (length ms) m, a, ltb-false most_parts (part_count ms) l)
+database_is ms is = grind (arith, nat_tests)
 
 -- the records of a database are the given ones
 pub database_same : (ms db : List MapRecordValue) → database_of ms ≡ Ok db → ms ≡ db
-database_same ms db e = at (ltb 1024 (length ms)) (repeats ms) (ltb most_parts (part_count ms)) e
-  where
-    same_ok : ◌≡◌ {A = Result (List MapRecordValue) DatabaseFault} (Ok ms) (Ok db) → ms ≡ db
-    same_ok ok = cc
-
-    at : (many again parted : Bool) → cond many (Err TooLarge) (cond again (Err RepeatedPrefix) (cond parted (Err TooLarge) (Ok ms))) ≡ Ok db → ms ≡ db
-    at true again parted ok = cc ok
-    at false true parted ok = cc ok
-    at false false true ok = cc ok
-    at false false false ok = same_ok ok
+database_same ms db e = grind arith

@@ -1,24 +1,19 @@
 -- Elements of lists, and which one a look-up finds.
-use Rattle.std.proofs.Common.{◌≡◌, Bool, true, false, ◌⊎◌, inl, inr, List, [], ◌∷◌, reverse, Some, refl, sym, ap, subst, ◌∙◌, arith}
-use Rattle.std.specs.List.{find, Contains}
+use Rattle.std.proofs.Common.{◌≡◌, zero, suc, Bool, true, false, ◌⊎◌, inl, inr, List, [], ◌∷◌, reverse, Some, refl, sym, ap, subst, ◌∙◌, arith}
+use Rattle.std.specs.List.{find, position_or_len, slice_get, Contains}
 use Rattle.std.proofs.lemmas.List.{reverse-reverse}
-use Rattle.std.proofs.lemmas.List.Elements.{Contains-append_right, Contains-append_cases, Contains-push_cases}
+use Rattle.std.proofs.lemmas.List.Elements.{Contains-append_right}
+use Rattle.std.proofs.lemmas.List.Folds.{find_at}
 use Rattle.std.proofs.lemmas.List.Sorted.{Contains-permutation, IsPermutation-reverse}
+use Rattle.std.proofs.lemmas.List.Sums.{passes_at_first}
+use Rattle.std.proofs.lemmas.Option.{get_or_from_slice_get, slice_get_within}
 
-pub none_in : {X : Type 0} (x : X) → Contains [] x → ⊥
-none_in x (k, lt, is) = omega (arith, lt)
-
--- the one element of a list
-one_in : {X : Type 0} (x y : X) → Contains [] x ⊎ (y ≡ x) → y ≡ x
-one_in x y (inl none) = absurd (none_in x none)
-one_in x y (inr is) = is
+pub none_in : {X P : Type 0} (x : X) → Contains [] x → P
+none_in x (k, lt, is) = absurd (omega (arith, lt))
 
 pub first_or_later : {X : Type 0} (x y : X) (ys : List X) → Contains (y ∷ ys) x → (y ≡ x) ⊎ Contains ys x
-first_or_later {X} x y ys at = by (Contains-append_cases (y ∷ []) ys x at)
-  where
-    by : Contains (y ∷ []) x ⊎ Contains ys x → (y ≡ x) ⊎ Contains ys x
-    by (inl first) = inl (one_in x y (Contains-push_cases [] y x first))
-    by (inr later) = inr later
+first_or_later x y ys (zero, lt, at) = inl at
+first_or_later x y ys (suc k, lt, at) = inr (k, omega (arith, lt), at)
 
 pub first_in : {X : Type 0} (x : X) (xs : List X) → Contains (x ∷ xs) x
 first_in x xs = (0, omega arith, refl)
@@ -32,23 +27,13 @@ in_reversed xs x at = Contains-permutation xs (reverse xs) x (IsPermutation-reve
 pub from_reversed : {X : Type 0} (xs : List X) (x : X) → Contains (reverse xs) x → Contains xs x
 from_reversed {X} xs x at = subst (λ (ys : List X). Contains ys x) (reverse-reverse xs) (in_reversed (reverse xs) x at)
 
-same_some : {X : Type 0} (x y : X) → Some x ≡ Some y → x ≡ y
-same_some x y e = cc
-
 -- what is found is there, and passes the test
 pub found : {X : Type 0} (test : X → Bool) (xs : List X) (x : X) → find test xs ≡ Some x → Contains xs x × (test x ≡ true)
-found test [] x is = absurd cc
-found {X} test (y ∷ ys) x is = by (test y) refl (found test ys x)
-  where
-    by : (b : Bool) → test y ≡ b → (find test ys ≡ Some x → Contains ys x × (test x ≡ true)) → Contains (y ∷ ys) x × (test x ≡ true)
-    by true e rest =
-        let here : find test (y ∷ ys) ≡ Some y = rw e refl in
-        let same : y ≡ x = same_some y x (sym here ∙ is) in
-        (subst (λ (z : X). Contains (y ∷ ys) z) same (first_in y ys), subst (λ (z : X). test z ≡ true) same e)
-    by false e rest =
-        let past : find test (y ∷ ys) ≡ find test ys = rw e refl in
-        let f = rest (sym past ∙ is) in
-        (later_in x y ys f.0, f.1)
+found test xs x is =
+    let at : slice_get xs (position_or_len test xs) ≡ Some x = sym (find_at test xs) ∙ is in
+    let lt = slice_get_within xs (position_or_len test xs) x at in
+    let here = get_or_from_slice_get xs (position_or_len test xs) x x at in
+    ((position_or_len test xs, lt, here), ap test (sym here) ∙ passes_at_first test xs x lt)
 
 -- where an element passes the test, one is found
 pub finds : {X : Type 0} (test : X → Bool) (xs : List X) (x : X) → Contains xs x → test x ≡ true → (y : X) × (find test xs ≡ Some y)

@@ -1,5 +1,5 @@
 -- What is answered where a `?` passes a fault on, and where nothing failed.
-use Rattle.std.proofs.Common.{◌≡◌, ℕ, zero, suc, ◌*◌, Bool, true, false, cond, eqb, ltb, List, [], ◌∷◌, length, get_or, drop, Result, Ok, Err, sym, ap, subst, ◌∙◌}
+use Rattle.std.proofs.Common.{arith, ◌≡◌, ℕ, zero, suc, ◌*◌, Bool, true, false, cond, eqb, ltb, List, [], ◌∷◌, length, get_or, drop, Result, Ok, Err, sym, ap, subst, ◌∙◌}
 use Rattle.std.specs.Prelude.{IsErrAnd}
 use Rattle.lisp_records.specs.declared.address.Family.{Family}
 use Rattle.lisp_records.specs.declared.address.Family.TheVariants.{Ipv4, Ipv6}
@@ -68,9 +68,7 @@ mask_plain f n = guard_plain (ltb (8 * width f) n) Mask n (λ is. absurd cc)
 
 -- the family, over its two tests
 chosen_plain : (a b : Bool) → cond a (done Ipv4) (cond b (done Ipv6) (Err Afi)) ≡ Err OutOfMemory → ⊥
-chosen_plain true b is = no_fault Ipv4 OutOfMemory is
-chosen_plain false true is = no_fault Ipv6 OutOfMemory is
-chosen_plain false false is = absurd cc
+chosen_plain a b is = grind arith
 
 family_plain : (number : ℕ) → family_of number ≡ Err OutOfMemory → ⊥
 family_plain number = chosen_plain (eqb number 1) (eqb number 2)

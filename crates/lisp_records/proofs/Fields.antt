@@ -4,6 +4,7 @@ use Rattle.std.proofs.Common.{◌≡◌, ℕ, zero, suc, ◌+◌, ◌*◌, ◌<�
 use Rattle.std.specs.Int.{w16, from_be_bytes, to_be_bytes, from_bool}
 use Rattle.std.specs.List.{AllByRecursion}
 use Rattle.std.proofs.lemmas.Bool.{ltb-false, le-ltb, eqb-true}
+use Rattle.std.proofs.lemmas.Bool.Decides.{nat_tests}
 use Rattle.std.proofs.lemmas.List.{take_at, drop_at, take-append-drop, length-append, length-take, get_or-append-add, get_or-drop}
 use Rattle.std.proofs.lemmas.Nat.{be_bytes_2}
 use Rattle.lisp_records.specs.declared.address.Addr.{Addr}
@@ -51,12 +52,12 @@ pub IsBytes-behind : (n : ℕ) (bytes text rest : List ℕ) → drop n bytes ≡
 IsBytes-behind n bytes text rest parts fits = IsBytes-rest (drop n bytes) text rest parts (λ i. rw get_or-drop (fits (n + i)))
 
 -- the value of a step that did not fail
-pub bind_ok : {A B : Type 0} (r : Result A RecordFault) (f : A → Result B RecordFault) (y : B) → (r >>= f) ≡ Ok y → (x : A) × (r ≡ Ok x) × (f x ≡ Ok y)
+pub bind_ok : {A B E : Type 0} (r : Result A E) (f : A → Result B E) (y : B) → (r >>= f) ≡ Ok y → (x : A) × (r ≡ Ok x) × (f x ≡ Ok y)
 bind_ok (Ok x) f y e = (x, refl, e)
 bind_ok (Err d) f y e = absurd cc
 
 -- a test that did not fail
-pub guard_ok : {A : Type 0} (b : Bool) (d : RecordFault) (x y : A) → cond b (Err d) (Ok x) ≡ Ok y → (b ≡ false) × (x ≡ y)
+pub guard_ok : {A E : Type 0} (b : Bool) (d : E) (x y : A) → cond b (Err d) (Ok x) ≡ Ok y → (b ≡ false) × (x ≡ y)
 guard_ok true d x y e = absurd cc
 guard_ok false d x y e = (refl, cc)
 
@@ -82,29 +83,23 @@ two_bytes a b n la lb e = be_bytes_2 (a ∷ b ∷ []) n refl (two_fit a b la lb)
 
 -- a number of one bit is the bit of the test for 1
 pub bit-eqb : (n : ℕ) → n < 2 → n ≡ bit (eqb n 1)
-bit-eqb zero lt = refl
-bit-eqb (suc zero) lt = refl
-bit-eqb (suc (suc n)) lt = absurd (omega arith)
+bit-eqb n lt = grind (arith, nat_tests)
 
 -- the test for 1 of a flag's bit is the flag
 pub eqb-bit : (b : Bool) → eqb (bit b) 1 ≡ b
-eqb-bit true = refl
-eqb-bit false = refl
+eqb-bit b = grind arith
 
 -- the bit of a flag is below 2
 pub bit_below : (b : Bool) → bit b < 2
-bit_below true = omega arith
-bit_below false = omega arith
+bit_below b = grind arith
 
 -- a flag as a byte is its bit
 pub flag_is : (b : Bool) (n : ℕ) → n ≡ from_bool b → n ≡ bit b
-flag_is true n is = is
-flag_is false n is = is
+flag_is b n is = grind arith
 
 -- and at most 1
 pub flag_below : (b : Bool) (n : ℕ) → n ≡ from_bool b → n ≤ 1
-flag_below true n is = omega (arith, is)
-flag_below false n is = omega (arith, is)
+flag_below b n is = grind arith
 
 -- ---- steps of reading
 
@@ -122,9 +117,7 @@ after_again n front rest len =
 
 -- a family was named by its own number, over the two tests
 family_chosen : (a b : Bool) (f : Family) (number : ℕ) → (a ≡ true → number ≡ 1) → (b ≡ true → number ≡ 2) → cond a (done Ipv4) (cond b (done Ipv6) (Err Afi)) ≡ Ok f → number ≡ afi f
-family_chosen true b f number one two e = one refl ∙ ap afi (ok_is Ipv4 f e)
-family_chosen false true f number one two e = two refl ∙ ap afi (ok_is Ipv6 f e)
-family_chosen false false f number one two e = absurd cc
+family_chosen a b f number one two e = grind arith
 
 -- a family was named by its own number
 pub family_takes : (number : ℕ) (f : Family) → family_of number ≡ Ok f → number ≡ afi f
@@ -132,8 +125,7 @@ family_takes number f e = family_chosen (eqb number 1) (eqb number 2) f number (
 
 -- the number of a family names it
 pub family_again : (f : Family) → family_of (afi f) ≡ Ok f
-family_again Ipv4 = refl
-family_again Ipv6 = refl
+family_again f = grind arith
 
 -- a mask that was taken fits
 pub mask_takes : (f : Family) (n m : ℕ) → mask_of f n ≡ Ok m → n ≤ 8 * width f

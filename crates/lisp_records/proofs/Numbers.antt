@@ -118,11 +118,10 @@ cleared_number a (b ∷ bytes) kept fit = by (nat_cmp kept 8) (ranks kept 8) (cl
 -- a lesser number stays less, whatever bytes follow
 stays_less : (a b : ℕ) (us vs : List ℕ) → length us ≡ length vs → Bytes us → a < b → big_endian a us < big_endian b vs
 stays_less a b [] [] same fit less = less
-stays_less a b [] (v ∷ vs) same fit less = absurd (omega (arith, same))
-stays_less a b (u ∷ us) [] same fit less = absurd (omega (arith, same))
 stays_less a b (u ∷ us) (v ∷ vs) same fit less =
     let small : u < 256 = fit.0 in
     stays_less (a * 256 + u) (b * 256 + v) us vs (omega (arith, same)) fit.1 (omega (arith, less, small))
+stays_less a b _ _ same fit less = absurd (omega (arith, same))
 
 -- bytes stand as the numbers do
 pub in_order : (a : ℕ) (us vs : List ℕ) → length us ≡ length vs → Bytes us → Bytes vs → nat_cmp (big_endian a us) (big_endian a vs) ≡ slice_cmp nat_cmp us vs

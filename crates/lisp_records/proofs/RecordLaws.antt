@@ -152,11 +152,7 @@ no_proper_prefix bytes more m n s t =
 
 -- the written spelling of a locator is one of its spellings
 locator_spelled : (l : Locator) → IsLocator l → SpellsLocator (written_locator l) l
-locator_spelled l i =
-    let a : bit l.local < 2 = bit_below l.local in
-    let b : bit l.probe < 2 = bit_below l.probe in
-    let c : bit l.reachable < 2 = bit_below l.reachable in
-    record { unused = 0; flags = bit l.local * 4 + bit l.probe * 2 + bit l.reachable; parts = refl; local = omega arith; probe = omega arith; reachable = omega arith; addr = i.addr.width }
+locator_spelled l i = record { unused = 0; flags = bit l.local * 4 + bit l.probe * 2 + bit l.reachable; parts = refl; local = omega (arith, bit_below); probe = omega (arith, bit_below); reachable = omega (arith, bit_below); addr = i.addr.width }
 
 -- the written spelling of locators is one of theirs
 locators_spelled : (ls : List Locator) → AllByRecursion IsLocator ls → SpellsLocators (written_locators ls) ls
@@ -166,23 +162,21 @@ locators_spelled (l ∷ ls) all = (written_locator l, written_locators ls, refl,
 -- the written spelling of a record is one of its spellings
 pub written_spells : (m : MapRecordValue) → IsMapRecord m → Spells (written m) m
 unfolding written
-written_spells m i =
-    let a : bit m.authoritative < 2 = bit_below m.authoritative in
-    record {
-      flags = m.act * 32 + bit m.authoritative * 16;
-      reserved = 0;
-      high = m.version / 256;
-      low = m.version % 256;
-      eid = octets m.eid.addr;
-      locators = written_locators m.locators;
-      parts = refl;
-      ttl = i.ttl;
-      act = omega (arith, i.act);
-      authoritative = omega arith;
-      version = omega (arith, i.version);
-      prefix = record { written = m.eid.addr; parts = refl; addr = i.eid.width; masked = i.block.1; block = i.block };
-      each = locators_spelled m.locators i.locators;
-    }
+written_spells m i = record {
+  flags = m.act * 32 + bit m.authoritative * 16;
+  reserved = 0;
+  high = m.version / 256;
+  low = m.version % 256;
+  eid = octets m.eid.addr;
+  locators = written_locators m.locators;
+  parts = refl;
+  ttl = i.ttl;
+  act = omega (arith, bit_below, i.act);
+  authoritative = omega (arith, bit_below);
+  version = omega (arith, i.version);
+  prefix = record { written = m.eid.addr; parts = refl; addr = i.eid.width; masked = i.block.1; block = i.block };
+  each = locators_spelled m.locators i.locators;
+}
 
 -- what was written is read again
 pub reads_back : (m : MapRecordValue) (rest : List ℕ) → IsMapRecord m → record_at (written m ++ rest) ≡ Ok (m, rest)

@@ -7,7 +7,6 @@ use Rattle.std.specs.Int.{w32, from_be_bytes}
 use Rattle.std.specs.Prelude.{slice_index}
 use Rattle.lisp_records.specs.declared.address.Addr.{Addr}
 use Rattle.lisp_records.specs.declared.address.Family.{Family}
-use Rattle.lisp_records.specs.declared.address.Family.TheVariants.{Ipv4, Ipv6}
 use Rattle.lisp_records.specs.declared.fault.RecordFault.{RecordFault}
 use Rattle.lisp_records.specs.declared.fault.RecordFault.TheVariants.{Short}
 use Rattle.lisp_records.specs.declared.locator.Locator.{Locator}
@@ -42,9 +41,7 @@ mapping_is head a ls ttl version authoritative eid long first flag numbered bloc
 
 -- a mask of no bits fits each family
 maskless : (read : Result Family RecordFault) (bytes : List ℕ) (made : Addr × List ℕ → Locator × List ℕ) → (read >>= λ f. address_at f bytes >>= λ addr. done (made addr)) ≡ ((read >>= λ f. mask_of f 0 >>= λ n. address_at f bytes) >>= λ addr. done (made addr))
-maskless (Ok Ipv4) bytes made = refl
-maskless (Ok Ipv6) bytes made = refl
-maskless (Err e) bytes made = refl
+maskless read bytes made = grind arith
 
 -- its address is read, and then nothing fails
 locator_named : (bytes : List ℕ) (n : ℕ) → 8 ≤ length bytes → n ≡ number_at bytes 6 → locator_at bytes ≡ (named_at n 0 (take (length bytes - 8) (drop 8 bytes)) >>= λ addr. done {A = Locator × List ℕ} (locator_of bytes addr.0, addr.1))

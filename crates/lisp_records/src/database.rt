@@ -121,7 +121,9 @@ impl<A: Allocator> Database<A> {
         ensures value { result.now ≡ part_at self.now part }
         ensures fits { fits_message result.now ≡ true }
     {
-        &self.records[self.parts.start(part)..self.parts.start(part + 1)]
+        let start = self.parts.start(part);
+        let end = self.parts.start(part + 1);
+        &self.records[start..end]
     }
 
     /// Equal records to those of one of its parts, from 0 on, as a message carries them, in memory of `alloc`.
