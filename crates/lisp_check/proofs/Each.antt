@@ -1,6 +1,6 @@
 -- Warnings that are added for each entry of a list.
-use Rattle.std.proofs.Common.{◌≡◌, ◌∙◌, ℕ, ◌+◌, ◌<◌, ◌≤◌, suc, List, ◌++◌, length, get_or, drop, sym, ap, refl, arith, append_assoc, append-nil}
-use Rattle.std.proofs.Math.Seq.{drop-cons}
+use Rattle.std.proofs.Common.{◌≡◌, ◌∙◌, ℕ, ◌+◌, ◌-◌, ◌<◌, ◌≤◌, suc, List, [], ◌∷◌, ◌++◌, length, get_or, take, drop, sym, ap, refl, arith, append_assoc, append-nil}
+use Rattle.std.proofs.Math.Seq.{drop-cons, take-length}
 use Rattle.std.proofs.lemmas.List.{drop_all}
 use Rattle.std.specs.Prelude.{◌==◌}
 use Rattle.lisp_records.specs.declared.address.Addr.{Addr}
@@ -11,7 +11,14 @@ use Rattle.lisp_check.specs.declared.warning.Warning.{Warning}
 use Rattle.lisp_check.specs.declared.warning.Warning.TheVariants.{NoNodes}
 use Rattle.lisp_check.specs.Warning.{all_warnings, each, each_from, given_if, of_node, of_router, of_site}
 
-pub ruleset steps = (append_assoc)
+-- a list by its first element and the others, as a pattern of slices has them
+pub parted : {X : Type 0} (xs : List X) (x : X) → 1 ≤ length xs → x ≡ get_or xs 0 x → xs ≡ x ∷ take (length xs - 1) (drop 1 xs)
+parted [] x some first = absurd (omega (arith, some))
+parted {X = X} (y ∷ ys) x some first =
+    let all : length (y ∷ ys) - 1 ≡ length ys = omega arith in
+    ap (λ (z : X). z ∷ ys) (sym first) ∙ ap (λ (l : List X). x ∷ l) (sym (ap (λ (n : ℕ). take n ys) all ∙ take-length ys))
+
+pub ruleset steps = (append_assoc, append-nil)
 
 -- those that were added, and those of the entries that are left
 module _ {X : Type 0} (of : ℕ → X → List Warning) (xs : List X) (all : List Warning) where

@@ -12,6 +12,7 @@ use Rattle.lisp_policy.specs.Site.{SiteValue}
 use Rattle.lisp_policy.specs.Configuration.{ConfigValue, RouterEntryValue}
 use Rattle.lisp_sites.specs.Numbers.{NodeValue, address_of, addresses, node_at}
 use Rattle.lisp_sites.proofs.NumberLaws.{address_at-addresses}
+use Rattle.lisp_check.specs.declared.warning.PrefixPlace.{PrefixPlace}
 use Rattle.lisp_check.specs.declared.warning.Warning.{Warning}
 use Rattle.lisp_check.specs.declared.warning.Warning.TheVariants.{NoNodes, NoKeys, NoPrefixes, SamePrefix, Inside, NoUnicast, SameAddress, AnyItrRloc, NoItrRloc, SameIdentity, NotAllowed, OtherFamily, SameKey, NoServers, NoMostRows, ManyRouters, NotListed, OtherSource, OutOfBounds, ManyRows}
 use Rattle.lisp_check.specs.Warning.{IsWarned, all_warnings, any_of, each, each_from, given_if, has_address, has_around, has_many_rows, has_more_routers, has_prefix, inside_of, is_no_unicast, is_not_listed, is_of_other_family, is_of_other_source, is_out_of_bounds, is_twin, is_unbounded, lists_no_own, may_register, of_first, of_limits, of_node, of_prefix, of_record, of_resolve, of_router, of_server, of_site, same_key}
@@ -117,31 +118,34 @@ module _ {X : Type 0} (of : ℕ → X → List Warning) (Q : ℕ → X → Warni
   }
 
 -- that of the site around a prefix
-abbrev Around : ℕ → ℕ → Option ℕ → Warning → Type 0
-Around site place found w = (k : ℕ) × (found ≡ Some k) × (Inside k site place ≡ w)
+abbrev Around : PrefixPlace → Option ℕ → Warning → Type 0
+Around at found w = (k : ℕ) × (found ≡ Some k) × (Inside k at ≡ w)
 
-around : (site place : ℕ) (found : Option ℕ) → Means (inside_of site place found) (Around site place found)
-around site place None = record {
+around : (at : PrefixPlace) (found : Option ℕ) → Means (inside_of at found) (Around at found)
+around at None = record {
   to = λ w (k, within, same). absurd (omega (arith, within));
   from = λ w (k, none, same). absurd (let clash : ◌≡◌ {A = Option ℕ} None (Some k) = none in cc);
 }
-around site place (Some n) = record { to = to; from = from }
+around at (Some n) = record { to = to; from = from }
   where
-    to : (w : Warning) → Contains (Inside n site place ∷ []) w → Around site place (Some n) w
+    to : (w : Warning) → Contains (Inside n at ∷ []) w → Around at (Some n) w
     to w (zero, within, same) = (n, refl, same)
     to w (suc k, within, same) = absurd (omega (arith, within))
 
-    from : (w : Warning) → Around site place (Some n) w → Contains (Inside n site place ∷ []) w
+    from : (w : Warning) → Around at (Some n) w → Contains (Inside n at ∷ []) w
     from w (k, some, same) =
         let is_it : Some n ≡ Some k = some in
         let it : n ≡ k = cc in
-        (0, omega arith, ap (λ (m : ℕ). Inside m site place) it ∙ same)
+        (0, omega arith, ap (λ (m : ℕ). Inside m at) it ∙ same)
 
 -- ---- the warnings of a configuration
 
+abbrev at : ℕ → ℕ → PrefixPlace
+at site n = record { site = site; prefix = n }
+
 module _ (c : ConfigValue) where
   abbrev OfPrefix : ℕ → SiteValue → ℕ → SitePrefix → Warning → Type 0
-  OfPrefix site s n p w = First (λ k. SamePrefix k site n) (position (has_prefix p.eid) c.sites) site w ⊎ Around site n (position (has_around s.id p.eid) c.sites) w
+  OfPrefix site s n p w = First (λ k. SamePrefix k (at site n)) (position (has_prefix p.eid) c.sites) site w ⊎ Around (at site n) (position (has_around s.id p.eid) c.sites) w
 
   abbrev OfSite : ℕ → SiteValue → Warning → Type 0
   OfSite site s w = If (length s.keys == 0) (NoKeys site) w ⊎ (If (length s.prefixes == 0) (NoPrefixes site) w ⊎ (Every s.prefixes (OfPrefix site s) w
@@ -179,7 +183,7 @@ module _ (c : ConfigValue) where
       (both (given (is_unbounded s) (NoMostRows site)) (given (has_more_routers c.routers s) (ManyRouters site)))))
     where
       prefix_means : (n : ℕ) (p : SitePrefix) → Means (of_prefix c.sites site s.id n p) (OfPrefix site s n p)
-      prefix_means n p = both (first (λ k. SamePrefix k site n) (position (has_prefix p.eid) c.sites) site) (around site n (position (has_around s.id p.eid) c.sites))
+      prefix_means n p = both (first (λ k. SamePrefix k (at site n)) (position (has_prefix p.eid) c.sites) site) (around (at site n) (position (has_around s.id p.eid) c.sites))
 
   node_means : (node : ℕ) (a : Addr) → Means (of_node c (addresses c) node a) (OfNode node a)
   node_means node a = both (both (given (is_no_unicast a) (NoUnicast node)) (first (λ k. SameAddress k node) (position (has_address a) (addresses c)) node)) (resolve_means node (node_at c node))
@@ -256,8 +260,8 @@ module _ (c : ConfigValue) where
   warned NoNodes h = inl (h, refl)
   warned (NoKeys site) (s, at, is) = at_site site s at (NoKeys site) (inl (is, refl))
   warned (NoPrefixes site) (s, at, is) = at_site site s at (NoPrefixes site) (inr (inl (is, refl)))
-  warned (SamePrefix k site n) (other, (s, at, (p, here, is))) = at_site site s at (SamePrefix k site n) (inr (inr (inl (n, p, here, inl (k, other, is, refl)))))
-  warned (Inside k site n) (s, at, (p, here, is)) = at_site site s at (Inside k site n) (inr (inr (inl (n, p, here, inr (k, is, refl)))))
+  warned (SamePrefix k place) (other, (s, at, (p, here, is))) = at_site place.site s at (SamePrefix k place) (inr (inr (inl (place.prefix, p, here, inl (k, other, is, refl)))))
+  warned (Inside k place) (s, at, (p, here, is)) = at_site place.site s at (Inside k place) (inr (inr (inl (place.prefix, p, here, inr (k, is, refl)))))
   warned (NoMostRows site) (s, at, is) = at_site site s at (NoMostRows site) (inr (inr (inr (inl (is, refl)))))
   warned (ManyRouters site) (s, at, is) = at_site site s at (ManyRouters site) (inr (inr (inr (inr (is, refl)))))
   warned (NoUnicast node) (a, at, is) = at_address node a at (NoUnicast node) (inl (inl (is, refl)))

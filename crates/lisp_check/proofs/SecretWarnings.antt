@@ -1,5 +1,5 @@
 -- The first keys with secrets, found by a map; and what lists of warnings of secrets gain.
-use Rattle.std.proofs.Common.{◌≡◌, ◌∙◌, ◌<◌, ◌≤◌, ◌+◌, ℕ, Bool, true, false, cond, true≢false, List, [], ◌∷◌, ◌++◌, length, take, get_or, Option, Some, None, Bor, ap, sym, refl, append_assoc}
+use Rattle.std.proofs.Common.{◌≡◌, ◌∙◌, ℕ, Bool, true, false, cond, true≢false, List, [], ◌∷◌, ◌++◌, Option, Some, None, Bor, ap, sym, refl, append_assoc}
 use Rattle.std.specs.Prelude.{is_some}
 use Rattle.std.specs.BTreeMap.{BTreeMap, IsEmpty, Updates}
 use Rattle.std.specs.Cmp.Lexicographic.{slice_cmp}
@@ -7,24 +7,23 @@ use Rattle.std.specs.List.{find, flat_map}
 use Rattle.std.specs.Option.{option_map, option_or}
 use Rattle.std.specs.Ordering.{nat_cmp}
 use Rattle.std.specs.Str.{bytes_eq}
-use Rattle.std.proofs.lemmas.List.{flat_map_more, take_all, take_more}
-use Rattle.std.proofs.lemmas.List.Folds.{find-append}
 use Rattle.std.proofs.lemmas.Map.Text.{btree_map_updates_str}
 use Rattle.std.proofs.lemmas.Slice.Eq.{bytes_eq-Decides}
+use Rattle.lisp_policy.proofs.Found.{or_none}
 use Rattle.lisp_check.specs.declared.secret.KeyPlace.{KeyPlace}
 use Rattle.lisp_check.specs.declared.secret.SecretWarning.{SecretWarning}
-use Rattle.lisp_check.specs.Secret.{KeySecretValue, AreFirsts, AddsFirst, place_for, unless_own, other_place, is_like, first_like, short_of, same_of, of_secret}
+use Rattle.lisp_check.specs.Secret.{KeySecretValue, AreFirsts, AddsFirst, place_for, unless_own, other_place, is_like, first_like, short_of, same_of, of_secret, of_secrets}
 
 is_none : {X : Type 0} (o : Option X) → is_some o ≡ false → o ≡ None
 is_none None none = refl
 is_none (Some x) none = absurd (true≢false none)
 
-or_none : {X : Type 0} (o : Option X) → option_or o None ≡ o
-or_none None = refl
-or_none (Some x) = refl
-
 abbrev pub Places : Type 0
 Places = BTreeMap (Bor (List ℕ)) KeyPlace
+
+-- the place of the first key with a secret
+abbrev first_place : List KeySecretValue → List ℕ → Option KeyPlace
+first_place secrets secret = option_map (λ k. k.place) (find (λ k. bytes_eq k.secret secret) secrets)
 
 -- the place of a key whose secret has none
 pub new_place : (old new : Places) (key : Bor (List ℕ)) (place : KeyPlace) (s : KeySecretValue) → key.now ≡ s.secret → place ≡ s.place → is_some (place_for old key.now) ≡ false
@@ -41,30 +40,28 @@ new_place old new key place s here there none updates secret =
         ap (λ (o : Option KeyPlace). option_or o (Some place)) (sym (is_none (place_for old secret) (ap (λ (l : List ℕ). is_some (place_for old l)) (sym own) ∙ none)))
     either false same = sym (or_none (place_for old secret))
 
-pub no_firsts : (firsts : Places) → IsEmpty firsts → AreFirsts firsts []
-unfolding AreFirsts
-no_firsts firsts empty secret = rw empty refl
+-- for each secret a map has the place of its first key, or else others have the first key of all
+pub record GoesOn (firsts : Places) (others all : List KeySecretValue) : Type 0 where
+  pub on : (secret : List ℕ) → option_or (place_for firsts secret) (first_place others secret) ≡ first_place all secret
 
--- one more key
-pub one_more_first : (old new : Places) (secrets : List KeySecretValue) (i : ℕ) (s : KeySecretValue) → i < length secrets → s ≡ get_or secrets i s
-    → AreFirsts old (take i secrets) → AddsFirst old new s → AreFirsts new (take (i + 1) secrets)
-unfolding AreFirsts
-one_more_first old new secrets i s low at so_far adds secret =
-    let p : KeySecretValue → Bool = λ k. bytes_eq k.secret secret in
-    let more : take i secrets ++ s ∷ [] ≡ take (i + 1) secrets = ap (λ (k : KeySecretValue). take i secrets ++ k ∷ []) at ∙ sym (take_more secrets i s low) in
-    adds secret
-    ∙ ap (λ (o : Option KeyPlace). option_or o (cond (p s) (Some s.place) None)) (so_far secret)
-    ∙ joined (find p (take i secrets)) (p s)
-    ∙ ap (λ (o : Option KeySecretValue). option_map (λ k. k.place) o) (sym (find-append p (take i secrets) (s ∷ [])) ∙ ap (λ (l : List KeySecretValue). find p l) more)
+pub no_firsts : (firsts : Places) (secrets : List KeySecretValue) → IsEmpty firsts → GoesOn firsts secrets secrets
+no_firsts firsts secrets empty = record { on = λ secret. rw empty refl }
+
+pub one_more_first : (old new : Places) (s : KeySecretValue) (others all : List KeySecretValue) → GoesOn old (s ∷ others) all → AddsFirst old new s → GoesOn new others all
+one_more_first old new s others all so_far adds = record {
+  on = λ secret.
+      ap (λ (o : Option KeyPlace). option_or o (first_place others secret)) (adds secret) ∙ joined (place_for old secret) (bytes_eq s.secret secret) secret ∙ so_far.on secret;
+}
   where
-    joined : (o : Option KeySecretValue) (same : Bool) → option_or (option_map (λ k. k.place) o) (cond same (Some s.place) None) ≡ option_map (λ k. k.place) (option_or o (cond same (Some s) None))
-    joined None true = refl
-    joined None false = refl
-    joined (Some k) same = refl
+    joined : (o : Option KeyPlace) (same : Bool) (secret : List ℕ) → option_or (option_or o (cond same (Some s.place) None)) (first_place others secret)
+        ≡ option_or o (option_map (λ k. k.place) (cond same (Some s) (find (λ k. bytes_eq k.secret secret) others)))
+    joined (Some p) same secret = refl
+    joined None true secret = refl
+    joined None false secret = refl
 
-pub all_firsts : (firsts : Places) (secrets : List KeySecretValue) (i : ℕ) → length secrets ≤ i → AreFirsts firsts (take i secrets) → AreFirsts firsts secrets
+pub all_firsts : (firsts : Places) (secrets : List KeySecretValue) → GoesOn firsts [] secrets → AreFirsts firsts secrets
 unfolding AreFirsts
-all_firsts firsts secrets i le are secret = are secret ∙ ap (λ (l : List KeySecretValue). option_map (λ k. k.place) (find (λ k. bytes_eq k.secret secret) l)) (take_all i secrets le)
+all_firsts firsts secrets are secret = sym (or_none (place_for firsts secret)) ∙ are.on secret
 
 -- the first key with a secret
 pub first_found : (firsts : Places) (secrets : List KeySecretValue) (s : KeySecretValue) → AreFirsts firsts secrets → unless_own s.place (place_for firsts s.secret) ≡ first_like secrets s
@@ -86,9 +83,9 @@ both firsts s place first a b c here is short same secrets are =
     ∙ ap (λ (o : Option KeyPlace). (a ++ short_of s) ++ same_of s.place o) (is secrets are)
     ∙ append_assoc a (short_of s) (same_of s.place (first_like secrets s))
 
--- those of one more secret
-pub more_secrets : (firsts : Places) (all : List KeySecretValue) (a b : List SecretWarning) (i : ℕ) (s : KeySecretValue) → AreFirsts firsts all → i < length all → s ≡ get_or all i s
-    → a ≡ flat_map (of_secret all) (take i all) → ((secrets : List KeySecretValue) → AreFirsts firsts secrets → b ≡ a ++ of_secret secrets s) → b ≡ flat_map (of_secret all) (take (i + 1) all)
-more_secrets firsts all a b i s are low at so_far added =
-    added all are ∙ ap (λ (l : List SecretWarning). l ++ of_secret all s) so_far ∙ flat_map_more (of_secret all) [] (take i all) s
-    ∙ ap (λ (k : KeySecretValue). flat_map (of_secret all) (take i all ++ k ∷ [])) at ∙ ap (flat_map (of_secret all)) (sym (take_more all i s low))
+-- those of one more secret, and of the others
+pub more_secrets : (all left others : List KeySecretValue) (a b : List SecretWarning) (s : KeySecretValue) → left ≡ s ∷ others → b ≡ a ++ of_secret all s
+    → a ++ flat_map (of_secret all) left ≡ of_secrets all → b ++ flat_map (of_secret all) others ≡ of_secrets all
+more_secrets all left others a b s parts added so_far =
+    ap (λ (l : List SecretWarning). l ++ flat_map (of_secret all) others) added ∙ append_assoc a (of_secret all s) (flat_map (of_secret all) others)
+    ∙ ap (λ (l : List KeySecretValue). a ++ flat_map (of_secret all) l) (sym parts) ∙ so_far

@@ -13,6 +13,7 @@ use Rattle.lisp_policy.specs.Limits.{LimitsValue, is_at_most, lets_router, lets_
 use Rattle.lisp_policy.specs.Site.{SiteValue, is_allowed, site_of}
 use Rattle.lisp_policy.specs.Configuration.{ConfigValue, ServerEntryValue, RouterEntryValue}
 use Rattle.lisp_sites.specs.Numbers.{NodeValue, Server, Router, address_of, addresses, node_at}
+use Rattle.lisp_check.specs.declared.warning.PrefixPlace.{PrefixPlace}
 use Rattle.lisp_check.specs.declared.warning.Warning.{Warning}
 use Rattle.lisp_check.specs.declared.warning.Warning.TheVariants.{NoNodes, NoKeys, NoPrefixes, SamePrefix, Inside, NoUnicast, SameAddress, AnyItrRloc, NoItrRloc, SameIdentity, NotAllowed, OtherFamily, SameKey, NoServers, NoMostRows, ManyRouters, NotListed, OtherSource, OutOfBounds, ManyRows}
 
@@ -144,8 +145,8 @@ abbrev pub IsWarned : ConfigValue → Warning → Type 0
 IsWarned c NoNodes = IsTrue (length (addresses c) == 0)
 IsWarned c (NoKeys site) = At c.sites site (λ s. IsTrue (length s.keys == 0))
 IsWarned c (NoPrefixes site) = At c.sites site (λ s. IsTrue (length s.prefixes == 0))
-IsWarned c (SamePrefix first site place) = (first ≢ site) × AtPrefix c.sites site place (λ s p. position (has_prefix p.eid) c.sites ≡ Some first)
-IsWarned c (Inside around site place) = AtPrefix c.sites site place (λ s p. position (has_around s.id p.eid) c.sites ≡ Some around)
+IsWarned c (SamePrefix first at) = (first ≢ at.site) × AtPrefix c.sites at.site at.prefix (λ s p. position (has_prefix p.eid) c.sites ≡ Some first)
+IsWarned c (Inside around at) = AtPrefix c.sites at.site at.prefix (λ s p. position (has_around s.id p.eid) c.sites ≡ Some around)
 IsWarned c (NoUnicast node) = At (addresses c) node (λ a. IsTrue (is_no_unicast a))
 IsWarned c (SameAddress first node) = IsOther (addresses c) has_address node first
 IsWarned c (AnyItrRloc node) = AtNode c node (λ n. IsTrue (is_some (any_of n)))
@@ -177,6 +178,10 @@ abbrev pub given_if : Bool → Warning → List Warning
 given_if true warning = warning ∷ []
 given_if false warning = []
 
+abbrev pub given_of : List (Bool × Warning) → List Warning
+given_of [] = []
+given_of (one ∷ others) = given_if one.0 one.1 ++ given_of others
+
 -- that of the first of a kind, unless it is the entry at the place itself
 abbrev pub of_first : (ℕ → Warning) → Option ℕ → ℕ → List Warning
 of_first make found place = given_if (not (unwrap_or found place == place)) (make (unwrap_or found place))
@@ -190,13 +195,13 @@ abbrev pub each : {X : Type 0} → (ℕ → X → List Warning) → List X → L
 each of xs = each_from of 0 xs
 
 -- of a prefix of a site: the first site that has it, and the first other one with one around it
-abbrev pub inside_of : ℕ → ℕ → Option ℕ → List Warning
-inside_of site place (Some around) = Inside around site place ∷ []
-inside_of site place None = []
+abbrev pub inside_of : PrefixPlace → Option ℕ → List Warning
+inside_of at (Some around) = Inside around at ∷ []
+inside_of at None = []
 
 abbrev pub of_prefix : List SiteValue → ℕ → ℕ → ℕ → SitePrefix → List Warning
-of_prefix sites site id place p =
-    of_first (λ first. SamePrefix first site place) (position (has_prefix p.eid) sites) site ++ inside_of site place (position (has_around id p.eid) sites)
+of_prefix sites site id place p = of_first (λ first. SamePrefix first (record { site = site; prefix = place })) (position (has_prefix p.eid) sites) site
+    ++ inside_of (record { site = site; prefix = place }) (position (has_around id p.eid) sites)
 
 -- of a site: its keys and prefixes, then how many rows and routers it may have
 abbrev pub of_site : List SiteValue → List RouterEntryValue → ℕ → SiteValue → List Warning

@@ -3,7 +3,7 @@
 ghost use Rattle.std.specs.Prelude.{◌≡◌, IfOk, OnErr};
 ghost use Rattle.lisp_check.specs.Warning.{all_warnings};
 
-use crate::adding::warn_if;
+use crate::adding::warn_of;
 use crate::nodes::warn_of_nodes;
 use crate::routers::warn_of_routers;
 use crate::sites::warn_of_sites;
@@ -26,7 +26,7 @@ pub fn warnings<M: Memory + Copy, A: Allocator>(
     let mut warnings = Vec::new(alloc);
     let addresses = config.addresses(alloc)?;
     let addresses = addresses.as_slice();
-    warn_if(&mut warnings, addresses.is_empty(), Warning::NoNodes)?;
+    warn_of(&mut warnings, &[(addresses.is_empty(), Warning::NoNodes)])?;
     let (sites, routers) = (config.sites().as_slice(), config.routers());
     warn_of_sites(&mut warnings, sites, routers)?;
     warn_of_nodes(&mut warnings, config, addresses)?;

@@ -12,44 +12,20 @@ use toml::Value;
 /// How many letters a word that was meant may differ in.
 const MOST_EDITS: usize = 2;
 
-/// The arrays of a configuration.
-const ARRAYS: &[&str] = &["site", "server", "router"];
+/// The keys of a configuration, of a site, of a key and a prefix of it, of a Map-Server, and of a router, with a space between them.
+const ARRAYS: &str = "site server router";
 
-/// The keys of a site, of a key of it, and of a prefix of it.
-const SITE_KEYS: &[&str] = &[
-    "id",
-    "key",
-    "prefix",
-    "routers",
-    "from",
-    "least_ttl",
-    "most_ttl",
-    "most_jump",
-    "most_routers",
-    "most_rows",
-];
+const SITE_KEYS: &str =
+    "id key prefix routers from least_ttl most_ttl most_jump most_routers most_rows";
 
-const KEY_KEYS: &[&str] = &["id", "secret"];
+const KEY_KEYS: &str = "id secret";
 
-const PREFIX_KEYS: &[&str] = &["eid", "more_specifics"];
+const PREFIX_KEYS: &str = "eid more_specifics";
 
-/// The keys of a Map-Server.
-const SERVER_KEYS: &[&str] = &["name", "address", "resolve"];
+const SERVER_KEYS: &str = "name address resolve";
 
-/// The keys of a router.
-const ROUTER_KEYS: &[&str] = &[
-    "name",
-    "address",
-    "site",
-    "xtr",
-    "key",
-    "servers",
-    "proxy",
-    "use_ttl",
-    "nonce_block",
-    "records",
-    "resolve",
-];
+const ROUTER_KEYS: &str =
+    "name address site xtr key servers proxy use_ttl nonce_block records resolve";
 
 /// A key or a table of a document that no configuration has.
 #[derive(Drop)]
@@ -63,24 +39,14 @@ pub struct Unknown {
     pub words: String,
 }
 
-/// A table of a document: where it is, and the keys that it may have.
-#[derive(Drop)]
-struct Known<'a> {
-    table: &'a Value,
-    place: Place,
-    keys: &'a [&'static str],
-}
-
 /// The keys and tables of the document that no configuration has.
 pub fn unknown_keys(alloc: Global, document: &Document) -> Result<Vec<Unknown>, AllocError> {
     let mut all = Vec::new(alloc);
-    let whole = Known {
-        table: &document.value,
-        place: NOWHERE,
-        keys: ARRAYS,
-    };
-    add_unknown(&mut all, alloc, document, &whole)?;
-    add_of_sites(&mut all, alloc, document)?;
+    let whole = &document.value;
+    add_unknown(&mut all, alloc, document, whole, NOWHERE, ARRAYS)?;
+    for (index, table) in elements(whole, "site").iter().enumerate() {
+        add_of_site(&mut all, alloc, document, table, index)?;
+    }
     add_of_entries(&mut all, alloc, document, Field::Server, SERVER_KEYS)?;
     add_of_entries(&mut all, alloc, document, Field::Router, ROUTER_KEYS)?;
     Ok(all)
@@ -91,101 +57,93 @@ fn add_of_entries(
     alloc: Global,
     document: &Document,
     array: Field,
-    keys: &[&'static str],
+    keys: &'static str,
 ) -> Result<(), AllocError> {
     for (index, table) in elements(&document.value, array.name()).iter().enumerate() {
         let place = entry_place(array, index);
-        add_unknown(all, alloc, document, &Known { table, place, keys })?;
+        add_unknown(all, alloc, document, table, place, keys)?;
     }
     Ok(())
 }
 
-fn add_of_sites(
+fn add_of_site(
     all: &mut Vec<Unknown>,
     alloc: Global,
     document: &Document,
-) -> Result<(), AllocError> {
-    for (site, table) in elements(&document.value, "site").iter().enumerate() {
-        let known = Known {
-            table,
-            place: entry_place(Field::Site, site),
-            keys: SITE_KEYS,
-        };
-        add_unknown(all, alloc, document, &known)?;
-        add_of_parts(all, alloc, document, site, table, Field::SiteKey, KEY_KEYS)?;
-        add_of_parts(
-            all,
-            alloc,
-            document,
-            site,
-            table,
-            Field::SitePrefix,
-            PREFIX_KEYS,
-        )?;
-    }
-    Ok(())
-}
-
-fn add_of_parts(
-    all: &mut Vec<Unknown>,
-    alloc: Global,
-    document: &Document,
+    table: &Value,
     site: usize,
-    owner: &Value,
-    array: Field,
-    keys: &[&'static str],
 ) -> Result<(), AllocError> {
-    for (index, table) in elements(owner, array_key(array)).iter().enumerate() {
-        let place = part_place(site, array, index);
-        add_unknown(all, alloc, document, &Known { table, place, keys })?;
-    }
-    Ok(())
-}
-
-// Those of a table.
-fn add_unknown(
-    all: &mut Vec<Unknown>,
-    alloc: Global,
-    document: &Document,
-    known: &Known<'_>,
-) -> Result<(), AllocError> {
-    let Some(table) = known.table.as_table() else {
-        return Ok(());
-    };
-    for (key, value) in table.iter() {
-        let key = key.as_str();
-        if !known.keys.iter().any(|name| *name == key) {
-            all.try_push(described(alloc, document, known, key, value)?)?;
+    let place = entry_place(Field::Site, site);
+    add_unknown(all, alloc, document, table, place, SITE_KEYS)?;
+    for (array, keys) in [(Field::SiteKey, KEY_KEYS), (Field::SitePrefix, PREFIX_KEYS)] {
+        for (index, part) in elements(table, array_key(array)).iter().enumerate() {
+            let place = part_place(site, array, index);
+            add_unknown(all, alloc, document, part, place, keys)?;
         }
     }
     Ok(())
 }
 
-fn described(
+// Those of a table, which may have these keys.
+fn add_unknown(
+    all: &mut Vec<Unknown>,
     alloc: Global,
     document: &Document,
-    known: &Known<'_>,
-    key: &str,
-    value: &Value,
-) -> Result<Unknown, AllocError> {
-    let is_table = is_tables(value);
-    let line = if is_table {
-        table_line(document, known.place, key)
-    } else {
-        entry_line(document, known.place)
+    table: &Value,
+    place: Place,
+    keys: &'static str,
+) -> Result<(), AllocError> {
+    let Some(table) = table.as_table() else {
+        return Ok(());
     };
-    let place = place_words(alloc, &document.value, known.place)?;
+    for (key, value) in table.iter() {
+        let key = key.as_str();
+        if !is_among(keys, key) {
+            let is_table = is_tables(value);
+            let words = unknown_words(alloc, document, place, key, is_table, keys)?;
+            all.try_push(Unknown {
+                is_table,
+                line: unknown_line(document, place, key, is_table),
+                words,
+            })?;
+        }
+    }
+    Ok(())
+}
+
+fn is_among(keys: &str, key: &str) -> bool {
+    for name in keys.split(' ') {
+        if name == key {
+            return true;
+        }
+    }
+    false
+}
+
+fn unknown_line(document: &Document, place: Place, key: &str, is_table: bool) -> Option<usize> {
+    if is_table {
+        table_line(document, place, key)
+    } else {
+        entry_line(document, place)
+    }
+}
+
+fn unknown_words(
+    alloc: Global,
+    document: &Document,
+    place: Place,
+    key: &str,
+    is_table: bool,
+    keys: &'static str,
+) -> Result<String, AllocError> {
+    let place = place_words(alloc, &document.value, place)?;
     let what = if is_table { "table" } else { "key" };
     let mut words = String::try_format(alloc, format_args!("{place}unknown {what} "))?;
     put_key(&mut words, key)?;
-    if let Some(name) = nearest(alloc, key, known.keys)? {
+    if let Some(name) = nearest(alloc, key, keys)? {
         words.try_write(format_args!(" ({name}?)"))?;
     }
-    Ok(Unknown {
-        is_table,
-        line,
-        words,
-    })
+    Ok(words)
 }
 
 // A table, or an array that has one.
@@ -215,15 +173,15 @@ fn is_bare(key: &str) -> bool {
 fn nearest(
     alloc: Global,
     word: &str,
-    known: &[&'static str],
+    known: &'static str,
 ) -> Result<Option<&'static str>, AllocError> {
     let mut nearest = None;
     let mut least = word.len().min(MOST_EDITS + 1);
-    for candidate in known {
+    for candidate in known.split(' ') {
         let edits = levenshtein(alloc, word, candidate)?;
         if edits < least {
             least = edits;
-            nearest = Some(*candidate);
+            nearest = Some(candidate);
         }
     }
     Ok(nearest)

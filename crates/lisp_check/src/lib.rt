@@ -54,5 +54,5 @@ pub use note::{FaultNote, fault_note};
 pub use places::{secret_place, warning_place};
 pub use position::{Position, position_at};
 pub use secret::{KeyPlace, KeySecret, SecretWarning, key_secrets, secret_warnings};
-pub use warning::Warning;
+pub use warning::{PrefixPlace, Warning};
 pub use words::{lined, secret_line, warning_line};

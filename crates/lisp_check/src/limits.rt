@@ -4,7 +4,7 @@ ghost use Rattle.std.specs.Prelude.{◌≡◌, OnErr};
 ghost use Rattle.std.specs.Option.{option_map};
 ghost use Rattle.lisp_check.specs.Warning.{Adds, has_many_rows, is_not_listed, is_of_other_source, is_out_of_bounds, limits_of, of_limits, row_count};
 
-use crate::adding::warn_if;
+use crate::adding::warn_of;
 use crate::sites::is_at_most;
 use crate::warning::Warning;
 use lisp_memory::Memory;
@@ -23,21 +23,13 @@ pub(crate) fn warn_of_limits<M: Memory, A: Allocator>(
     ensures added { Adds result warnings.old warnings.new (of_limits sites.now router entry.now) }
     ensures memory { OnErr result M.may_refuse }
 {
-    warn_if(
-        warnings,
-        is_not_listed(sites, entry),
-        Warning::NotListed { router },
-    )?;
-    warn_if(
-        warnings,
-        is_of_other_source(sites, entry),
-        Warning::OtherSource { router },
-    )?;
-    warn_if(
-        warnings,
-        has_many_rows(sites, entry),
-        Warning::ManyRows { router },
-    )
+    let other_source = is_of_other_source(sites, entry);
+    let those = [
+        (is_not_listed(sites, entry), Warning::NotListed { router }),
+        (other_source, Warning::OtherSource { router }),
+        (has_many_rows(sites, entry), Warning::ManyRows { router }),
+    ];
+    warn_of(warnings, &those)
 }
 
 fn is_not_listed<A: Allocator>(sites: &Sites<A>, router: &RouterEntry<A>) -> bool

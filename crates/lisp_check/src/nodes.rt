@@ -7,7 +7,7 @@ ghost use Rattle.lisp_records.specs.Address.{addr_eq};
 ghost use Rattle.lisp_sites.specs.Numbers.{node_value};
 ghost use Rattle.lisp_check.specs.Warning.{Adds, any_of, each, is_no_unicast, lists_no_own, of_address, of_node, of_resolve, resolve_of, same_family};
 
-use crate::adding::warn_if;
+use crate::adding::warn_of;
 use crate::warning::Warning;
 use lisp_memory::Memory;
 use lisp_records::{Addr, Prefix};
@@ -44,17 +44,12 @@ fn warn_of_address<M: Memory>(
         (of_address addresses.now node address.now) }
     ensures memory { OnErr result M.may_refuse }
 {
-    warn_if(
-        warnings,
-        is_no_unicast(address),
-        Warning::NoUnicast { node },
-    )?;
     let first = first_at(addresses, address).unwrap_or(node);
-    warn_if(
-        warnings,
-        first != node,
-        Warning::SameAddress { first, node },
-    )
+    let those = [
+        (is_no_unicast(address), Warning::NoUnicast { node }),
+        (first != node, Warning::SameAddress { first, node }),
+    ];
+    warn_of(warnings, &those)
 }
 
 // Adds that a node replies to every ITR-RLOC of a family, and that it replies to none of its own.
@@ -71,12 +66,11 @@ fn warn_of_resolve<M: Memory, A: Allocator>(
     let Some(entry) = found else {
         return Ok(());
     };
-    warn_if(
-        warnings,
-        any_of(&entry).is_some(),
-        Warning::AnyItrRloc { node },
-    )?;
-    warn_if(warnings, lists_no_own(&entry), Warning::NoItrRloc { node })
+    let those = [
+        (any_of(&entry).is_some(), Warning::AnyItrRloc { node }),
+        (lists_no_own(&entry), Warning::NoItrRloc { node }),
+    ];
+    warn_of(warnings, &those)
 }
 
 // Whether no node has the address: it is unspecified, broadcast or multicast.

@@ -18,8 +18,8 @@ pub fn warning_place(config: &Config, warning: Warning) -> Place {
         | Warning::NoPrefixes { site }
         | Warning::NoMostRows { site }
         | Warning::ManyRouters { site } => entry_place(Field::Site, site),
-        Warning::SamePrefix { site, prefix, .. } | Warning::Inside { site, prefix, .. } => {
-            part_place(site, Field::SitePrefix, prefix)
+        Warning::SamePrefix { at, .. } | Warning::Inside { at, .. } => {
+            part_place(at.site, Field::SitePrefix, at.prefix)
         }
         Warning::NoUnicast { node }
         | Warning::SameAddress { node, .. }

@@ -4,8 +4,8 @@ ghost use Rattle.std.specs.Prelude.{◌≡◌, OnErr, position};
 ghost use Rattle.std.specs.List.{list_any};
 ghost use Rattle.lisp_check.specs.Warning.{Adds, each, has_around, has_prefix, inside_of, is_around, of_prefix};
 
-use crate::adding::warn_if;
-use crate::warning::Warning;
+use crate::adding::warn_of;
+use crate::warning::{PrefixPlace, Warning};
 use lisp_memory::{FallibleVec, Memory};
 use lisp_records::Prefix;
 use lisp_sites::{Site, SitePrefix};
@@ -43,35 +43,26 @@ fn warn_of_prefix<M: Memory, A: Allocator>(
         (of_prefix sites.now site id prefix entry.now) }
     ensures memory { OnErr result M.may_refuse }
 {
+    let at = PrefixPlace { site, prefix };
     let first = first_with(sites, &entry.eid).unwrap_or(site);
-    warn_if(
+    warn_of(
         warnings,
-        first != site,
-        Warning::SamePrefix {
-            first,
-            site,
-            prefix,
-        },
+        &[(first != site, Warning::SamePrefix { first, at })],
     )?;
-    warn_inside(warnings, site, prefix, first_around(sites, id, &entry.eid))
+    warn_inside(warnings, at, first_around(sites, id, &entry.eid))
 }
 
 // Adds that a prefix lies inside one of another site, where there is one.
 fn warn_inside<M: Memory>(
     warnings: &mut Vec<Warning, M>,
-    site: usize,
-    prefix: usize,
+    at: PrefixPlace,
     around: Option<usize>,
 ) -> Result<(), AllocError>
-    ensures added { Adds result warnings.old warnings.new (inside_of site prefix around) }
+    ensures added { Adds result warnings.old warnings.new (inside_of at around) }
     ensures memory { OnErr result M.may_refuse }
 {
     if let Some(around) = around {
-        warnings.try_push(Warning::Inside {
-            around,
-            site,
-            prefix,
-        })?;
+        warnings.try_push(Warning::Inside { around, at })?;
     }
     Ok(())
 }

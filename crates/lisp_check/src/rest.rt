@@ -35,11 +35,11 @@ impl Rest {
         };
         let place = placed.place;
         let left = leave_out(alloc, &mut self.document, place, field)?;
-        if left == Left::Entry {
+        if matches!(left, Left::Entry) {
             let place = self.in_text(place);
             self.left_out.try_push(place)?;
         }
-        Ok(left != Left::Nothing)
+        Ok(!matches!(left, Left::Nothing))
     }
 
     /// A place of the rest, as it is numbered in the text.
@@ -97,7 +97,7 @@ pub(crate) fn field_of(fault: ConfigFault) -> Option<Field> {
 }
 
 /// What was left out of a document.
-#[derive(Clone, Copy, PartialEq)]
+#[derive(Clone, Copy)]
 enum Left {
     Nothing,
     /// A key or a value.
@@ -155,7 +155,7 @@ fn leave_out_in(
 fn is_mended(alloc: Global, entry: &mut Value, field: Field) -> Result<bool, AllocError> {
     let key = last_part(field.name());
     if may_be_absent(field) {
-        return Ok(without_key(entry, key) != Left::Nothing);
+        return Ok(matches!(without_key(entry, key), Left::Field));
     }
     let Some(table) = entry.as_table_mut() else {
         return Ok(false);

@@ -3,7 +3,7 @@
 ghost use Rattle.std.specs.Prelude.{◌≡◌, OnErr, position};
 ghost use Rattle.lisp_check.specs.Warning.{Adds, each, is_of_other_family, is_twin, may_register, of_record, of_router, of_server, same_key};
 
-use crate::adding::warn_if;
+use crate::adding::warn_of;
 use crate::limits::{is_out_of_bounds, warn_of_limits};
 use crate::nodes::is_like;
 use crate::warning::Warning;
@@ -41,22 +41,20 @@ fn warn_of_router<M: Memory, A: Allocator>(
 {
     let routers = config.routers();
     let first = first_identical(routers, entry).unwrap_or(router);
-    warn_if(
+    warn_of(
         warnings,
-        first != router,
-        Warning::SameIdentity { first, router },
+        &[(first != router, Warning::SameIdentity { first, router })],
     )?;
     let sites = config.sites();
     warn_of_records(warnings, sites, router, entry, entry.database.records())?;
     let servers = entry.servers.as_slice();
     warn_of_servers(warnings, config.servers(), router, entry, servers)?;
     let first = first_with_key(routers, entry).unwrap_or(router);
-    warn_if(
-        warnings,
-        first != router,
-        Warning::SameKey { first, router },
-    )?;
-    warn_if(warnings, servers.is_empty(), Warning::NoServers { router })?;
+    let those = [
+        (first != router, Warning::SameKey { first, router }),
+        (servers.is_empty(), Warning::NoServers { router }),
+    ];
+    warn_of(warnings, &those)?;
     warn_of_limits(warnings, sites, router, entry)
 }
 
@@ -124,22 +122,14 @@ fn warn_of_record<M: Memory, A: Allocator>(
         (of_record sites.now router entry.now place «record».now) }
     ensures memory { OnErr result M.may_refuse }
 {
-    warn_if(
-        warnings,
-        !may_register(sites, entry.me.site, record.eid_ref()),
-        Warning::NotAllowed {
-            router,
-            record: place,
-        },
-    )?;
-    warn_if(
-        warnings,
-        is_out_of_bounds(sites, entry, record.ttl()),
-        Warning::OutOfBounds {
-            router,
-            record: place,
-        },
-    )
+    let not_allowed = !may_register(sites, entry.me.site, record.eid_ref());
+    let out_of_bounds = is_out_of_bounds(sites, entry, record.ttl());
+    let record = place;
+    let those = [
+        (not_allowed, Warning::NotAllowed { router, record }),
+        (out_of_bounds, Warning::OutOfBounds { router, record }),
+    ];
+    warn_of(warnings, &those)
 }
 
 // Whether the site of a Site-ID allows the prefix.
@@ -166,10 +156,10 @@ fn warn_of_servers<M: Memory, A: Allocator>(
 {
     for place in places {
         let server = *place;
-        warn_if(
+        let is_other = is_of_other_family(servers, entry, server);
+        warn_of(
             warnings,
-            is_of_other_family(servers, entry, server),
-            Warning::OtherFamily { router, server },
+            &[(is_other, Warning::OtherFamily { router, server })],
         )?;
     }
     Ok(())

@@ -95,8 +95,10 @@ pub fn secret_warnings(
 {
     let firsts = first_places(alloc, secrets)?;
     let mut warnings = Vec::new(alloc);
-    for secret in secrets {
+    let mut rest = secrets;
+    while let [secret, others @ ..] = rest {
         warn_of_secret(&mut warnings, &firsts, secret)?;
+        rest = others;
     }
     Ok(warnings)
 }
@@ -109,8 +111,10 @@ fn first_places<'a>(
     ensures { IfOk result (λ firsts. AreFirsts firsts secrets.now) }
 {
     let mut firsts = BTreeMap::new(alloc);
-    for secret in secrets {
+    let mut rest = secrets;
+    while let [secret, others @ ..] = rest {
         add_first(&mut firsts, secret)?;
+        rest = others;
     }
     Ok(firsts)
 }

@@ -5,7 +5,7 @@ ghost use Rattle.std.specs.List.{list_any};
 ghost use Rattle.lisp_policy.specs.Limits.{is_at_most};
 ghost use Rattle.lisp_check.specs.Warning.{Adds, each, has_more_routers, is_unbounded, may_get_many, of_site, routers_of};
 
-use crate::adding::warn_if;
+use crate::adding::warn_of;
 use crate::prefixes::warn_of_prefixes;
 use crate::warning::Warning;
 use lisp_memory::Memory;
@@ -41,19 +41,18 @@ fn warn_of_site<M: Memory, A: Allocator>(
         (of_site sites.now routers.now site entry.now) }
     ensures memory { OnErr result M.may_refuse }
 {
-    warn_if(warnings, entry.keys().is_empty(), Warning::NoKeys { site })?;
-    warn_if(
-        warnings,
-        entry.prefixes().is_empty(),
-        Warning::NoPrefixes { site },
-    )?;
+    let those = [
+        (entry.keys().is_empty(), Warning::NoKeys { site }),
+        (entry.prefixes().is_empty(), Warning::NoPrefixes { site }),
+    ];
+    warn_of(warnings, &those)?;
     warn_of_prefixes(warnings, sites, site, entry.id(), entry.prefixes())?;
-    warn_if(warnings, is_unbounded(entry), Warning::NoMostRows { site })?;
-    warn_if(
-        warnings,
-        has_more_routers(routers, entry),
-        Warning::ManyRouters { site },
-    )
+    let has_more = has_more_routers(routers, entry);
+    let those = [
+        (is_unbounded(entry), Warning::NoMostRows { site }),
+        (has_more, Warning::ManyRouters { site }),
+    ];
+    warn_of(warnings, &those)
 }
 
 // Whether a site may get many rows, and nothing bounds them.

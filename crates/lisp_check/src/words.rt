@@ -204,9 +204,9 @@ fn router_of(config: &Config, warning: Warning) -> Option<&RouterEntry> {
 // The prefix of a site, or the record of a router, that a warning is of.
 fn prefix_of(config: &Config, warning: Warning) -> Option<&Prefix> {
     match warning {
-        Warning::SamePrefix { site, prefix, .. } | Warning::Inside { site, prefix, .. } => {
-            let site = config.sites().as_slice().get(site)?;
-            Some(&site.prefixes().get(prefix)?.eid)
+        Warning::SamePrefix { at, .. } | Warning::Inside { at, .. } => {
+            let site = config.sites().as_slice().get(at.site)?;
+            Some(&site.prefixes().get(at.prefix)?.eid)
         }
         Warning::NotAllowed { router, record } | Warning::OutOfBounds { router, record } => {
             let router = config.routers().get(router)?;

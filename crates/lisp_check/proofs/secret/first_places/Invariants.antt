@@ -1,7 +1,10 @@
-use Rattle.std.proofs.Common.{take}
-use Rattle.lisp_check.specs.Secret.{AreFirsts}
+use Rattle.std.proofs.Common.{length}
+use Rattle.lisp_check.proofs.SecretWarnings.{GoesOn}
 use Rattle.lisp_check.proofs.secret.first_places.Given as goal
 
--- the first keys so far
-abbrev pub invariant-loop-secret : goal.invariant-loop-secret
-invariant-loop-secret l = AreFirsts l.firsts (take l.secret-index l.secrets)
+-- the first keys so far, and the secrets that are left
+abbrev pub invariant-loop-rest : goal.invariant-loop-rest
+invariant-loop-rest l = GoesOn l.firsts l.rest l.secrets
+
+abbrev pub decreases-loop-rest : goal.decreases-loop-rest
+decreases-loop-rest l = length l.rest
