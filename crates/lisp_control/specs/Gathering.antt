@@ -11,7 +11,7 @@ use Rattle.lisp_policy.specs.Extends.{extends}
 use Rattle.lisp_policy.specs.Site.{SiteValue, site_of}
 use Rattle.lisp_sites.specs.Table.{sites_in}
 use Rattle.lisp_lines.specs.Name.{node_name}
-use Rattle.lisp_statistics.specs.SiteCounts.{site_id_text}
+use Rattle.lisp_statistics.specs.Sample.{site_id_text}
 use Rattle.lisp_control.specs.declared.gathering.Ungathered.{Ungathered}
 use Rattle.lisp_control.specs.declared.gathering.Ungathered.TheVariants as ungathered
 

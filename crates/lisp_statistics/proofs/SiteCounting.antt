@@ -12,8 +12,8 @@ use Rattle.std.proofs.lemmas.Bool.{eq-eqb, ne_eqb}
 use Rattle.std.proofs.lemmas.List.{append-nil}
 use Rattle.lisp_records.specs.declared.router.RouterId.{RouterId}
 use Rattle.lisp_records.specs.Router.{router_cmp}
-use Rattle.lisp_statistics.proofs.Counting.{joined}
-use Rattle.lisp_statistics.specs.SiteCounts.{IsXtr, RoutersOfSite, first_router, last_router, site_id_text}
+use Rattle.lisp_statistics.specs.SiteCounts.{IsXtr, RoutersOfSite, first_router, last_router}
+use Rattle.lisp_statistics.specs.Sample.{site_id_text}
 
 -- what `{:016x}` writes
 pub site_digits : (site : ℕ) → padded_integral (format_spec 32 0 4 16 (2 ^ 64 - 1)) false [] (digits 16 false site) ≡ site_id_text site
@@ -23,12 +23,6 @@ site_digits site =
     ap (λ (n : ℕ). replicate n 48 ++ (digits 16 false site ++ [])) zeros ∙ ap (λ (t : List ℕ). replicate (16 - length (digits 16 false site)) 48 ++ t) (append-nil (digits 16 false site))
 
 pub ruleset written = (site_digits, append_assoc)
-
--- ---- the text of sites
-
--- one text behind another
-pub both_families : (old mid new rows routers : List ℕ) → mid ≡ old ++ rows → new ≡ mid ++ routers → new ≡ old ++ (rows ++ routers)
-both_families old mid new rows routers first second = second ∙ ap (λ (t : List ℕ). t ++ routers) first ∙ joined old rows routers
 
 -- ---- the routers of a site
 

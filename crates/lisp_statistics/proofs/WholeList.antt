@@ -7,7 +7,8 @@ use Rattle.std.specs.List.{filter, flat_map}
 use Rattle.std.specs.Map.{keys_of}
 use Rattle.std.specs.declared.ops.Bound.{Bound}
 use Rattle.std.specs.declared.ops.Bound.TheVariants.{Unbounded}
-use Rattle.std.proofs.lemmas.List.{append-nil, length-append}
+use Rattle.std.proofs.lemmas.Grind.{flat_map-append}
+use Rattle.std.proofs.lemmas.List.{append-nil, length-append, map-append}
 use Rattle.std.proofs.lemmas.Map.Entries.{length-keys_of}
 use Rattle.lisp_records.specs.declared.router.RouterId.{RouterId}
 use Rattle.lisp_records.specs.Router.{router_cmp}
@@ -30,19 +31,11 @@ names_from from routers = filter (range_contains router_cmp from Unbounded) rout
 
 filtered_keys : (p : RouterId → Bool) (es : List Heard) → keys_of (filter (λ e. p e.0) es) ≡ filter p (keys_of es)
 filtered_keys p [] = refl
-filtered_keys p (e ∷ es) = by (p e.0) (filtered_keys p es)
+filtered_keys p (e ∷ es) = by (p e.0) ∙ ap (λ (ks : List RouterId). cond (p e.0) (e.0 ∷ ks) ks) (filtered_keys p es)
   where
-    by : (b : Bool) → keys_of (filter (λ e. p e.0) es) ≡ filter p (keys_of es) → keys_of (cond b (e ∷ filter (λ e. p e.0) es) (filter (λ e. p e.0) es)) ≡ cond b (e.0 ∷ filter p (keys_of es)) (filter p (keys_of es))
-    by true same = ap (λ (ks : List RouterId). e.0 ∷ ks) same
-    by false same = same
-
-joined_keys : (es fs : List Heard) → keys_of (es ++ fs) ≡ keys_of es ++ keys_of fs
-joined_keys [] fs = refl
-joined_keys (e ∷ es) fs = ap (λ (ks : List RouterId). e.0 ∷ ks) (joined_keys es fs)
-
-joined_lines : (shown : Heard → List ℕ) (es fs : List Heard) → flat_map shown (es ++ fs) ≡ flat_map shown es ++ flat_map shown fs
-joined_lines shown [] fs = refl
-joined_lines shown (e ∷ es) fs = ap (λ (t : List ℕ). shown e ++ t) (joined_lines shown es fs) ∙ sym (append_assoc (shown e) (flat_map shown es) (flat_map shown fs))
+    by : (b : Bool) → keys_of (cond b (e ∷ filter (λ e. p e.0) es) (filter (λ e. p e.0) es)) ≡ cond b (e.0 ∷ keys_of (filter (λ e. p e.0) es)) (keys_of (filter (λ e. p e.0) es))
+    by true = refl
+    by false = refl
 
 all_names : (routers : List RouterId) → names_from Unbounded routers ≡ routers
 all_names [] = refl
@@ -87,7 +80,7 @@ module _ {A : Type 0} (c : ConfigValue) (number : ℕ) (shown : Heard → List �
       left_names list = filtered_keys (range_contains router_cmp list.left Unbounded) part.heard ∙ ap (names_from list.left) are.0
 
       names : names_from old.left routers ≡ keys_of taken ++ names_from new.left routers
-      names = sym (left_names old) ∙ ap keys_of are.3.1.left ∙ joined_keys taken (routers_left new part.heard) ∙ ap (λ (ks : List RouterId). keys_of taken ++ ks) (left_names new)
+      names = sym (left_names old) ∙ ap keys_of are.3.1.left ∙ map-append (λ (e : Heard). e.0) taken (routers_left new part.heard) ∙ ap (λ (ks : List RouterId). keys_of taken ++ ks) (left_names new)
 
       told : (b : Bool) → are.2 ≡ b → part.text ≡ lines ++ (if b then list_end c number routers new runs else [])
       told b its = are.3.2 ∙ (λ i. lines ++ (if its i then list_end c number (are.0 i) new runs else []))
@@ -107,11 +100,11 @@ module _ {A : Type 0} (c : ConfigValue) (number : ℕ) (shown : Heard → List �
           let last : ℕ → List ℕ = ending c number routers runs old.rows.walk.moment in
           let count = up_to_most (up_to_most (old.lines + length taken) + length more.heard) in record {
             heard = taken ++ more.heard;
-            each = joined_keys taken more.heard ∙ ap (λ (ks : List RouterId). keys_of taken ++ ks) more.each ∙ sym names;
+            each = map-append (λ (e : Heard). e.0) taken more.heard ∙ ap (λ (ks : List RouterId). keys_of taken ++ ks) more.each ∙ sym names;
             text =
                 ap (λ (t : List ℕ). t ++ texts parts) (told false its ∙ append-nil lines)
                 ∙ ap (λ (t : List ℕ). lines ++ t) (more.text ∙ ap (λ (l : RouterList A). all ++ ending c number routers runs l.rows.walk.moment (up_to_most (l.lines + length more.heard))) goes_on)
-                ∙ sym (append_assoc lines all (last count)) ∙ ap (λ (t : List ℕ). t ++ last count) (sym (joined_lines shown taken more.heard))
+                ∙ sym (append_assoc lines all (last count)) ∙ ap (λ (t : List ℕ). t ++ last count) (sym (flat_map-append shown taken more.heard))
                 ∙ ap (λ (n : ℕ). flat_map shown (taken ++ more.heard) ++ last n) (more_again old.lines (length taken) (length more.heard) ∙ ap (λ (n : ℕ). up_to_most (old.lines + n)) (sym (length-append taken more.heard)));
           }
 

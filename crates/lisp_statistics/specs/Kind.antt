@@ -1,10 +1,7 @@
 -- Which lines are counted together: those of one first word, and of refusals those of one number.
-use Rattle.std.specs.Prelude.{◌≡◌, ℕ, ◌+◌, ◌<◌, List, ◌++◌, codes, Option, Some, None}
+use Rattle.std.specs.Prelude.{◌≡◌, ℕ, ◌+◌, ◌<◌, List, codes, Option, Some, None}
 use Rattle.std.specs.declared.cmp.Ordering.{Ordering}
 use Rattle.std.specs.declared.cmp.Ordering.TheVariants.{Less}
-use Rattle.lisp_records.specs.declared.address.Addr.{Addr}
-use Rattle.lisp_records.specs.Address.{PrefixValue}
-use Rattle.lisp_lines.specs.Parts.{verb}
 use Rattle.lisp_model.specs.Faults.{refusal_number}
 use Rattle.lisp_model.specs.declared.line.Line.{Line}
 use Rattle.lisp_model.specs.declared.line.Line.TheVariants as lines
@@ -14,7 +11,7 @@ use Rattle.lisp_mapping.specs.Unasked.{unasked_number}
 use Rattle.lisp_turns.specs.Outside.{call_number}
 use Rattle.lisp_turns.specs.declared.outside.Printed.{Printed}
 use Rattle.lisp_turns.specs.declared.outside.Printed.TheVariants as printed
-use Rattle.lisp_log.specs.Text.{asked_words, over_budget_number}
+use Rattle.lisp_log.specs.Text.{over_budget_number}
 use Rattle.lisp_statistics.specs.declared.kind.LineKind.{LineKind}
 use Rattle.lisp_statistics.specs.declared.kind.LineKind.TheVariants as kinds
 
@@ -79,15 +76,6 @@ kind_word (kinds.Refused number) = codes "refused"
 abbrev pub kind_number : LineKind → Option ℕ
 kind_number (kinds.Refused number) = Some number
 kind_number _ = None
-
--- it is the first word of the text of each of them
-abbrev pub WordsBeginLines : Type 0
-WordsBeginLines = (line : Line) (kind : LineKind) → kind_of_line line ≡ Some kind → verb line ≡ kind_word kind
-
--- and of what is said of an EID-Prefix that a Map-Request asks for
-abbrev pub WordsBeginAsked : Type 0
-WordsBeginAsked = (name : List ℕ) (eid : PrefixValue) (to : Addr) (outcome : Outcome)
-    → (rest : List ℕ) × (asked_words name eid to outcome ≡ kind_word (kind_of_outcome outcome) ++ codes " " ++ rest)
 
 -- where a kind stands among those that are told: by its word, and refusals behind all others
 abbrev pub kind_place : LineKind → ℕ

@@ -2,8 +2,9 @@ pub mod Kind
 pub mod Hearing
 pub mod LastRefusals
 pub mod Statistics
+pub mod Metric
 pub mod Gauge
-pub mod StartTime
+pub mod Sample
 pub mod Counts
 pub mod Replays
 pub mod Never

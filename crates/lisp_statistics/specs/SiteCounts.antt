@@ -1,7 +1,6 @@
 -- What is held of sites: how many live rows, and how many routers have them.
-use Rattle.std.specs.Prelude.{◌≡◌, ℕ, ◌-◌, ◌<◌, ◌==◌, Bool, true, false, ◌||◌, List, [], ◌∷◌, ◌++◌, length, replicate, codes, if◌then◌else◌}
+use Rattle.std.specs.Prelude.{◌≡◌, ℕ, ◌<◌, ◌==◌, Bool, true, ◌||◌, List, [], ◌++◌, length, replicate, if◌then◌else◌}
 use Rattle.std.specs.BTreeMap.Range.{entries_between}
-use Rattle.std.specs.Fmt.{decimal, digits}
 use Rattle.std.specs.List.{AllByRecursion, filter, flat_map, sum_by}
 use Rattle.std.specs.Option.{is_some}
 use Rattle.std.specs.declared.ops.Bound.TheVariants.{Included}
@@ -11,9 +10,13 @@ use Rattle.lisp_records.specs.Router.{router_cmp}
 use Rattle.lisp_lines.specs.Walk.{up_to_most}
 use Rattle.lisp_statistics.specs.declared.counts.Format.{Format}
 use Rattle.lisp_statistics.specs.declared.counts.Format.TheVariants as formats
+use Rattle.lisp_statistics.specs.declared.metrics.TheConstants.{SITE_ROUTERS, SITE_ROWS}
+use Rattle.lisp_statistics.specs.declared.sample.Label.TheVariants.{Site}
 use Rattle.lisp_statistics.specs.declared.site_counts.Held.{Held}
 use Rattle.lisp_statistics.specs.declared.site_counts.SiteShape.{SiteShape}
 use Rattle.lisp_statistics.specs.declared.site_counts.SiteShape.TheVariants as shapes
+use Rattle.lisp_statistics.specs.Metric.{Texts, texts}
+use Rattle.lisp_statistics.specs.Sample.{count_text, head_text}
 
 -- a site has a limit on its routers or rows
 abbrev pub is_limited : SiteValue → Bool
@@ -54,23 +57,10 @@ RoutersOfSite = (counts : List (RouterId × ℕ)) (site : ℕ) → AllByRecursio
 
 -- ---- its text
 
--- a Site-ID as 16 lower case hexadecimal digits: before those of the number come zeros (48)
-abbrev pub site_id_text : ℕ → List ℕ
-site_id_text site = replicate (16 - length (digits 16 false site)) 48 ++ digits 16 false site
-
-abbrev pub site_line : List ℕ → ℕ → List ℕ → ℕ → List ℕ
-site_line name site word count = codes "counts " ++ name ++ codes " site " ++ site_id_text site ++ codes " " ++ word ++ codes " " ++ decimal count ++ 10 ∷ []
-
-abbrev pub site_lines : List ℕ → ℕ → Held → List ℕ
-site_lines name site held = site_line name site (codes "rows") held.rows ++ site_line name site (codes "routers") held.routers
-
-abbrev pub site_sample : List ℕ → List ℕ → ℕ → ℕ → List ℕ
-site_sample metric name site count = metric ++ codes "{node=\"" ++ name ++ codes "\",site=\"" ++ site_id_text site ++ codes "\"} " ++ decimal count ++ 10 ∷ []
-
 abbrev pub held_text : SiteShape → List ℕ → ℕ → Held → List ℕ
-held_text shapes.Lines name site held = site_lines name site held
-held_text shapes.Rows name site held = site_sample (codes "lisp_site_rows") name site held.rows
-held_text shapes.Routers name site held = site_sample (codes "lisp_site_routers") name site held.routers
+held_text shapes.Lines node site held = count_text formats.Lines (texts SITE_ROWS) node (Site site) held.rows ++ count_text formats.Lines (texts SITE_ROUTERS) node (Site site) held.routers
+held_text shapes.Rows node site held = count_text formats.Prometheus (texts SITE_ROWS) node (Site site) held.rows
+held_text shapes.Routers node site held = count_text formats.Prometheus (texts SITE_ROUTERS) node (Site site) held.routers
 
 -- of a site without such a limit nothing is printed but the sample of its rows
 abbrev pub is_told : SiteShape → SiteValue → Bool
@@ -78,23 +68,16 @@ is_told shapes.Rows site = true
 is_told _ site = is_limited site
 
 abbrev pub site_text : SiteShape → List ℕ → List (RouterId × ℕ) → SiteValue → List ℕ
-site_text shape name counts site = if is_told shape site then held_text shape name site.id (held_of counts site.id) else []
+site_text shape node counts site = if is_told shape site then held_text shape node site.id (held_of counts site.id) else []
 
 -- ---- the text of all sites, in their order
 
--- what helps to read the samples, and their type
-abbrev pub rows_head : List ℕ
-rows_head = codes "# HELP lisp_site_rows Live rows of each site.\n# TYPE lisp_site_rows gauge\n"
+abbrev pub site_family : SiteShape → Texts → List ℕ → List SiteValue → List (RouterId × ℕ) → List ℕ
+site_family shape metric node sites counts = head_text formats.Prometheus metric ++ flat_map (site_text shape node counts) sites
 
-abbrev pub site_routers_head : List ℕ
-site_routers_head = codes "# HELP lisp_site_routers Routers with live rows of each site that has a limit on its rows or routers.\n# TYPE lisp_site_routers gauge\n"
-
-abbrev pub site_family : List ℕ → SiteShape → List ℕ → List SiteValue → List (RouterId × ℕ) → List ℕ
-site_family head shape name sites counts = head ++ flat_map (site_text shape name counts) sites
-
-abbrev pub site_families : List ℕ → List SiteValue → List (RouterId × ℕ) → List ℕ
-site_families name sites counts = site_family rows_head shapes.Rows name sites counts ++ site_family site_routers_head shapes.Routers name sites counts
+abbrev pub site_samples : List ℕ → List SiteValue → List (RouterId × ℕ) → List ℕ
+site_samples node sites counts = site_family shapes.Rows (texts SITE_ROWS) node sites counts ++ site_family shapes.Routers (texts SITE_ROUTERS) node sites counts
 
 abbrev pub site_counts_text : Format → List ℕ → List SiteValue → List (RouterId × ℕ) → List ℕ
-site_counts_text formats.Lines name sites counts = flat_map (site_text shapes.Lines name counts) sites
-site_counts_text formats.Prometheus name sites counts = site_families name sites counts
+site_counts_text formats.Lines node sites counts = flat_map (site_text shapes.Lines node counts) sites
+site_counts_text formats.Prometheus node sites counts = site_samples node sites counts

@@ -8,7 +8,7 @@ use lisp_records::{Addr, RouterId};
 use lisp_turns::Printed;
 
 /// A Map-Register that a Map-Server accepted of a router.
-#[derive(Clone, Copy, Debug, PartialEq, Eq)]
+#[derive(Clone, Copy)]
 pub struct Hearing {
     /// Where it came from.
     pub from: Addr,

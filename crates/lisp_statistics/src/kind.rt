@@ -9,7 +9,7 @@ use lisp_model::Line;
 use lisp_turns::Printed;
 
 /// Lines that are counted together: those of one first word, and of refusals those of one number.
-#[derive(Clone, Copy, Debug, PartialEq, Eq, PartialOrd, Ord)]
+#[derive(Clone, Copy, PartialEq, Eq, PartialOrd, Ord)]
 pub enum LineKind {
     /// A Map-Server accepted a Map-Register.
     Accepted,

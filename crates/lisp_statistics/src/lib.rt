@@ -35,14 +35,15 @@ mod gauge;
 // The text of both.
 mod counts;
 pub mod laws;
+mod metrics;
 mod never;
 mod replays;
 mod router_list;
 mod router_metrics;
 mod routers;
+mod sample;
 mod site_counts;
 mod site_refusals;
-mod start_time;
 
 pub use counts::{Format, counts_text};
 pub use gathering::Gathering;

@@ -104,7 +104,7 @@ pub(crate) fn registers_with<E: Allocator>(router: &RouterEntry<E>, number: usiz
 }
 
 // Whether a router is among those that were heard.
-#[tactic(auto, using(crate::proofs::Silent::among))]
+#[tactic(auto, using(crate::proofs::Counting::among))]
 fn is_among<B: Memory + Copy>(heard: &BTreeMap<RouterId, Hearing, B>, me: &RouterId) -> bool
     ensures { result ≡ is_among (keys_of heard.now.entries) me.now }
 {

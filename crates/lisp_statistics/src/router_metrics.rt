@@ -1,12 +1,15 @@
 //! The metrics of the configured routers that register with a Map-Server.
 
 ghost use Rattle.std.specs.Prelude.{◌≡◌, OnErr};
-ghost use Rattle.std.specs.List.{flat_map};
 ghost use Rattle.lisp_lines.specs.Front.{Adds};
-ghost use Rattle.lisp_statistics.specs.RouterMetrics.{metric_head, metric_name, metric_sample, metric_unit, metric_value, registered_sample, router_families, router_family, router_labels, router_metrics_text, value_words};
+ghost use Rattle.lisp_statistics.specs.Metric.{texts_of};
+ghost use Rattle.lisp_statistics.specs.RouterMetrics.{registered_sample, router_families, router_family, router_label, router_metric, router_metrics_text, router_value};
+ghost use Rattle.lisp_statistics.specs.Sample.{sample_text};
 
 use crate::counts::Format;
+use crate::metrics::{Metric, ROUTER_AGE, ROUTER_LAST_NONCE, ROUTER_LAST_REFUSAL};
 use crate::never::registers_with;
+use crate::sample::{put_head, put_node, put_value};
 use crate::statistics::Statistics;
 use lisp_lines::node_name;
 use lisp_memory::{FallibleString, Memory};
@@ -24,50 +27,26 @@ enum RouterMetric {
     LastRefusal,
 }
 
-// All of them, in the order in which they are told.
-const ROUTER_METRICS: [RouterMetric; 3] = [
-    RouterMetric::Age,
-    RouterMetric::LastNonce,
-    RouterMetric::LastRefusal,
-];
-
 impl RouterMetric {
-    // What stands before its samples.
-    fn head(&self) -> &'static str
-        ensures { result.now ≡ metric_head self.now }
+    // What it is to Prometheus.
+    fn metric(self) -> Metric
+        ensures { texts_of result ≡ router_metric self }
     {
         match self {
-            RouterMetric::Age => {
-                "# HELP lisp_router_age_seconds How long ago the last accepted Map-Register of the router came.\n# TYPE lisp_router_age_seconds gauge\n"
-            }
-            RouterMetric::LastNonce => {
-                "# HELP lisp_router_last_nonce The nonce of the last accepted Map-Register of the router; above 2^53 Prometheus rounds it.\n# TYPE lisp_router_last_nonce gauge\n"
-            }
-            RouterMetric::LastRefusal => {
-                "# HELP lisp_router_last_refusal The number of the last refusal of a datagram from the address of the router since the start, whoever sent it.\n# TYPE lisp_router_last_refusal gauge\n"
-            }
-        }
-    }
-
-    // Its name.
-    fn name(&self) -> &'static str
-        ensures { result.now ≡ metric_name self.now }
-    {
-        match self {
-            RouterMetric::Age => "lisp_router_age_seconds",
-            RouterMetric::LastNonce => "lisp_router_last_nonce",
-            RouterMetric::LastRefusal => "lisp_router_last_refusal",
+            RouterMetric::Age => ROUTER_AGE,
+            RouterMetric::LastNonce => ROUTER_LAST_NONCE,
+            RouterMetric::LastRefusal => ROUTER_LAST_REFUSAL,
         }
     }
 
     // Its value of a router at a moment, in ms; `None` where the router wasn't heard, or nothing from its address was refused.
     fn value<B: Memory + Copy, E: Allocator>(
-        &self,
+        self,
         statistics: &Statistics<B>,
         router: &RouterEntry<E>,
         now: u64,
     ) -> Option<u64>
-        ensures { result ≡ metric_value self.now statistics.now router.now now }
+        ensures { result ≡ router_value self statistics.now router.now now }
     {
         match self {
             RouterMetric::Age => {
@@ -79,16 +58,6 @@ impl RouterMetric {
                 let number = statistics.last_refusals.number(&router.address)?;
                 Some(u64::from(number))
             }
-        }
-    }
-
-    // What is behind its value: Prometheus wants seconds.
-    fn unit(&self) -> &'static str
-        ensures { result.now ≡ metric_unit self.now }
-    {
-        match self {
-            RouterMetric::Age => "e-3",
-            _ => "",
         }
     }
 }
@@ -117,6 +86,7 @@ pub fn put_router_metrics<A: Memory, B: Memory + Copy, E: Allocator>(
 }
 
 // Appends all metrics of these routers. Out of memory, it may leave a part of them.
+#[tactic(auto, using(crate::proofs::Counting::steps))]
 fn put_router_families<A: Memory, B: Memory + Copy, E: Allocator>(
     text: &mut String<A>,
     node: &str,
@@ -129,10 +99,11 @@ fn put_router_families<A: Memory, B: Memory + Copy, E: Allocator>(
         (router_families node.now number statistics.now now routers.now) }
     ensures memory { OnErr result A.may_refuse }
 {
-    for metric in &ROUTER_METRICS {
-        put_router_family(text, *metric, node, number, routers, statistics, now)?;
-    }
-    Ok(())
+    let (age, nonce) = (RouterMetric::Age, RouterMetric::LastNonce);
+    put_router_family(text, age, node, number, routers, statistics, now)?;
+    put_router_family(text, nonce, node, number, routers, statistics, now)?;
+    let refusal = RouterMetric::LastRefusal;
+    put_router_family(text, refusal, node, number, routers, statistics, now)
 }
 
 // Appends a metric of these routers, behind its head. Out of memory, it may leave a part of it.
@@ -149,24 +120,7 @@ fn put_router_family<A: Memory, B: Memory + Copy, E: Allocator>(
         (router_family metric node.now number statistics.now now routers.now) }
     ensures memory { OnErr result A.may_refuse }
 {
-    text.try_write(metric.head())?;
-    put_router_samples(text, metric, node, number, routers, statistics, now)
-}
-
-// Appends the samples of these routers. Out of memory, it may leave a part of them.
-fn put_router_samples<A: Memory, B: Memory + Copy, E: Allocator>(
-    text: &mut String<A>,
-    metric: RouterMetric,
-    node: &str,
-    number: usize,
-    routers: &[RouterEntry<E>],
-    statistics: &Statistics<B>,
-    now: u64,
-) -> Result<(), AllocError>
-    ensures text { Adds result text.old text.new
-        (flat_map (registered_sample metric node.now number statistics.now now) routers.now) }
-    ensures memory { OnErr result A.may_refuse }
-{
+    put_head(text, Format::Prometheus, &metric.metric())?;
     for router in routers {
         put_registered_sample(text, metric, node, number, router, statistics, now)?;
     }
@@ -192,55 +146,25 @@ fn put_registered_sample<A: Memory, B: Memory + Copy, E: Allocator>(
         return Ok(());
     }
     match metric.value(statistics, router, now) {
-        Some(value) => put_metric_sample(
-            text,
-            metric.name(),
-            node,
-            router.name.as_str(),
-            value,
-            metric.unit(),
-        ),
+        Some(value) => put_sample(text, &metric.metric(), node, router.name.as_str(), value),
         None => Ok(()),
     }
 }
 
 // Appends a sample of a router. Out of memory, it may leave a part of it.
-fn put_metric_sample<A: Memory>(
+#[tactic(auto, using(crate::proofs::Counting::steps))]
+fn put_sample<A: Memory>(
     text: &mut String<A>,
-    metric: &str,
+    metric: &Metric,
     node: &str,
     router: &str,
     value: u64,
-    unit: &str,
 ) -> Result<(), AllocError>
     ensures text { Adds result text.old text.new
-        (metric_sample metric.now node.now router.now value unit.now) }
+        (sample_text (texts_of metric.now) node.now (router_label router.now) value) }
     ensures memory { OnErr result A.may_refuse }
 {
-    put_router_labels(text, metric, node, router)?;
-    put_value(text, value, unit)
-}
-
-// Appends the name of a sample, with its node and its router. Out of memory, it may leave a part of it.
-#[tactic(auto, using(crate::proofs::Counting::steps))]
-fn put_router_labels<A: Memory>(
-    text: &mut String<A>,
-    metric: &str,
-    node: &str,
-    router: &str,
-) -> Result<(), AllocError>
-    ensures text { Adds result text.old text.new
-        (router_labels metric.now node.now router.now) }
-    ensures memory { OnErr result A.may_refuse }
-{
-    text.try_write(format_args!("{metric}{{node=\"{node}\",router=\"{router}\"}} "))
-}
-
-// Appends the value of a sample. Out of memory, it may leave a part of it.
-#[tactic(auto, using(crate::proofs::Counting::steps))]
-fn put_value<A: Memory>(text: &mut String<A>, value: u64, unit: &str) -> Result<(), AllocError>
-    ensures text { Adds result text.old text.new (value_words value unit.now) }
-    ensures memory { OnErr result A.may_refuse }
-{
-    text.try_write(format_args!("{value}{unit}\n"))
+    put_node(text, metric, node)?;
+    text.try_write(format_args!(",router=\"{router}\""))?;
+    put_value(text, metric, value)
 }

@@ -4,12 +4,15 @@ ghost use Rattle.std.specs.Prelude.{◌≡◌, OnErr};
 ghost use Rattle.std.specs.List.{flat_map};
 ghost use Rattle.lisp_lines.specs.Front.{Adds};
 ghost use Rattle.lisp_lines.specs.Name.{node_name};
-ghost use Rattle.lisp_statistics.specs.SiteCounts.{held_of, held_text, is_limited, is_told, site_counts_text, site_families, site_family, site_line, site_lines, site_sample, site_text};
+ghost use Rattle.lisp_statistics.specs.Metric.{texts_of};
+ghost use Rattle.lisp_statistics.specs.SiteCounts.{held_of, held_text, is_limited, is_told, site_counts_text, site_family, site_samples, site_text};
 
 use crate::counts::Format;
 use crate::gathering::Gathering;
+use crate::metrics::{Metric, SITE_ROUTERS, SITE_ROWS};
+use crate::sample::{Label, put_count, put_head};
 use lisp_lines::node_name;
-use lisp_memory::{FallibleString, Memory};
+use lisp_memory::Memory;
 use lisp_policy::{Site, Sites};
 use lisp_records::RouterId;
 use lisp_sites::Config;
@@ -37,14 +40,6 @@ enum SiteShape {
     Routers,
 }
 
-// What stands before the samples of rows.
-const ROWS_HEAD: &str =
-    "# HELP lisp_site_rows Live rows of each site.\n# TYPE lisp_site_rows gauge\n";
-
-// And before those of routers.
-const ROUTERS_HEAD: &str =
-    "# HELP lisp_site_routers Routers with live rows of each site that has a limit on its rows or routers.\n# TYPE lisp_site_routers gauge\n";
-
 /// Appends how many live rows each of these sites has that has a limit on its routers or rows, and how many routers have them, by the rows
 /// of the Map-Server with a number that were counted: in lines `counts NAME site SITE-ID rows COUNT` and
 /// `counts NAME site SITE-ID routers COUNT`, in the order of the sites; or as metrics, which have the rows of the other sites too. Out of
@@ -62,60 +57,62 @@ pub fn put_site_counts<A: Memory, C: Memory + Copy, E: Allocator, F: Allocator>(
         rows.now.routers.entries) }
     ensures memory { OnErr result A.may_refuse }
 {
-    let name = node_name(config, number);
+    let node = node_name(config, number);
     let sites = sites.as_slice();
     match format {
-        Format::Lines => put_sites(text, SiteShape::Lines, name, sites, &rows.routers),
-        Format::Prometheus => put_site_families(text, name, sites, &rows.routers),
+        Format::Lines => put_sites(text, SiteShape::Lines, node, sites, &rows.routers),
+        Format::Prometheus => put_site_samples(text, node, sites, &rows.routers),
     }
 }
 
 // Appends the samples of rows, and those of routers. Out of memory, it may leave a part of them.
-fn put_site_families<A: Memory, C: Memory + Copy, E: Allocator>(
+#[tactic(auto, using(crate::proofs::Counting::steps))]
+fn put_site_samples<A: Memory, C: Memory + Copy, E: Allocator>(
     text: &mut String<A>,
-    name: &str,
+    node: &str,
     sites: &[Site<E>],
     counts: &BTreeMap<RouterId, u64, C>,
 ) -> Result<(), AllocError>
     ensures text { Adds result text.old text.new
-        (site_families name.now sites.now counts.now.entries) }
+        (site_samples node.now sites.now counts.now.entries) }
     ensures memory { OnErr result A.may_refuse }
 {
-    put_site_family(text, ROWS_HEAD, SiteShape::Rows, name, sites, counts)?;
-    put_site_family(text, ROUTERS_HEAD, SiteShape::Routers, name, sites, counts)
+    put_family(text, SiteShape::Rows, &SITE_ROWS, node, sites, counts)?;
+    put_family(text, SiteShape::Routers, &SITE_ROUTERS, node, sites, counts)
 }
 
-// Appends samples after their head. Out of memory, it may leave a part of them.
-fn put_site_family<A: Memory, C: Memory + Copy, E: Allocator>(
+// Appends samples behind the head of their metric. Out of memory, it may leave a part of them.
+#[tactic(auto, using(crate::proofs::Counting::steps))]
+fn put_family<A: Memory, C: Memory + Copy, E: Allocator>(
     text: &mut String<A>,
-    head: &str,
     shape: SiteShape,
-    name: &str,
+    metric: &Metric,
+    node: &str,
     sites: &[Site<E>],
     counts: &BTreeMap<RouterId, u64, C>,
 ) -> Result<(), AllocError>
     ensures text { Adds result text.old text.new
-        (site_family head.now shape name.now sites.now counts.now.entries) }
+        (site_family shape (texts_of metric.now) node.now sites.now counts.now.entries) }
     ensures memory { OnErr result A.may_refuse }
 {
-    text.try_write(head)?;
-    put_sites(text, shape, name, sites, counts)
+    put_head(text, Format::Prometheus, metric)?;
+    put_sites(text, shape, node, sites, counts)
 }
 
 // Appends what is held of each site that is told in a shape. Out of memory, it may leave a part of it.
 fn put_sites<A: Memory, C: Memory + Copy, E: Allocator>(
     text: &mut String<A>,
     shape: SiteShape,
-    name: &str,
+    node: &str,
     sites: &[Site<E>],
     counts: &BTreeMap<RouterId, u64, C>,
 ) -> Result<(), AllocError>
     ensures text { Adds result text.old text.new
-        (flat_map (site_text shape name.now counts.now.entries) sites.now) }
+        (flat_map (site_text shape node.now counts.now.entries) sites.now) }
     ensures memory { OnErr result A.may_refuse }
 {
     for site in sites {
-        put_site(text, shape, name, site, counts)?;
+        put_site(text, shape, node, site, counts)?;
     }
     Ok(())
 }
@@ -124,16 +121,16 @@ fn put_sites<A: Memory, C: Memory + Copy, E: Allocator>(
 fn put_site<A: Memory, C: Memory + Copy, E: Allocator>(
     text: &mut String<A>,
     shape: SiteShape,
-    name: &str,
+    node: &str,
     site: &Site<E>,
     counts: &BTreeMap<RouterId, u64, C>,
 ) -> Result<(), AllocError>
     ensures text { Adds result text.old text.new
-        (site_text shape name.now counts.now.entries site.now) }
+        (site_text shape node.now counts.now.entries site.now) }
     ensures memory { OnErr result A.may_refuse }
 {
     if is_told(shape, site) {
-        put_held(text, shape, name, site.id(), held_of(counts, site.id()))
+        put_held(text, shape, node, site.id(), held_of(counts, site.id()))
     } else {
         Ok(())
     }
@@ -175,63 +172,33 @@ fn held_of<C: Memory + Copy>(counts: &BTreeMap<RouterId, u64, C>, site: u64) -> 
 }
 
 // Appends what is held of a site, in a shape. Out of memory, it may leave a part of it.
+#[tactic(auto, using(crate::proofs::Counting::steps))]
 fn put_held<A: Memory>(
     text: &mut String<A>,
     shape: SiteShape,
-    name: &str,
+    node: &str,
     site: u64,
     held: Held,
 ) -> Result<(), AllocError>
-    ensures text { Adds result text.old text.new (held_text shape name.now site held) }
+    ensures text { Adds result text.old text.new (held_text shape node.now site held) }
     ensures memory { OnErr result A.may_refuse }
 {
+    let (label, Held { rows, routers }) = (Label::Site(site), held);
     match shape {
-        SiteShape::Lines => put_site_lines(text, name, site, held),
-        SiteShape::Rows => put_site_sample(text, "lisp_site_rows", name, site, held.rows),
-        SiteShape::Routers => put_site_sample(text, "lisp_site_routers", name, site, held.routers),
+        SiteShape::Lines => {
+            put_count(text, Format::Lines, &SITE_ROWS, node, label, rows)?;
+            put_count(text, Format::Lines, &SITE_ROUTERS, node, label, routers)
+        }
+        SiteShape::Rows => put_count(text, Format::Prometheus, &SITE_ROWS, node, label, rows),
+        SiteShape::Routers => {
+            put_count(
+                text,
+                Format::Prometheus,
+                &SITE_ROUTERS,
+                node,
+                label,
+                routers,
+            )
+        }
     }
-}
-
-// Appends the lines of a site. Out of memory, it may leave a part of them.
-fn put_site_lines<A: Memory>(
-    text: &mut String<A>,
-    name: &str,
-    site: u64,
-    held: Held,
-) -> Result<(), AllocError>
-    ensures text { Adds result text.old text.new (site_lines name.now site held) }
-    ensures memory { OnErr result A.may_refuse }
-{
-    put_site_line(text, name, site, "rows", held.rows)?;
-    put_site_line(text, name, site, "routers", held.routers)
-}
-
-// Appends a line of a site. Out of memory, it may leave a part of it.
-#[tactic(auto, using(crate::proofs::SiteCounting::written))]
-fn put_site_line<A: Memory>(
-    text: &mut String<A>,
-    name: &str,
-    site: u64,
-    word: &str,
-    count: u64,
-) -> Result<(), AllocError>
-    ensures text { Adds result text.old text.new (site_line name.now site word.now count) }
-    ensures memory { OnErr result A.may_refuse }
-{
-    text.try_write(format_args!("counts {name} site {site:016x} {word} {count}\n"))
-}
-
-// Appends a sample of a site. Out of memory, it may leave a part of it.
-#[tactic(auto, using(crate::proofs::SiteCounting::written))]
-fn put_site_sample<A: Memory>(
-    text: &mut String<A>,
-    metric: &str,
-    name: &str,
-    site: u64,
-    count: u64,
-) -> Result<(), AllocError>
-    ensures text { Adds result text.old text.new (site_sample metric.now name.now site count) }
-    ensures memory { OnErr result A.may_refuse }
-{
-    text.try_write(format_args!("{metric}{{node=\"{name}\",site=\"{site:016x}\"}} {count}\n"))
 }
