@@ -80,13 +80,10 @@ pub record Found (since : List Acceptance) (router : RouterId) (eid : PrefixValu
 
 found_in : (since : List Acceptance) (router : RouterId) (eid : PrefixValue) (g : RowValue) → find (is_row_of router eid) (accepted_rows since) ≡ Some g → Found since router eid g
 found_in [] router eid g e = absurd (none-some _ e)
-found_in (a ∷ since) router eid g e = at (find_either (is_row_of router eid) (reverse (row_values a.message a.from a.moment)) (accepted_rows since) g e) (found_in since router eid g)
-  where
-    at : (find (is_row_of router eid) (reverse (row_values a.message a.from a.moment)) ≡ Some g) ⊎ (find (is_row_of router eid) (accepted_rows since) ≡ Some g) → (find (is_row_of router eid) (accepted_rows since) ≡ Some g → Found since router eid g) → Found (a ∷ since) router eid g
-    at (inl here) later =
-        let one = find_map (row_value a.message a.from a.moment) (is_row_of router eid) (reverse a.message.records) g (ap (find (is_row_of router eid)) (turned (row_value a.message a.from a.moment) a.message.records) ∙ here) in
-        record { acceptance = a; taken = at_head a since; mapping = one.value; last = one.found; is = one.is }
-    at (inr there) later = let f = later there in record { acceptance = f.acceptance; taken = in_tail a since f.acceptance f.taken; mapping = f.mapping; last = f.last; is = f.is }
+found_in (a ∷ since) router eid g e = cases (find_either (is_row_of router eid) (reverse (row_values a.message a.from a.moment)) (accepted_rows since) g e)
+    (λ here. let one = find_map (row_value a.message a.from a.moment) (is_row_of router eid) (reverse a.message.records) g (ap (find (is_row_of router eid)) (turned (row_value a.message a.from a.moment) a.message.records) ∙ here) in
+    record { acceptance = a; taken = at_head a since; mapping = one.value; last = one.found; is = one.is })
+    (λ there. let f = found_in since router eid g there in record { acceptance = f.acceptance; taken = in_tail a since f.acceptance f.taken; mapping = f.mapping; last = f.last; is = f.is })
 
 pub held_found : (since : List Acceptance) (router : RouterId) (eid : PrefixValue) (now : ℕ) (g : RowValue) → held_row since router eid now ≡ Some g → Found since router eid g
 held_found since router eid now g e = at (find (is_row_of router eid) (accepted_rows since)) refl e

@@ -43,7 +43,6 @@ use Rattle.std.proofs.lemmas.List.Elements.{All-from_recursion}
 use Rattle.lisp_records.specs.Address.{PrefixValue, masked}
 use Rattle.lisp_records.specs.Database.{repeats as repeats_in}
 use Rattle.lisp_policy.specs.Limits.{no_limits}
-use Rattle.lisp_policy.specs.Site.{SiteValue}
 use Rattle.lisp_policy.specs.declared.full.Full.TheVariants.{Routers, Rows}
 use Rattle.lisp_lookup.proofs.GrowthLaws.{full_or_fits}
 use Rattle.lisp_lookup.specs.Growth.{HasRow, IsFull}
@@ -637,14 +636,11 @@ server_twice n = n.servers.1.0.once 0 1 0 (omega arith) (omega arith) refl
 -- ---- the network, and its trace
 
 -- the site may have one live row; the first router has two records
-abbrev bounded : SiteValue
-bounded = record site { limits = record no_limits { most_rows = Some 1 } }
-
 abbrev two_records : List MapRecordValue
 two_records = mapping wide 1440 ∷ mapping narrow 1440 ∷ []
 
 abbrev limited : Opening
-limited = record opening { config = record network { sites = bounded ∷ []; routers = record (router_at network 2) { database = two_records } ∷ [] } }
+limited = record opening { config = record network { sites = (record site { limits = record no_limits { most_rows = Some 1 } }) ∷ []; routers = record (router_at network 2) { database = two_records } ∷ [] } }
 
 -- it sends them to the first Map-Server
 abbrev limited_sent : List Step

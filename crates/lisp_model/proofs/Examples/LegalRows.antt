@@ -475,14 +475,8 @@ takes_under_legal T before k key nonce datagram base has sent is known allowed c
 })
 
 -- the keys of the site
-pub second_known : KnowsKey rotating.config 2 2
-second_known e = absurd cc
-
-pub first_known : KnowsKey rotating.config 2 1
-first_known e = absurd cc
-
-pub third_known : KnowsKey rotating.config 2 3
-third_known e = absurd cc
+keys_known : KnowsKey rotating.config 2 1 × KnowsKey rotating.config 2 2 × KnowsKey rotating.config 2 3
+keys_known = (λ e. absurd cc, λ e. absurd cc, λ e. absurd cc)
 
 -- the router goes over to a key
 rotates_legal : (T : List Step) (key : ℕ) → is_up T 2 ≡ true → MayRotate rotating T 2 key → key ≢ key_of rotating T 2 → Legal rotating T (rotates T key)
@@ -499,7 +493,7 @@ pub started_legal : LegalTrace rotating started
 started_legal = (sends_under_legal [] 1 1 0 None refl refl (fresh_value (sent_by one)) refl (omega arith) (omega arith) wide_whole refl, tt)
 
 pub renewed_legal : LegalTrace rotating renewed
-renewed_legal = (rotates_legal started 2 refl (record { known = second_known; unused = in_none 2 }) (other_number 2 1 refl), started_legal)
+renewed_legal = (rotates_legal started 2 refl (record { known = keys_known.1; unused = in_none 2 }) (other_number 2 1 refl), started_legal)
 
 pub sent_anew_legal : LegalTrace rotating sent_anew
 sent_anew_legal = (sends_under_legal renewed 2 1 1 None refl refl (fresh_under 2 1 1 (other_number 2 1 refl)) refl (omega arith) (omega arith) wide_whole refl, renewed_legal)
@@ -544,11 +538,11 @@ counted_under_legal = (
 pub sent_back_legal : LegalTrace rotating sent_back
 sent_back_legal = (
   sends_under_legal back 1 2 4 (Some 1) refl refl (other_value (keeps blank (sent_by one) 1).kept (under 2 (sent_by one)) (sent_by one) (Some 1 ∷ []) (Some 1) (keys_differ (sent_by one) 1 2 (other_number 1 2 refl)) (set_value empty (sent_by one) (Some 1))) refl (omega arith) (omega arith) wide_whole refl,
-  (rotates_legal counted_under 1 refl (record { known = first_known; unused = in_none 1 }) (other_number 1 2 refl), counted_under_legal),
+  (rotates_legal counted_under 1 refl (record { known = keys_known.0; unused = in_none 1 }) (other_number 1 2 refl), counted_under_legal),
 )
 
 pub kept_key_legal : LegalTrace rotating kept_key
-kept_key_legal = (record { faults = λ other. omega arith; obedient = refl; row = (refl, record { kind = refl; acts = refl; state = refl }, record { known = first_known; unused = in_none 1 }, (refl, refl)) }, sent_back_legal)
+kept_key_legal = (record { faults = λ other. omega arith; obedient = refl; row = (refl, record { kind = refl; acts = refl; state = refl }, record { known = keys_known.0; unused = in_none 1 }, (refl, refl)) }, sent_back_legal)
 
 -- it used the first two keys alone
 pub not_third : Contains {X = ℕ} (1 ∷ 2 ∷ 1 ∷ []) 3 → ⊥
@@ -561,7 +555,7 @@ pub sent_at_last_legal : LegalTrace rotating (sends_under emptied 3 1 5 ∷ empt
 sent_at_last_legal = (
   sends_under_legal emptied 3 1 5 None refl refl (fresh_value (under 3 (sent_by one))) refl (omega arith) (omega arith) wide_whole refl,
   (
-    record { faults = λ other. omega arith; obedient = refl; row = record { lost = record { acts = refl; kind = refl; may = record { known = third_known; unused = not_third }; fits = tt; some = empty_full }; names = refl; to = refl } },
+    record { faults = λ other. omega arith; obedient = refl; row = record { lost = record { acts = refl; kind = refl; may = record { known = keys_known.2; unused = not_third }; fits = tt; some = empty_full }; names = refl; to = refl } },
     kept_key_legal,
   ),
 )
@@ -572,10 +566,10 @@ not_started_under key differ (zero, lt, is) = differ is
 not_started_under key differ (suc k, lt, is) = absurd (omega (arith, lt))
 
 not_emptied_legal : LegalTrace rotating not_emptied
-not_emptied_legal = (record { faults = λ other. omega arith; obedient = refl; row = record { lost = record { acts = refl; kind = refl; may = record { known = third_known; unused = not_started_under 3 (other_number 1 3 refl) }; fits = tt; some = empty_full }; names = refl; cause = λ other. inl (omega arith) } }, started_legal)
+not_emptied_legal = (record { faults = λ other. omega arith; obedient = refl; row = record { lost = record { acts = refl; kind = refl; may = record { known = keys_known.2; unused = not_started_under 3 (other_number 1 3 refl) }; fits = tt; some = empty_full }; names = refl; cause = λ other. inl (omega arith) } }, started_legal)
 
 pub down_at_a_rotation : LegalTrace rotating (step (Event.Rotate 2 3 Fate.Done) (Line.Down 2) 2 (shows not_emptied 2) ∷ not_emptied)
-down_at_a_rotation = (record { faults = λ other. omega arith; obedient = refl; row = (record { known = third_known; unused = not_started_under 3 (other_number 1 3 refl) }, record { acts = record { kind = refl; acts = refl; state = refl }; names = refl; same = refl }) }, not_emptied_legal)
+down_at_a_rotation = (record { faults = λ other. omega arith; obedient = refl; row = (record { known = keys_known.2; unused = not_started_under 3 (other_number 1 3 refl) }, record { acts = record { kind = refl; acts = refl; state = refl }; names = refl; same = refl }) }, not_emptied_legal)
 
 abbrev pub started_at_last : List Step
 started_at_last = step (Event.Restart 2 0 None) (Line.Restarted 2) 2 (shows not_emptied 2) ∷ not_emptied
@@ -591,7 +585,7 @@ abbrev pub not_loaded : Step
 not_loaded = step (Event.Rotate 2 2 Fate.LoadFails) (Line.Refused 2 (Refusal.Rotate (RotateFault.Store StoreFault.Device))) 2 (failed (shows started 2))
 
 pub not_loaded_legal : LegalTrace rotating (not_loaded ∷ started)
-not_loaded_legal = (record { faults = λ other. omega arith; obedient = refl; row = (refl, record { kind = refl; acts = refl; state = refl }, record { known = second_known; unused = in_none 2 }, (other_number 2 1 refl, record { same = refl; cause = λ other. inl (omega arith); may = λ other obeys. refl })) }, started_legal)
+not_loaded_legal = (record { faults = λ other. omega arith; obedient = refl; row = (refl, record { kind = refl; acts = refl; state = refl }, record { known = keys_known.1; unused = in_none 2 }, (other_number 2 1 refl, record { same = refl; cause = λ other. inl (omega arith); may = λ other obeys. refl })) }, started_legal)
 
 -- ---- A database of two parts: each is sent in a message of its own, and has its own turn.
 

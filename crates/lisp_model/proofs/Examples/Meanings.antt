@@ -55,10 +55,7 @@ entries = refl
 abbrev narrowed : List Step
 narrowed = changes one_taken (mapping narrow 5 ∷ []) ∷ one_taken
 
-abbrev narrow_taken : List Step
-narrow_taken = takes (sends narrowed 0 2 2 ∷ narrowed) 2 0 2 3 ∷ sends narrowed 0 2 2 ∷ narrowed
-
-both_held : rows (since_start opening narrow_taken 0) 0 ≡ row_of (mapping wide 1440) 1 0 ∷ row_of (mapping narrow 5) 2 0 ∷ []
+both_held : rows (since_start opening (takes (sends narrowed 0 2 2 ∷ narrowed) 2 0 2 3 ∷ sends narrowed 0 2 2 ∷ narrowed) 0) 0 ≡ row_of (mapping wide 1440) 1 0 ∷ row_of (mapping narrow 5) 2 0 ∷ []
 unfolding cut cut_from written
 both_held = refl
 

@@ -737,7 +737,7 @@ doubt_of_a_message_without_memory l = adds_is_not_same blank (got_from one) 1 (l
 save_damaged : Legal opening [] (step (Event.Send 2 0 0 Fate.Doubt) (Line.Refused 2 (Refusal.Send (SendFault.Store StoreFault.Damaged))) 2 (doubts blank (sent_by one) 1)) → ⊥
 save_damaged l = l.row.3.1.fails.sound refl
 
--- a store counts fewer faults than before, and nothing restarted_under
+-- a store counts fewer faults than before, and nothing restarted
 fewer_faults : Legal opening not_started (step (Event.Restart 2 0 None) (Line.Refused 2 (Refusal.Start (StartFault.Store StoreFault.Device))) 2 (at one_sent 2)) → ⊥
 fewer_faults l = let more : 1 ≤ 0 = l.faults refl in absurd (omega (arith, more))
 
