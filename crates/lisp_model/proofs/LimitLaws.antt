@@ -377,16 +377,14 @@ module _ (o : Opening) (T : List Step) (legal : LegalTrace o T) (s : Step) (serv
 
   accepts : (a : Arrival) (named : ℕ) (router : RouterId) (key nonce : ℕ) (datagram : Option ℕ) → IsAccepted (context_of o T s) a named router key nonce datagram
       → IsWithin its (if named == server then acceptances_in (Some a) now ++ old else old) now site
-  accepts a named router key nonce datagram row = either (cases_eq named server)
+  accepts a named router key nonce datagram row = cases (cases_eq named server)
+      (λ is. subst (λ (b : Bool). IsWithin its (if b then acceptances_in (Some a) now ++ old else old) now site) (sym (ap (λ (n : ℕ). n == server) is ∙ same_number server))
+          (subst (λ (new : List Acceptance). IsWithin its (new ++ old) now site) (sym (taken_one a now row.message row.admits.read)) (taken is)))
+      (λ differ. subst (λ (since : List Acceptance). IsWithin its since now site) (sym (unless named server (acceptances_in (Some a) now ++ old) old differ)) was)
     where
       taken : named ≡ server → IsWithin its (record { message = row.message; from = a.from; moment = now } ∷ old) now site
       taken is = one_more its site row.message a.from now old was
           (subst (λ (node : ℕ). Fits (most_routers_at (sites o T node) row.message.site) (most_rows_at (sites o T node) row.message.site) row.message.site (held_rows (since_start o T node) now) (held_rows (record { message = row.message; from = a.from; moment = now } ∷ since_start o T node) now)) (row.acts.acts ∙ is) row.space)
-
-      either : (named ≡ server) ⊎ (named ≢ server) → IsWithin its (if named == server then acceptances_in (Some a) now ++ old else old) now site
-      either (inl is) = subst (λ (b : Bool). IsWithin its (if b then acceptances_in (Some a) now ++ old else old) now site) (sym (ap (λ (n : ℕ). n == server) is ∙ same_number server))
-          (subst (λ (new : List Acceptance). IsWithin its (new ++ old) now site) (sym (taken_one a now row.message row.admits.read)) (taken is))
-      either (inr differ) = subst (λ (since : List Acceptance). IsWithin its since now site) (sym (unless named server (acceptances_in (Some a) now ++ old) old differ)) was
 
   renews : (named : ℕ) (new : List SiteValue) → Keeps its new ⊎ (named ≡ server) → IsWithin new (if named == server then [] else old) now site
   renews named new (inl kept) = by (named == server)

@@ -10,7 +10,7 @@ use Rattle.lisp_etr.specs.Sending.{block_end, last_nonce}
 use Rattle.lisp_etr.proofs.SafeLaws.{block_bound}
 use Rattle.lisp_records.specs.Record.{MapRecordValue}
 use Rattle.lisp_model.specs.Trace.{Opening, key as key_of, etr_config, router_at, EventValue, Step, key_after, shown_store, database, ShownStore, is_up, up_after, clock, database_after, is_server, is_router, is_listed, Event, Fate, Line, Refusal}
-use Rattle.lisp_model.specs.Context.{Context, values, values_after, IsBase, Saves, MaySave, IsAtNoNode, its_sites, StoreFault}
+use Rattle.lisp_model.specs.Context.{Context, values, values_after, IsBase, Saves, IsAtNoNode, its_sites, StoreFault}
 use Rattle.lisp_model.specs.Sending.{CountsFrom, pair_at, RefusesToSend, IsSent, last_sent, last_sent_after, start_values, start_values_after, HasPart, SendFault}
 use Rattle.lisp_model.specs.Keys.{keys_since_loss, keys_since_loss_after, keys_before_loss, keys_before_loss_after}
 use Rattle.lisp_model.specs.History.{SentRegister, sent_registers_in, history}
@@ -626,15 +626,13 @@ module _ (t : Context) (was : is_up t.past t.node ≡ true → Reached (own_valu
 
   saves_reached : (router nonce : ℕ) → t.node ≡ router → is_up t.past router ≡ true → (base : Option ℕ) → CountsFrom t.opening t.past router base → (bound : ℕ) → Saves t (pair_at t.opening t.past router) nonce bound
       → (v : Option ℕ) × Contains (own_values_after t) v × (nonce ≤ number v)
-  saves_reached router nonce is up base counts bound saves = subst (λ (n : ℕ). (v : Option ℕ) × Contains (values_after t (pair_at t.opening t.past n)) v × (nonce ≤ number v)) (sym is) (at saves.here)
+  saves_reached router nonce is up base counts bound saves = subst (λ (n : ℕ). (v : Option ℕ) × Contains (values_after t (pair_at t.opening t.past n)) v × (nonce ≤ number v)) (sym is) (cases saves.here
+      (λ same. let has = subst (λ (vs : List (Option ℕ)). Contains vs old.0) (sym same) old.1 in (old.0, has, saves.none_below old.0 has))
+      (λ one. let has = subst (λ (vs : List (Option ℕ)). Contains vs (Some bound)) (sym one.0) (at_head (Some bound) []) in (Some bound, has, saves.none_below (Some bound) has)))
     where
       old : (v : Option ℕ) × Contains (values t (pair_at t.opening t.past router)) v × (number base ≤ number v)
       old = subst (λ (n : ℕ). (v : Option ℕ) × Contains (values t (pair_at t.opening t.past n)) v × (number base ≤ number v)) is
           (was (ap (is_up t.past) is ∙ up) base (subst (λ (n : ℕ). CountsFrom t.opening t.past n base) (sym is) counts))
-
-      at : (values_after t (pair_at t.opening t.past router) ≡ values t (pair_at t.opening t.past router)) ⊎ ((values_after t (pair_at t.opening t.past router) ≡ Some bound ∷ []) × MaySave t) → (v : Option ℕ) × Contains (values_after t (pair_at t.opening t.past router)) v × (nonce ≤ number v)
-      at (inl same) = let has = subst (λ (vs : List (Option ℕ)). Contains vs old.0) (sym same) old.1 in (old.0, has, saves.none_below old.0 has)
-      at (inr one) = let has = subst (λ (vs : List (Option ℕ)). Contains vs (Some bound)) (sym one.0) (at_head (Some bound) []) in (Some bound, has, saves.none_below (Some bound) has)
 
   -- the router starts, or goes over to another key
   starts_reached : (named : ℕ) → named ≡ t.node → (kept : List (Option ℕ)) (last : Option ℕ) → Reached kept (if named == t.node then None else last) (if named == t.node then kept else start_values t.opening t.past t.node)

@@ -107,10 +107,7 @@ noticed_twice : NoticeNoncesRise (tells registered_again (2 ^ 63) 5 ∷ register
 noticed_twice rise = let less : 2 ^ 63 < 2 ^ 63 = (rise 0).0 (2 ^ 63) (at_head (2 ^ 63) []) in absurd (omega (arith, less))
 
 -- no two standing notices have one nonce: the second router's has the first one's
-abbrev told_alike : List Step
-told_alike = step (Event.Notice 0 3 Fate.Done) (Line.Notice 0 3 1 (2 ^ 63) 5) 0 (at [] 0) ∷ tells both_heard (2 ^ 63) 4 ∷ both_heard
-
-alike : NoticesDiffer opening told_alike → ⊥
+alike : NoticesDiffer opening (step (Event.Notice 0 3 Fate.Done) (Line.Notice 0 3 1 (2 ^ 63) 5) 0 (at [] 0) ∷ tells both_heard (2 ^ 63) 4 ∷ both_heard) → ⊥
 alike differ = let datagram : ◌≡◌ {A = ℕ} 5 4 = ap (λ (n : Notice). n.datagram) (differ 0 _ _ (0, omega arith, refl) (1, omega arith, refl) refl) in absurd (omega (arith, datagram))
 
 -- other nodes stay: a node's restart is that of another one, a Map-Server or a router
@@ -533,13 +530,10 @@ sent_restarted : NoChange (sent_after_step restarted_changed) first_entry (third
 sent_restarted n = absurd (true≢false (n.later 1 restarted_changed (omega arith) (omega arith) refl))
 
 -- of longer traces: a change before both sends, or between two of three; entries in the other order; entries of two routers
-abbrev sent_later : List Step
-sent_later = sends (sends (changes [] short ∷ []) 0 1 0 ∷ changes [] short ∷ []) 0 2 1 ∷ sends (changes [] short ∷ []) 0 1 0 ∷ changes [] short ∷ []
-
 abbrev entry_at : ℕ → ℕ → ℕ → SentRegister
 entry_at router nonce position = record { router = router; key = 1; nonce = nonce; server = 0; database = short; part = 0; position = position }
 
-changed_before : NoChange sent_later (entry_at 2 1 1) (entry_at 2 2 2)
+changed_before : NoChange (sends (sends (changes [] short ∷ []) 0 1 0 ∷ changes [] short ∷ []) 0 2 1 ∷ sends (changes [] short ∷ []) 0 1 0 ∷ changes [] short ∷ []) (entry_at 2 1 1) (entry_at 2 2 2)
 changed_before = record { router = refl; later = λ place s low high is. absurd (omega (arith, low, high)); earlier = λ place s low high is. absurd (omega (arith, low, high)) }
 
 abbrev sent_thrice : List Step

@@ -1,5 +1,5 @@
 -- Steps that are illegal: each would be legal but for one thing.
-use Rattle.std.proofs.Common.{[], List, None, Ok, Option, Some, ap, false, refl, subst, sym, true, ℕ, ◌∙◌, ◌∷◌, ◌≡◌, arith, inl, inr, slice_index_or, true≢false, Err}
+use Rattle.std.proofs.Common.{[], List, None, Ok, Option, Some, ap, false, refl, subst, sym, true, ℕ, ◌∙◌, ◌∷◌, ◌≡◌, arith, slice_index_or, true≢false, Err}
 use Rattle.std.specs.FinMap.{insert, empty}
 use Rattle.std.specs.List.{Contains}
 use Rattle.std.specs.Prelude.{Result, ◌-◌, ◌<◌, ◌^◌, ◌⊎◌, if◌then◌else◌, ◌+◌, ◌≤◌, slice_get, ◌++◌}
@@ -59,7 +59,7 @@ number_of v {base} one has = ap number (only_value v base (subst (λ (vs : List 
 pub nothing_is_no_number : {n : ℕ} → ◌≡◌ {A = List (Option ℕ)} (None ∷ []) (Some n ∷ []) → ⊥
 nothing_is_no_number e = absurd cc
 
--- what arrives is what stands in the bag; its Map-Register, its Map-Notify-Ack; the notice, the last Map-Register
+-- the Map-Register of what arrives, and the Map-Notify or Map-Notify-Ack
 pub register_is : (i j : Item) (m n : MapRegisterValue) → i ≡ j → i.message ≡ Registers m → ◌≡◌ {A = Result MessageValue ReadFault} (Ok j.message) (Ok (Registers n)) → m ≡ n
 register_is i j m n same says read = let both : ◌≡◌ {A = Result MessageValue ReadFault} (Ok (Registers m)) (Ok (Registers n)) = ap Ok (sym says) ∙ ap (λ (x : Item). Ok x.message) same ∙ read in cc
 
@@ -80,8 +80,7 @@ never e = absurd cc
 
 -- a device failed, though no count rose
 pub unfailed : (0 < 0) ⊎ (◌≡◌ {A = ℕ} 0 (2 ^ 64 - 1)) → ⊥
-unfailed (inl less) = absurd (omega (arith, less))
-unfailed (inr same) = absurd (omega (arith, same))
+unfailed rose = cases rose (λ less. absurd (omega (arith, less))) (λ same. absurd (omega (arith, same)))
 
 pub a_device : StoreFault.Device ≡ StoreFault.OutOfMemory → ⊥
 a_device e = absurd cc
