@@ -379,7 +379,7 @@ module _ (o : Opening) (T : List Step) (legal : LegalTrace o T) (s : Step) (serv
       → IsWithin its (if named == server then acceptances_in (Some a) now ++ old else old) now site
   accepts a named router key nonce datagram row = cases (cases_eq named server)
       (λ is. subst (λ (b : Bool). IsWithin its (if b then acceptances_in (Some a) now ++ old else old) now site) (sym (ap (λ (n : ℕ). n == server) is ∙ same_number server))
-          (subst (λ (new : List Acceptance). IsWithin its (new ++ old) now site) (sym (taken_one a now row.message row.admits.read)) (taken is)))
+      (subst (λ (new : List Acceptance). IsWithin its (new ++ old) now site) (sym (taken_one a now row.message row.admits.read)) (taken is)))
       (λ differ. subst (λ (since : List Acceptance). IsWithin its since now site) (sym (unless named server (acceptances_in (Some a) now ++ old) old differ)) was)
     where
       taken : named ≡ server → IsWithin its (record { message = row.message; from = a.from; moment = now } ∷ old) now site

@@ -134,7 +134,7 @@ module _ (o : Opening) (distinct : AllPairs (λ a b. a ≢ b) (addresses o.confi
                 → AllWentOut o after (bag o T ++ items) (record { router = (router_at o.config router).me; key = key; nonce = nonce; datagram = datagram; moments = clock T ∷ [] } ∷ notices_to_others (router_at o.config router).me (notices o T k))
             more router key nonce datagram is x has = cases (head_or_tail one (notices_to_others (router_at o.config router).me (notices o T k)) x has)
                 (λ same. subst (WentOut o after (bag o T ++ items)) (sym same)
-                    (record { item = new.item; place = new.place; router = new.router; kind = new.kind; to = new.to; same = new.same; signs = signs_on (sites o T k) after one.router.site one.key keeps new.signs }))
+                (record { item = new.item; place = new.place; router = new.router; kind = new.kind; to = new.to; same = new.same; signs = signs_on (sites o T k) after one.router.site one.key keeps new.signs }))
                 (λ before. still x (of_others (router_at o.config router).me (notices o T k) x before))
               where
                 one : Notice

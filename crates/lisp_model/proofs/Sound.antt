@@ -614,6 +614,7 @@ module _ (t : Context) (was : is_up t.past t.node ≡ true → Reached (own_valu
   doubts_reached saved = cases saved.doubt
       (λ same. stays_reached same)
       (λ more. grows (λ v has. subst (λ (vs : List (Option ℕ)). Contains vs v) (sym more) (Contains-append_left (own_values t) (Some saved.nonce ∷ []) v has)))
+
   abbrev AfterReached : EventValue → Line → Type 0
   AfterReached e line = up_after e line t.node (is_up t.past t.node) ≡ true
       → Reached (key_values_after t (key_after e line t.node (own_key t))) (last_sent_after line t.node (last_sent t.past t.node)) (start_values_after line (key_values_after t (key_after e line t.node (own_key t))) t.node (start_values t.opening t.past t.node))

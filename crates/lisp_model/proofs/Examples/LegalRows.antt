@@ -448,7 +448,7 @@ sends_under_legal : (T : List Step) (key nonce datagram : ℕ) (base : Option �
 sends_under_legal T key nonce datagram base is up counted next small low whole place = send_legal (omega arith) refl refl up refl refl whole.database whole.there (sym is) base counted next (omega (arith, low)) place
     (record { nonce = omega (arith, low); key = subst (λ (k : ℕ). k < 256) (sym is) small; records = subst AreRecords (sym whole.alone) whole.records; xtr = refl; xtr_bytes = search rules; site = omega arith })
     (subst (λ (k : ℕ). Saves (context_of rotating T (sends_under T key nonce datagram)) (under k (sent_by one)) nonce (block_end nonce 1)) (sym is)
-        (subst (Saves (context_of rotating T (sends_under T key nonce datagram)) (under key (sent_by one)) nonce) (sym (block_of_one nonce (omega (arith, low)))) (saved _ (under key (sent_by one)) nonce (λ obeys clash. absurd cc) refl)))
+    (subst (Saves (context_of rotating T (sends_under T key nonce datagram)) (under key (sent_by one)) nonce) (sym (block_of_one nonce (omega (arith, low)))) (saved _ (under key (sent_by one)) nonce (λ obeys clash. absurd cc) refl)))
 
 -- it is accepted
 takes_under_legal : (T before : List Step) (k key nonce datagram : ℕ) (base : Option ℕ) → sites rotating T 0 ≡ rotating.config.sites → slice_get (bag rotating T) k ≡ Some (register_item rotating before 2 0 0 nonce) → key_of rotating before 2 ≡ key → secret_of three_keys key ≡ Some (etr_config rotating before 2).secret

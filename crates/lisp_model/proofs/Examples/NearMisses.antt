@@ -240,10 +240,7 @@ done_from_elsewhere bytes read l =
     none-some _ (ap (awaiting t (local_at 22)) (same_notify read l.row.arrives.read) ∙ l.row.arrives.stands)
 
 -- an acknowledgement under another key ends it
-abbrev another_keys : MapNotifyValue
-another_keys = record { ack = true; nonce = 2 ^ 63; key_id = 2; records = mapping wide 1440 ∷ [] }
-
-done_under_another_key : (bytes : List ℕ) → message_at bytes ≡ Ok (Notifies another_keys)
+done_under_another_key : (bytes : List ℕ) → message_at bytes ≡ Ok (Notifies (record { ack = true; nonce = 2 ^ 63; key_id = 2; records = mapping wide 1440 ∷ [] }))
     → Legal opening was_noticed (step (Event.Junk 0 (local_at 21) bytes) (Line.Done 0 one (2 ^ 63)) 0 (at was_noticed 0)) → ⊥
 done_under_another_key bytes read l =
     let t = context_of opening was_noticed (step (Event.Junk 0 (local_at 21) bytes) (Line.Done 0 one (2 ^ 63)) 0 (at was_noticed 0)) in
@@ -816,10 +813,7 @@ doubt_not_kept l =
     absurd cc
 
 -- a notice is told though the event asks for doubt
-abbrev obedient_taken : List Step
-obedient_taken = step (Event.Deliver 0 Fate.Done) (Line.Accepted 0 one 1 1 (Some 1)) 0 (keeps obeys (got_from one) 1) ∷ obedient_sent
-
-told_in_doubt : Legal obedient obedient_taken (step (Event.Notice 0 2 Fate.Doubt) (Line.Notice 0 2 1 (2 ^ 63) 2) 0 (keeps (keeps obeys (got_from one) 1) notice_pair (2 ^ 63))) → ⊥
+told_in_doubt : Legal obedient (step (Event.Deliver 0 Fate.Done) (Line.Accepted 0 one 1 1 (Some 1)) 0 (keeps obeys (got_from one) 1) ∷ obedient_sent) (step (Event.Notice 0 2 Fate.Doubt) (Line.Notice 0 2 1 (2 ^ 63) 2) 0 (keeps (keeps obeys (got_from one) 1) notice_pair (2 ^ 63))) → ⊥
 told_in_doubt l = cases l.row.2.saves.here (λ same. nothing_is_no_number (sym before ∙ sym same ∙ set_here (keeps obeys (got_from one) 1).kept notice_pair (Some (2 ^ 63) ∷ []))) (λ saved. saved.1 refl refl)
   where
     before : kept_at (keeps obeys (got_from one) 1).kept notice_pair ≡ None ∷ []

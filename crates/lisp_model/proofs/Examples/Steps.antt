@@ -504,21 +504,26 @@ pub send_legal : {o : Opening} {T : List Step} {server part key nonce datagram :
     → (base : Option ℕ) → CountsFrom o T 2 base → nonce ≡ number base + 1 → nonce ≤ last_nonce → datagram ≡ length (bag o T) → IsMapRegister (map_register_of (etr_config o T 2) (part_at (database o T 2) part) nonce)
     → Saves (context_of o T (step (Event.Send 2 server part fate) (Line.Sent 2 server part key nonce datagram) 2 shown)) (pair_at o T 2) nonce (block_end nonce (etr_config o T 2).nonce_block)
     → Legal o T (step (Event.Send 2 server part fate) (Line.Sent 2 server part key nonce datagram) 2 shown)
-send_legal faults obedient router up kind listed fits there under base counts next within place message saves = legal faults obedient (refl, refl, refl, record {
-  acts = record { kind = router; acts = refl; state = up };
-  kind = kind;
-  listed = listed;
-  fits = fits;
-  there = there;
-  under = under;
-  base = base;
-  counts = counts;
-  next = next;
-  within = within;
-  message = message;
-  place = place;
-  saves = saves;
-})
+send_legal faults obedient router up kind listed fits there under base counts next within place message saves = legal faults obedient (
+  refl,
+  refl,
+  refl,
+  record {
+    acts = record { kind = router; acts = refl; state = up };
+    kind = kind;
+    listed = listed;
+    fits = fits;
+    there = there;
+    under = under;
+    base = base;
+    counts = counts;
+    next = next;
+    within = within;
+    message = message;
+    place = place;
+    saves = saves;
+  },
+)
 
 -- a router that saves each nonce by itself
 pub block_of_one : (nonce : ℕ) → nonce ≤ last_nonce → block_end nonce 1 ≡ nonce
