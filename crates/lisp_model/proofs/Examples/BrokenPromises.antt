@@ -28,7 +28,8 @@ use Rattle.lisp_model.specs.Promises.{AbsentPartsRest, AcceptedWasSent, CountedW
 use Rattle.lisp_model.specs.Timers.{Notice, RoundTimes}
 use Rattle.lisp_model.specs.Trace.{Step, address_at, router_at, addresses, Opening}
 use Rattle.lisp_model.specs.Story.{at, blank, counts, got_from, keeps, local_at, mapping, network, one, one_counted, one_sent, one_taken, opening, replays, secret, sends, sent_by, step, takes, two, wide, restarts, narrow, site}
-use Rattle.lisp_model.proofs.Examples.Steps.{admitted, hears, registers_read, wide_whole, acknowledged, answered, arrived, counts_part, ends, heard_of, notices, one_left, refuses, registers, row_of, tells, ticks, told_to, answered_elsewhere, both_heard, both_sent, both_taken, first_entry, first_told, foreign, foreign_sent, newer_taken, parts_sent, parts_taken, registered_again, restarted, sent_twice, short, was_noticed, item_authentic, fits, item_reads, short_message, wide_record, changes, two_keys, restarted_changed, two_sent, fresh_value, saved, IsOnePart, legal, send_legal, Event, Fate, Line, NotifyFault, ReadFault, Refusal, Refused, SendFault, StartFault, StoreFault}
+use Rattle.lisp_model.proofs.Examples.Steps.{acknowledged, answered, arrived, counts_part, ends, heard_of, notices, one_left, refuses, registers, row_of, tells, ticks, told_to, answered_elsewhere, both_heard, both_sent, both_taken, first_entry, first_told, foreign, foreign_sent, newer_taken, parts_sent, parts_taken, registered_again, restarted, sent_twice, short, was_noticed, changes, two_keys, restarted_changed, two_sent, Event, Fate, Line, NotifyFault, ReadFault, Refusal, Refused, SendFault, StartFault, StoreFault}
+use Rattle.lisp_model.proofs.Examples.Steps.{admitted, hears, registers_read, wide_whole, item_authentic, fits, item_reads, short_message, wide_record, fresh_value, saved, IsOnePart, legal, send_legal}
 use Rattle.lisp_model.proofs.Examples.NearMisses.{never, unfailed, a_device, first_item, first, nothing_is_no_number, only_set_of, register_is}
 use Rattle.lisp_model.proofs.Examples.LegalRows.{loses, rotating, sends_under, started, takes_under}
 use Rattle.lisp_model.proofs.KeptLemmas.{only_value, set_here}
@@ -249,10 +250,7 @@ held_forged all =
     other_records (sym (ap option_to_list (sym (ap (λ (e : SentRegister). record_in e wide) (only first_entry of.0 of.1)) ∙ of.4)))
 
 -- two Map-Servers agree: one accepted another record than what was sent to it, with no change between
-abbrev unequal : List Step
-unequal = step (Event.Junk 1 (local_at 21) (bytes_of (forged 1 2))) (Line.Accepted 1 one 1 2 (Some 3)) 1 (keeps blank (got_from one) 2) ∷ takes both_sent 0 0 1 2 ∷ both_sent
-
-held_unequal : HeldAgree opening unequal → ⊥
+held_unequal : HeldAgree opening (step (Event.Junk 1 (local_at 21) (bytes_of (forged 1 2))) (Line.Accepted 1 one 1 2 (Some 3)) 1 (keeps blank (got_from one) 2) ∷ takes both_sent 0 0 1 2 ∷ both_sent) → ⊥
 unfolding cut cut_from written
 held_unequal agree =
     let same : mapping wide 1440 ≡ mapping wide 60 = agree 0 1 one wide (row_of (mapping wide 1440) 1 0) (row_of (mapping wide 60) 2 0) first_entry (record { router = 2; key = 1; nonce = 2; server = 1; database = mapping wide 1440 ∷ []; part = 0; position = 1 })

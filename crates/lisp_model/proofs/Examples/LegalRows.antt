@@ -19,7 +19,8 @@ use Rattle.lisp_model.specs.Receiving.{FailsCheck, IsFresh}
 use Rattle.lisp_model.specs.Trace.{Step, Opening, ShownStore, sites, database, etr_config, etr_config_under, is_up, key as key_of, router_at, shown_store}
 use Rattle.lisp_model.specs.Story.{at, blank, counts, got_from, keeps, local_at, mapping, narrow, network, one, one_counted, one_sent, one_taken, opening, replays, restarts, sends, sent_by, step, takes, two, wide, replay_refused, server_restarted, six_steps, secret, site, xtr_of}
 use Rattle.lisp_model.specs.Numbers.{numbers_below, part_numbers}
-use Rattle.lisp_model.proofs.Examples.Steps.{hears, kinds_differ, registers_read, short_heard, short_message, strange_refused, changes_legal, counts_part_legal, doubts_send_legal, doubts_take_legal, ends_legal, fails_load_legal, notices_legal, refuses_record, repeats_legal, replays_legal, restarts_legal, restarts_to_legal, sends_legal, takes_legal, tells_legal, ticks_legal, foreign_whole, short_whole, wide_whole, legal, send_legal, answered, blocks, changes, counts_part, fails_load, refuses, spent, tells, ticks, told, aged, answered_elsewhere, both_sent, both_taken, doubted, ended, first_told, foreign, foreign_sent, forgot, held_at, is_down, kept_it, newer_taken, not_started, older_noticed, parts_sent_again, parts_taken, registered_again, restarted, second_counted, sent_after, sent_twice, short, spent_taken, told_again, told_and_gone, told_anew, two_sent, unsure, unsure_forgot, unsure_kept, vanished, waited, was_noticed, doubted_end, doubted_new, doubted_old, fresh_value, other_value, set_value, IsOnePart, block_of_one, fits_under, failed, saved, item_authentic, passes, registers, sends_part, parts_sent, strange, Event, Fate, Line, NoticeFault, NotifyFault, ReadFault, Refusal, Refused, RotateFault, SendFault, StartFault, StoreFault}
+use Rattle.lisp_model.proofs.Examples.Steps.{answered, blocks, changes, counts_part, fails_load, refuses, spent, tells, ticks, told, aged, answered_elsewhere, both_sent, both_taken, doubted, ended, first_told, foreign, foreign_sent, forgot, held_at, is_down, kept_it, newer_taken, not_started, older_noticed, parts_sent_again, parts_taken, registered_again, restarted, second_counted, sent_after, sent_twice, short, spent_taken, told_again, told_and_gone, told_anew, two_sent, unsure, unsure_forgot, unsure_kept, vanished, waited, was_noticed, failed, registers, sends_part, parts_sent, strange, Event, Fate, Line, NoticeFault, NotifyFault, ReadFault, Refusal, Refused, RotateFault, SendFault, StartFault, StoreFault}
+use Rattle.lisp_model.proofs.Examples.Steps.{hears, kinds_differ, registers_read, short_heard, short_message, strange_refused, changes_legal, counts_part_legal, doubts_send_legal, doubts_take_legal, ends_legal, fails_load_legal, notices_legal, refuses_record, repeats_legal, replays_legal, restarts_legal, restarts_to_legal, sends_legal, takes_legal, tells_legal, ticks_legal, foreign_whole, short_whole, wide_whole, legal, send_legal, doubted_end, doubted_new, doubted_old, fresh_value, other_value, set_value, IsOnePart, block_of_one, fits_under, saved, item_authentic, passes}
 use Rattle.lisp_model.proofs.KeptLemmas.{empty_full, insert_full, only_value, set_full, set_here, set_others, stays}
 use Rattle.std.proofs.lemmas.Bool.Decides.{Decides-eqb}
 use Rattle.lisp_records.specs.Result.{◌>>=◌}

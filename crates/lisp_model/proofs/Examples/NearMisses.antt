@@ -17,7 +17,8 @@ use Rattle.lisp_model.specs.Bag.{Item, register_item, arrival_of, bytes_of, sinc
 use Rattle.lisp_model.specs.Held.{Acceptance, last_of}
 use Rattle.lisp_model.specs.Timers.{Notice}
 use Rattle.lisp_model.specs.Story.{mapping, opening, wide, at, blank, got_from, keeps, local_at, network, one, one_sent, one_taken, replays, secret, site, step, takes, two, sent_by, sends, counts}
-use Rattle.lisp_model.proofs.Examples.Steps.{fits, registers, strange_refused, told_reads, kinds_differ, answered, fails_load, refuses, told, told_to, first_told, foreign, foreign_sent, restarted, sent_twice, was_noticed, failed, repeats, spent, tells, registered_again, spent_taken, told_and_gone, waited, blocks, one_left, one_left_taken, bad_tag, is_not_allowed, item_authentic, changes, not_started, short, heard_of, notices, told_again, counts_part, doubts, sends_part, parts_sent_again, parts_taken, ticks, answered_elsewhere, hears, short_heard, Event, Fate, Line, NoticeFault, NotifyFault, PairKind, ReadFault, Refusal, Refused, RotateFault, SendFault, StartFault, StoreFault}
+use Rattle.lisp_model.proofs.Examples.Steps.{registers, answered, fails_load, refuses, told, told_to, first_told, foreign, foreign_sent, restarted, sent_twice, was_noticed, failed, repeats, spent, tells, registered_again, spent_taken, told_and_gone, waited, blocks, one_left, one_left_taken, changes, not_started, short, heard_of, notices, told_again, counts_part, doubts, sends_part, parts_sent_again, parts_taken, ticks, answered_elsewhere, Event, Fate, Line, NoticeFault, NotifyFault, PairKind, ReadFault, Refusal, Refused, RotateFault, SendFault, StartFault, StoreFault}
+use Rattle.lisp_model.proofs.Examples.Steps.{fits, strange_refused, told_reads, kinds_differ, bad_tag, is_not_allowed, item_authentic, hears, short_heard}
 use Rattle.lisp_model.proofs.KeptLemmas.{only_value, set_here, set_others}
 use Rattle.std.proofs.lemmas.Option.{none-some}
 use Rattle.lisp_records.specs.declared.router.RouterId.{RouterId}
