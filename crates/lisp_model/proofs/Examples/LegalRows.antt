@@ -339,13 +339,30 @@ notices_spent_told = legal (omega arith) refl (
 -- a router that saves ten nonces at once keeps the last of them
 pub saved_its_block : Legal blocks [] (step (Event.Send 2 0 0 Fate.Done) (Line.Sent 2 0 0 1 1 0) 2 (keeps blank (sent_by one) 10))
 unfolding cut cut_from written
-saved_its_block = send_legal (omega arith) refl refl refl refl refl wide_whole.database wide_whole.there refl None (fresh_value (sent_by one)) refl (omega arith) refl
-    (record { nonce = omega arith; key = omega arith; records = wide_whole.records; xtr = refl; xtr_bytes = search rules; site = omega arith })
-    (record {
+saved_its_block = legal (omega arith) refl (
+  refl,
+  refl,
+  refl,
+  record {
+    acts = record { kind = refl; acts = refl; state = refl };
+    kind = refl;
+    listed = refl;
+    fits = wide_whole.database;
+    there = wide_whole.there;
+    under = refl;
+    base = None;
+    counts = fresh_value (sent_by one);
+    next = refl;
+    within = omega arith;
+    message = record { nonce = omega arith; key = omega arith; records = wide_whole.records; xtr = refl; xtr_bytes = search rules; site = omega arith };
+    place = refl;
+    saves = record {
       here = inr (set_here empty (sent_by one) (Some 10 ∷ []), λ obeys clash. absurd cc);
       none_below = λ v has. subst (λ (w : Option ℕ). 1 ≤ number w) (sym (only_value (Some 10) v (subst (λ (vs : List (Option ℕ)). Contains vs v) (set_here empty (sent_by one) (Some 10 ∷ [])) has))) (omega arith);
       others = set_others empty (sent_by one) (Some 10 ∷ []);
-    })
+    };
+  },
+)
 
 -- ---- The story.
 

@@ -329,7 +329,7 @@ told_of_nothing l = let clash : ◌≡◌ {A = List MapRecordValue} (mapping wid
 notices_not_spent : Legal opening one_taken (refuses one_taken (Event.Notice 0 2 Fate.Done) 0 (Refusal.Notice NoticeFault.NonceSpent)) → ⊥
 notices_not_spent l =
     let kept = set_others blank.kept (got_from one) (Some 1 ∷ []) notice_pair (λ e. absurd (kinds_differ e)) ∙ kept_at-empty notice_pair in
-    absurd (omega (arith, number_of None kept l.row.3.2, l.row.3.4))
+    let high : 2 ^ 64 - 1 ≤ number l.row.3.1 = l.row.3.4 in absurd (omega (arith, number_of None kept l.row.3.2, high))
 
 -- a load fails though the last nonce is in memory
 load_for_a_notice_failed_though_known : Legal opening first_told (step (Event.Notice 0 2 Fate.LoadFails) (Line.Refused 0 (Refusal.Notice (NoticeFault.StoreLoad StoreFault.Device))) 0 (failed (at first_told 0))) → ⊥
@@ -376,7 +376,7 @@ past_the_last_nonce l = let within : 2 ^ 63 ≤ last_nonce = l.row.3.within in a
 
 -- it says that its nonces are spent where one is left
 spent_with_one_left : Legal one_left [] (step (Event.Send 2 0 0 Fate.Done) (Line.Refused 2 (Refusal.Send SendFault.NonceSpent)) 2 (keeps blank (sent_by one) (2 ^ 63 - 2))) → ⊥
-spent_with_one_left l = absurd (omega (arith, number_of (Some (2 ^ 63 - 2)) (set_here empty (sent_by one) (Some (2 ^ 63 - 2) ∷ [])) l.row.3.1.1, l.row.3.1.2))
+spent_with_one_left l = let high : last_nonce ≤ number l.row.3.1.0 = l.row.3.1.2 in absurd (omega (arith, number_of (Some (2 ^ 63 - 2)) (set_here empty (sent_by one) (Some (2 ^ 63 - 2) ∷ [])) l.row.3.1.1, high))
 
 -- its save fails where none is left to save
 save_failed_though_spent : Legal spent [] (step (Event.Send 2 0 0 Fate.Doubt) (Line.Refused 2 (Refusal.Send (SendFault.Store StoreFault.Device))) 2 (failed (keeps blank (sent_by one) (2 ^ 63 - 1)))) → ⊥
@@ -390,7 +390,7 @@ past_the_last_notice l = let bound : 2 ^ 64 < 2 ^ 64 = l.row.2.bound in absurd (
 notices_spent_with_one_left : Legal one_left one_left_taken (step (Event.Notice 0 3 Fate.Done) (Line.Refused 0 (Refusal.Notice NoticeFault.NonceSpent)) 0 (keeps (keeps blank notice_pair (2 ^ 64 - 2)) (got_from two) 1)) → ⊥
 notices_spent_with_one_left l =
     let kept = set_others (keeps blank notice_pair (2 ^ 64 - 2)).kept (got_from two) (Some 1 ∷ []) notice_pair (λ e. absurd (kinds_differ e)) ∙ set_here empty notice_pair (Some (2 ^ 64 - 2) ∷ []) in
-    absurd (omega (arith, number_of (Some (2 ^ 64 - 2)) kept l.row.3.2, l.row.3.4))
+    let high : 2 ^ 64 - 1 ≤ number l.row.3.1 = l.row.3.4 in absurd (omega (arith, number_of (Some (2 ^ 64 - 2)) kept l.row.3.2, high))
 
 -- a router that saves ten nonces at once saves one
 saved_short_of_its_block : Legal blocks [] (step (Event.Send 2 0 0 Fate.Done) (Line.Sent 2 0 0 1 1 0) 2 (keeps blank (sent_by one) 1)) → ⊥
@@ -450,7 +450,7 @@ memory_for_unlisted l = let clash : false ≡ true = l.row.3.0.0 in absurd cc
 
 -- a router's nonces are spent before the last one
 sends_not_spent : Legal opening [] (refuses [] (Event.Send 2 0 0 Fate.Done) 2 (Refusal.Send SendFault.NonceSpent)) → ⊥
-sends_not_spent l = absurd (omega (arith, number_of None (kept_at-empty (sent_by one)) l.row.3.1.1, l.row.3.1.2))
+sends_not_spent l = let high : last_nonce ≤ number l.row.3.1.0 = l.row.3.1.2 in absurd (omega (arith, number_of None (kept_at-empty (sent_by one)) l.row.3.1.1, high))
 
 -- memory is refused where the nonces are spent
 memory_before_spent : Legal spent [] (step (Event.Send 2 0 0 Fate.Done) (Line.Refused 2 (Refusal.Send SendFault.OutOfMemory)) 2 (keeps blank (sent_by one) (2 ^ 63 - 1))) → ⊥
