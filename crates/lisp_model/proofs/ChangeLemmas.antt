@@ -79,11 +79,9 @@ module _ (o : Opening) where
 
   kept_since : (T : List Step) → LegalTrace o T → (d : SentRegister) → Contains (history o T) d → NothingAfter T d.router d.position → d.database ≡ database o T d.router
   kept_since [] legal d has none = absurd (in_none d has)
-  kept_since (s ∷ T) legal d has none = at (new_or_old o T s.line d has) (λ old. kept_since T legal.1 d old (nothing_before s T d.router d.position none))
-    where
-      at : IsNew o T s.line d ⊎ Contains (history o T) d → (Contains (history o T) d → d.database ≡ database o T d.router) → d.database ≡ database o (s ∷ T) d.router
-      at (inl new) later = ap (λ (x : SentRegister). x.database) new.is ∙ ap (database o T) (sym (ap (λ (x : SentRegister). x.router) new.is)) ∙ sym (given_none s.event s.line d.router (database o T d.router) (new_sent T s legal.0 d new))
-      at (inr old) later = later old ∙ sym (given_none s.event s.line d.router (database o T d.router) (none (length T) s (below_length T d old) (omega arith) (last_place s T)))
+  kept_since (s ∷ T) legal d has none = cases (new_or_old o T s.line d has)
+      (λ new. ap (λ (x : SentRegister). x.database) new.is ∙ ap (database o T) (sym (ap (λ (x : SentRegister). x.router) new.is)) ∙ sym (given_none s.event s.line d.router (database o T d.router) (new_sent T s legal.0 d new)))
+      (λ old. kept_since T legal.1 d old (nothing_before s T d.router d.position none) ∙ sym (given_none s.event s.line d.router (database o T d.router) (none (length T) s (below_length T d old) (omega arith) (last_place s T))))
 
   -- the later of two entries of a router has the database of the earlier
   pub same_database : (T : List Step) → LegalTrace o T → (d e : SentRegister) → Contains (history o T) d → Contains (history o T) e → d.router ≡ e.router → d.position < e.position → Keeps T d.router d.position e.position → d.database ≡ e.database

@@ -68,12 +68,11 @@ module _ (o : Opening) (distinct : IsNetwork o.config) (reads : ReadsBack) (T : 
       ap (λ (x : SentRegister). record_in x eid) same ∙ f.4
 
   database_same : (d e : SentRegister) → Contains (history o T) d → Contains (history o T) e → NoChange T d e → d.database ≡ e.database
-  database_same d e has_d has_e none = at (cases_lt d.position e.position) (cases_lt e.position d.position)
-    where
-      at : (d.position < e.position) ⊎ (e.position ≤ d.position) → (e.position < d.position) ⊎ (d.position ≤ e.position) → d.database ≡ e.database
-      at (inl low) other = same_database o T legal d e has_d has_e none.router low none.later
-      at (inr high) (inl low) = sym (same_database o T legal e d has_e has_d (sym none.router) low (subst (λ (r : ℕ). Keeps T r e.position d.position) none.router none.earlier))
-      at (inr high) (inr low) = ap (λ (x : SentRegister). x.database) (one_place o T d e has_d has_e (omega (arith, high, low)))
+  database_same d e has_d has_e none = cases (cases_lt d.position e.position)
+      (λ low. same_database o T legal d e has_d has_e none.router low none.later)
+      (λ high. cases (cases_lt e.position d.position)
+      (λ low. sym (same_database o T legal e d has_e has_d (sym none.router) low (subst (λ (r : ℕ). Keeps T r e.position d.position) none.router none.earlier)))
+      (λ low. ap (λ (x : SentRegister). x.database) (one_place o T d e has_d has_e (omega (arith, high, low)))))
 
   -- equal records
   pub rows_agree : HeldAgree o T
@@ -191,11 +190,7 @@ module _ (o : Opening) (distinct : AllPairs (λ a b. a ≢ b) (addresses o.confi
 
   pub nonces_were_accepted : (T : List Step) → LegalTrace o T → Clean o T → CountedWasAccepted o T
   nonces_were_accepted [] legal clean router server x has = absurd (in_none x has)
-  nonces_were_accepted (s ∷ T) legal clean router server x has = later_accepted o T s router server x.part x.key x.nonce (at (acknowledged_case T s legal.1 clean.1 clean.0 s.line legal.0.row router server x has) (nonces_were_accepted T legal.1 clean.1 router server x))
-    where
-      at : Took T router server x ⊎ Contains (counted_nonces T router server) x → (Contains (counted_nonces T router server) x → Took T router server x) → Took T router server x
-      at (inl new) later = new
-      at (inr old) later = later old
+  nonces_were_accepted (s ∷ T) legal clean router server x has = later_accepted o T s router server x.part x.key x.nonce (cases (acknowledged_case T s legal.1 clean.1 clean.0 s.line legal.0.row router server x has) (λ new. new) (λ old. nonces_were_accepted T legal.1 clean.1 router server x old))
 
 -- Over a clean trace a notice that is done was noticed before, where a router's list names servers.
 

@@ -1,6 +1,6 @@
 -- Addresses, secrets and spellings, for what a clean trace promises.
-use Rattle.std.proofs.Common.{◌≡◌, ℕ, ◌<◌, ◌≤◌, Bool, true, false, cond, List, [], ◌∷◌, ◌++◌, length, map, Option, Some, None, Ok, refl, sym, ap, subst, inl, inr, ◌∙◌, true≢false, arith, Err, ◌^◌}
-use Rattle.std.specs.Prelude.{◌≢◌, ◌⊎◌, ◌==◌, slice_get, Result, drop, slice_index, ◌||◌}
+use Rattle.std.proofs.Common.{◌≡◌, ℕ, ◌<◌, Bool, true, false, cond, List, [], ◌∷◌, length, map, Option, Some, None, Ok, refl, sym, ap, subst, ◌∙◌, true≢false, arith, Err, ◌^◌}
+use Rattle.std.specs.Prelude.{◌≢◌, ◌==◌, slice_get, Result, drop, slice_index, ◌||◌}
 use Rattle.std.specs.List.{AllPairs, Contains, find, flat_map}
 use Rattle.std.specs.Option.{option_map, option_to_list}
 use Rattle.std.proofs.lemmas.Bool.{ltb-true, cases_lt}
@@ -46,12 +46,9 @@ server_in c k is =
 
 -- one address is one node's
 pub one_node : (c : ConfigValue) → AllPairs (λ a b. a ≢ b) (addresses c) → (i j : ℕ) → i < length (addresses c) → j < length (addresses c) → address_at c i ≡ address_at c j → i ≡ j
-one_node c distinct i j in_i in_j same = at (cases_lt i j) (cases_lt j i)
-  where
-    at : (i < j) ⊎ (j ≤ i) → (j < i) ⊎ (i ≤ j) → i ≡ j
-    at (inl low) other = absurd (distinct i j (V4 []) low in_j same)
-    at (inr high) (inl low) = absurd (distinct j i (V4 []) low in_i (sym same))
-    at (inr high) (inr low) = omega (arith, high, low)
+one_node c distinct i j in_i in_j same = cases (cases_lt i j)
+    (λ low. absurd (distinct i j (V4 []) low in_j same))
+    (λ high. cases (cases_lt j i) (λ low. absurd (distinct j i (V4 []) low in_i (sym same))) (λ low. omega (arith, high, low)))
 
 pub node_of : (c : ConfigValue) → AllPairs (λ a b. a ≢ b) (addresses c) → (x : Addr) (k server : ℕ) → node_at c x ≡ Some k → x ≡ address_at c server → is_server c server ≡ true → server ≡ k
 node_of c distinct x k server there is kind =
@@ -93,11 +90,9 @@ module _ {X Y : Type 0} (f : X → Y) where
 
 pub in_flat_map : {X Y : Type 0} (f : X → List Y) (xs : List X) (x : X) (y : Y) → Contains xs x → Contains (f x) y → Contains (flat_map f xs) y
 in_flat_map f [] x y has its = absurd (in_none x has)
-in_flat_map f (z ∷ zs) x y has its = at (head_or_tail z zs x has) (λ later. in_flat_map f zs x y later its)
-  where
-    at : (x ≡ z) ⊎ Contains zs x → (Contains zs x → Contains (flat_map f zs) y) → Contains (f z ++ flat_map f zs) y
-    at (inl e) later = Contains-append_left (f z) (flat_map f zs) y (subst (λ w. Contains (f w) y) e its)
-    at (inr has) later = Contains-append_right (f z) (flat_map f zs) y (later has)
+in_flat_map f (z ∷ zs) x y has its = cases (head_or_tail z zs x has)
+    (λ e. Contains-append_left (f z) (flat_map f zs) y (subst (λ w. Contains (f w) y) e its))
+    (λ later. Contains-append_right (f z) (flat_map f zs) y (in_flat_map f zs x y later its))
 
 -- a checked message is authentic under a secret of the sites
 pub secret_in : (site : SiteValue) (key : ℕ) (secret : List ℕ) → secret_of site key ≡ Some secret → Contains (map (λ k. k.secret) site.keys) secret

@@ -125,6 +125,7 @@ module _ (t : Context) (a : Arrival) where
   comes_to h passes line hears = cases hears.comes
       (λ is. inl (is ∙ ap (line_of t) passes))
       (λ out. inr out.2)
+
   -- the line tells of the router that hears
   pub heard_by : (line : Line) → Hears t a line → IsBy line t.node
   heard_by line hears = cases hears.comes

@@ -2,7 +2,7 @@
 use Rattle.std.proofs.Common.{◌≡◌, ℕ, ◌+◌, ◌<◌, ◌≤◌, Bool, true, false, cond, List, [], ◌∷◌, length, map, Option, Some, None, Ok, Err, refl, sym, ap, subst, ◌∙◌, true≢false, arith}
 use Rattle.std.specs.Prelude.{◌≢◌, ◌==◌, nat_lt, nat_le, Result, ok_or, if◌then◌else◌}
 use Rattle.std.specs.List.{AllPairs, Contains, find, flat_map}
-use Rattle.std.proofs.lemmas.Bool.{and_parts, ltb-true, leb-true}
+use Rattle.std.proofs.lemmas.Bool.{and_parts, ltb-true, leb-true, false_from_ne_true}
 use Rattle.std.proofs.lemmas.Bool.Decides.{Decides-eqb}
 use Rattle.std.proofs.lemmas.List.{length-append, length-map}
 use Rattle.std.proofs.lemmas.Option.{none-some}
@@ -111,15 +111,14 @@ router_in c k is =
     let second = length-map c.routers (λ r. r.address) in
     omega (arith, low, both, first, second)
 
-no_server : (c : ConfigValue) (k : ℕ) → length c.servers ≤ k → (b : Bool) → is_server c k ≡ b → b ≡ false
-no_server c k above true is = let low = ltb-true k (length c.servers) is in absurd (omega (arith, low, above))
-no_server c k above false is = refl
+no_server : (c : ConfigValue) (k : ℕ) → length c.servers ≤ k → is_server c k ≡ false
+no_server c k above = false_from_ne_true (is_server c k) (λ is. let low = ltb-true k (length c.servers) is in absurd (omega (arith, low, above)))
 
 pub not_both : (c : ConfigValue) (k : ℕ) → is_router c k ≡ true → is_server c k ≡ true → ⊥
-not_both c k router server = true≢false (sym server ∙ no_server c k (router_above c k router) (is_server c k) refl)
+not_both c k router server = true≢false (sym server ∙ no_server c k (router_above c k router))
 
 pub knows_own : (o : Opening) (T : List Step) (k : ℕ) → is_router o.config k ≡ true → Contains (secrets_of o T k) (etr_config o T k).secret
-knows_own o T k is = subst (λ b. Contains (if b then flat_map (λ s. map (λ key. key.secret) s.keys) (sites o T k) else (etr_config o T k).secret ∷ []) (etr_config o T k).secret) (sym (no_server o.config k (router_above o.config k is) (is_server o.config k) refl)) (at_head _ [])
+knows_own o T k is = subst (λ b. Contains (if b then flat_map (λ s. map (λ key. key.secret) s.keys) (sites o T k) else (etr_config o T k).secret ∷ []) (etr_config o T k).secret) (sym (no_server o.config k (router_above o.config k is))) (at_head _ [])
 
 pub router_of : (c : ConfigValue) → AllPairs (λ a b. a ≢ b) (addresses c) → (i j : ℕ) → is_router c i ≡ true → is_router c j ≡ true → address_at c i ≡ address_at c j → i ≡ j
 router_of c distinct i j is_i is_j same = one_node c distinct i j (router_in c i is_i) (router_in c j is_j) same

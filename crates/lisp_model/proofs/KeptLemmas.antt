@@ -1,5 +1,6 @@
 -- What lists of a store are after one was set, and steps that set one.
 use Rattle.std.proofs.Common.{◌≡◌, ℕ, true≢false, Bool, true, false, List, [], ◌∷◌, Option, Some, None, cond, refl, sym, ap, subst, ◌∙◌, arith}
+use Rattle.std.proofs.lemmas.Bool.{false_from_ne_true}
 use Rattle.std.specs.Prelude.{◌≢◌}
 use Rattle.std.specs.FinMap.{get, insert, empty, get-insert}
 use Rattle.std.specs.List.{Contains}
@@ -36,12 +37,8 @@ ties Greater e = absurd (true≢false (sym e))
 pub pair_same : (q p : Pair) → eq_by_cmp pair_cmp q p ≡ true → q ≡ p
 pair_same q p e = same_pair q p (ties (pair_cmp q p) e)
 
-other_case : (q p : Pair) → q ≢ p → (b : Bool) → eq_by_cmp pair_cmp q p ≡ b → b ≡ false
-other_case q p differ true e = absurd (differ (pair_same q p e))
-other_case q p differ false e = refl
-
 pub pair_other : (q p : Pair) → q ≢ p → eq_by_cmp pair_cmp q p ≡ false
-pair_other q p differ = other_case q p differ (eq_by_cmp pair_cmp q p) refl
+pair_other q p differ = false_from_ne_true (eq_by_cmp pair_cmp q p) (λ e. differ (pair_same q p e))
 
 pub set_here : (kept : Kept) (pair : Pair) (values : List (Option ℕ)) → kept_at (insert kept pair values) pair ≡ values
 set_here kept pair values = kept_at-insert kept pair values pair ∙ ap (λ b. cond b values (kept_at kept pair)) (pair_itself pair)

@@ -80,13 +80,10 @@ pub record Found (since : List Acceptance) (router : RouterId) (eid : PrefixValu
 
 found_in : (since : List Acceptance) (router : RouterId) (eid : PrefixValue) (g : RowValue) → find (is_row_of router eid) (accepted_rows since) ≡ Some g → Found since router eid g
 found_in [] router eid g e = absurd (none-some _ e)
-found_in (a ∷ since) router eid g e = at (find_either (is_row_of router eid) (reverse (row_values a.message a.from a.moment)) (accepted_rows since) g e) (found_in since router eid g)
-  where
-    at : (find (is_row_of router eid) (reverse (row_values a.message a.from a.moment)) ≡ Some g) ⊎ (find (is_row_of router eid) (accepted_rows since) ≡ Some g) → (find (is_row_of router eid) (accepted_rows since) ≡ Some g → Found since router eid g) → Found (a ∷ since) router eid g
-    at (inl here) later =
-        let one = find_map (row_value a.message a.from a.moment) (is_row_of router eid) (reverse a.message.records) g (ap (find (is_row_of router eid)) (turned (row_value a.message a.from a.moment) a.message.records) ∙ here) in
-        record { acceptance = a; taken = at_head a since; mapping = one.value; last = one.found; is = one.is }
-    at (inr there) later = let f = later there in record { acceptance = f.acceptance; taken = in_tail a since f.acceptance f.taken; mapping = f.mapping; last = f.last; is = f.is }
+found_in (a ∷ since) router eid g e = cases (find_either (is_row_of router eid) (reverse (row_values a.message a.from a.moment)) (accepted_rows since) g e)
+    (λ here. let one = find_map (row_value a.message a.from a.moment) (is_row_of router eid) (reverse a.message.records) g (ap (find (is_row_of router eid)) (turned (row_value a.message a.from a.moment) a.message.records) ∙ here) in
+    record { acceptance = a; taken = at_head a since; mapping = one.value; last = one.found; is = one.is })
+    (λ there. let f = found_in since router eid g there in record { acceptance = f.acceptance; taken = in_tail a since f.acceptance f.taken; mapping = f.mapping; last = f.last; is = f.is })
 
 pub held_found : (since : List Acceptance) (router : RouterId) (eid : PrefixValue) (now : ℕ) (g : RowValue) → held_row since router eid now ≡ Some g → Found since router eid g
 held_found since router eid now g e = at (find (is_row_of router eid) (accepted_rows since)) refl e
@@ -380,16 +377,14 @@ module _ (o : Opening) (T : List Step) (legal : LegalTrace o T) (s : Step) (serv
 
   accepts : (a : Arrival) (named : ℕ) (router : RouterId) (key nonce : ℕ) (datagram : Option ℕ) → IsAccepted (context_of o T s) a named router key nonce datagram
       → IsWithin its (if named == server then acceptances_in (Some a) now ++ old else old) now site
-  accepts a named router key nonce datagram row = either (cases_eq named server)
+  accepts a named router key nonce datagram row = cases (cases_eq named server)
+      (λ is. subst (λ (b : Bool). IsWithin its (if b then acceptances_in (Some a) now ++ old else old) now site) (sym (ap (λ (n : ℕ). n == server) is ∙ same_number server))
+      (subst (λ (new : List Acceptance). IsWithin its (new ++ old) now site) (sym (taken_one a now row.message row.admits.read)) (taken is)))
+      (λ differ. subst (λ (since : List Acceptance). IsWithin its since now site) (sym (unless named server (acceptances_in (Some a) now ++ old) old differ)) was)
     where
       taken : named ≡ server → IsWithin its (record { message = row.message; from = a.from; moment = now } ∷ old) now site
       taken is = one_more its site row.message a.from now old was
           (subst (λ (node : ℕ). Fits (most_routers_at (sites o T node) row.message.site) (most_rows_at (sites o T node) row.message.site) row.message.site (held_rows (since_start o T node) now) (held_rows (record { message = row.message; from = a.from; moment = now } ∷ since_start o T node) now)) (row.acts.acts ∙ is) row.space)
-
-      either : (named ≡ server) ⊎ (named ≢ server) → IsWithin its (if named == server then acceptances_in (Some a) now ++ old else old) now site
-      either (inl is) = subst (λ (b : Bool). IsWithin its (if b then acceptances_in (Some a) now ++ old else old) now site) (sym (ap (λ (n : ℕ). n == server) is ∙ same_number server))
-          (subst (λ (new : List Acceptance). IsWithin its (new ++ old) now site) (sym (taken_one a now row.message row.admits.read)) (taken is))
-      either (inr differ) = subst (λ (since : List Acceptance). IsWithin its since now site) (sym (unless named server (acceptances_in (Some a) now ++ old) old differ)) was
 
   renews : (named : ℕ) (new : List SiteValue) → Keeps its new ⊎ (named ≡ server) → IsWithin new (if named == server then [] else old) now site
   renews named new (inl kept) = by (named == server)

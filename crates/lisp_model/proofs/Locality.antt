@@ -1,7 +1,7 @@
 -- A node's step leaves the parts of the other nodes.
 use Rattle.std.proofs.Common.{◌≡◌, ℕ, ◌+◌, Bool, true, false, List, [], ◌∷◌, ◌++◌, Option, Some, None, refl, subst, sym, ap, ◌∙◌, true≢false, arith}
 use Rattle.std.specs.Prelude.{◌≢◌, ◌==◌, ◌&&◌, if◌then◌else◌}
-use Rattle.std.proofs.lemmas.Bool.{cases_eq}
+use Rattle.std.proofs.lemmas.Bool.{cases_eq, false_from_ne_true}
 use Rattle.std.proofs.lemmas.Bool.Decides.{Decides-eqb}
 use Rattle.lisp_records.specs.Record.{MapRecordValue}
 use Rattle.lisp_policy.specs.Configuration.{ConfigValue}
@@ -24,12 +24,8 @@ use Rattle.lisp_admission.specs.declared.refused.Refused.{Refused}
 use Rattle.lisp_model.proofs.ListLemmas.{cases}
 
 -- a choice by two numbers that differ
-pub other_case : (a b : ℕ) → a ≢ b → (t : Bool) → (a == b) ≡ t → t ≡ false
-other_case a b differ true e = absurd (differ ((Decides-eqb a b).0 e))
-other_case a b differ false e = refl
-
 pub other_number : (a b : ℕ) → a ≢ b → (a == b) ≡ false
-other_number a b differ = other_case a b differ (a == b) refl
+other_number a b differ = false_from_ne_true (a == b) (λ e. differ ((Decides-eqb a b).0 e))
 
 pub same_number : (a : ℕ) → (a == a) ≡ true
 same_number a = (Decides-eqb a a).1 refl

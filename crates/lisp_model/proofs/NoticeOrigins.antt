@@ -132,7 +132,10 @@ module _ (o : Opening) (distinct : AllPairs (λ a b. a ≢ b) (addresses o.confi
 
             more : (router key nonce datagram : ℕ) → line ≡ Line.Notice k router key nonce datagram
                 → AllWentOut o after (bag o T ++ items) (record { router = (router_at o.config router).me; key = key; nonce = nonce; datagram = datagram; moments = clock T ∷ [] } ∷ notices_to_others (router_at o.config router).me (notices o T k))
-            more router key nonce datagram is x has = both (head_or_tail one (notices_to_others (router_at o.config router).me (notices o T k)) x has)
+            more router key nonce datagram is x has = cases (head_or_tail one (notices_to_others (router_at o.config router).me (notices o T k)) x has)
+                (λ same. subst (WentOut o after (bag o T ++ items)) (sym same)
+                (record { item = new.item; place = new.place; router = new.router; kind = new.kind; to = new.to; same = new.same; signs = signs_on (sites o T k) after one.router.site one.key keeps new.signs }))
+                (λ before. still x (of_others (router_at o.config router).me (notices o T k) x before))
               where
                 one : Notice
                 one = record { router = (router_at o.config router).me; key = key; nonce = nonce; datagram = datagram; moments = clock T ∷ [] }
@@ -140,11 +143,6 @@ module _ (o : Opening) (distinct : AllPairs (λ a b. a ≢ b) (addresses o.confi
                 new : WentOut o (sites o T k) (bag o T ++ items) one
                 new = subst (λ (l : Line). WentOut o (sites o T k) (bag o T ++ items_added o T (past o T) (arrival_in (bag o T) s.event) l) one) (sym is)
                     (announced s k router key nonce datagram (clock T) (subst (λ (l : Line). Following (context_of o T s) s.event l) is (tells (context_of o T s) s.event line row).follows).2)
-
-                both : (x ≡ one) ⊎ Contains (notices_to_others (router_at o.config router).me (notices o T k)) x → WentOut o after (bag o T ++ items) x
-                both (inl same) = subst (WentOut o after (bag o T ++ items)) (sym same)
-                    (record { item = new.item; place = new.place; router = new.router; kind = new.kind; to = new.to; same = new.same; signs = signs_on (sites o T k) after one.router.site one.key keeps new.signs })
-                both (inr before) = still x (of_others (router_at o.config router).me (notices o T k) x before)
         out_case (inr renews) = renewed line renews
           where
             renewed : (l : Line) → Renews l k → AllWentOut o after (bag o T ++ items) (notices_after o.config l (clock T) k (notices o T k))

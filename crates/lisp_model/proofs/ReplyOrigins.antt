@@ -1,6 +1,6 @@
 -- Over a clean trace each Map-Notify in the bag with a nonce of a router is the reply to a Map-Register that was accepted.
-use Rattle.std.proofs.Common.{◌≡◌, ℕ, ◌^◌, ◌<◌, ◌≤◌, Bool, true, false, List, [], ◌∷◌, ◌++◌, Option, Some, None, Ok, Err, refl, sym, ap, subst, inl, inr, ◌∙◌, true≢false, arith}
-use Rattle.std.specs.Prelude.{◌≢◌, ◌⊎◌, ◌==◌, if◌then◌else◌, slice_get, Result}
+use Rattle.std.proofs.Common.{◌≡◌, ℕ, ◌^◌, ◌<◌, ◌≤◌, Bool, true, false, List, [], ◌∷◌, ◌++◌, Option, Some, None, Ok, Err, refl, sym, ap, subst, ◌∙◌, true≢false, arith}
+use Rattle.std.specs.Prelude.{◌≢◌, ◌==◌, if◌then◌else◌, slice_get, Result}
 use Rattle.std.specs.List.{AllPairs, Contains}
 use Rattle.std.specs.Option.{option_map, option_and_then, option_to_list}
 use Rattle.std.proofs.lemmas.List.Elements.{Contains-append_cases, Contains-append_left, Contains-append_right}
@@ -21,7 +21,7 @@ use Rattle.lisp_model.specs.Accepted.{acceptances, acceptances_after}
 use Rattle.lisp_model.specs.Clean.{IsHarmless, Clean}
 use Rattle.lisp_model.specs.Legal.{MayCome, LegalTrace, context_of}
 use Rattle.lisp_model.proofs.Origins.{ok_same, register_clash, AllBelow, comes, were_sent, ReadsBack, AllFrom, all_from}
-use Rattle.lisp_model.proofs.ChangeLemmas.{IsNew, new_or_old, new_follows}
+use Rattle.lisp_model.proofs.ChangeLemmas.{new_or_old, new_follows}
 use Rattle.lisp_model.proofs.CleanLemmas.{in_get, in_option, from_map, SameHead}
 use Rattle.lisp_model.proofs.HeardLines.{noticed_of}
 use Rattle.lisp_model.proofs.HearingLemmas.{is_heard, knows_own}
@@ -41,13 +41,9 @@ below_first within = omega (arith, within)
 
 pub entry_is : (o : Opening) (T : List Step) → LegalTrace o T → (d : SentRegister) → Contains (history o T) d → IsEntry o d
 entry_is o [] legal d has = absurd (in_none d has)
-entry_is o (s ∷ T) legal d has = at (new_or_old o T s.line d has) (entry_is o T legal.1 d)
-  where
-    at : IsNew o T s.line d ⊎ Contains (history o T) d → (Contains (history o T) d → IsEntry o d) → IsEntry o d
-    at (inl new) later =
-        let row = (new_follows o T s legal.0 d new).2 in
-        subst (IsEntry o) (sym new.is) (record { kind = row.acts.kind; low = below_first row.within; to = row.kind; fits = row.fits })
-    at (inr old) later = later old
+entry_is o (s ∷ T) legal d has = cases (new_or_old o T s.line d has) (λ new.
+    let row = (new_follows o T s legal.0 d new).2 in
+    subst (IsEntry o) (sym new.is) (record { kind = row.acts.kind; low = below_first row.within; to = row.kind; fits = row.fits })) (entry_is o T legal.1 d)
 
 -- the reply to a Map-Register that a server accepted, by the sites that it had then
 pub record IsReply (o : Opening) (kept : ℕ → List Acceptance) (i : Item) : Type 0 where

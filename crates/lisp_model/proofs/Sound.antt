@@ -10,7 +10,7 @@ use Rattle.lisp_etr.specs.Sending.{block_end, last_nonce}
 use Rattle.lisp_etr.proofs.SafeLaws.{block_bound}
 use Rattle.lisp_records.specs.Record.{MapRecordValue}
 use Rattle.lisp_model.specs.Trace.{Opening, key as key_of, etr_config, router_at, EventValue, Step, key_after, shown_store, database, ShownStore, is_up, up_after, clock, database_after, is_server, is_router, is_listed, Event, Fate, Line, Refusal}
-use Rattle.lisp_model.specs.Context.{Context, values, values_after, IsBase, Saves, MaySave, IsAtNoNode, its_sites, StoreFault}
+use Rattle.lisp_model.specs.Context.{Context, values, values_after, IsBase, Saves, IsAtNoNode, its_sites, StoreFault}
 use Rattle.lisp_model.specs.Sending.{CountsFrom, pair_at, RefusesToSend, IsSent, last_sent, last_sent_after, start_values, start_values_after, HasPart, SendFault}
 use Rattle.lisp_model.specs.Keys.{keys_since_loss, keys_since_loss_after, keys_before_loss, keys_before_loss_after}
 use Rattle.lisp_model.specs.History.{SentRegister, sent_registers_in, history}
@@ -221,15 +221,13 @@ module _ (t : Context) (was : Sound t.opening t.node (history t.opening t.past) 
         differs : k ≢ own_key t
         differs mine = let clash : true ≡ false = sym ((Decides-eqb k (own_key t)).1 mine) ∙ other in absurd cc
 
-    sent_used : (e : SentRegister) → (e ≡ one) ⊎ Contains (history t.opening t.past) e → e.router ≡ t.node → Contains (keys_since_loss t.opening t.past t.node ++ keys_before_loss t.opening t.past t.node) e.key
-    sent_used e (inl same) its = Contains-append_left (keys_since_loss t.opening t.past t.node) (keys_before_loss t.opening t.past t.node) e.key (subst (λ (k : ℕ). Contains (keys_since_loss t.opening t.past t.node) k) (sym (ap (λ (x : SentRegister). x.key) same ∙ own)) was.here)
-    sent_used e (inr old) its = was.used e old its
-
     sends_on : Sound t.opening t.node (one ∷ history t.opening t.past) (record (keyed t) { last = if r == t.node then Some nonce else last_sent t.past t.node; kept = t.after.kept })
     sends_on = subst (λ (b : Bool). Sound t.opening t.node (one ∷ history t.opening t.past) (record (keyed t) { last = if b then Some nonce else last_sent t.past t.node; kept = t.after.kept })) (sym (names_node r router names row.acts.acts)) (record {
       floor = λ k is e has its under v in_it. sent_floor k is e has its under v in_it (k == own_key t) refl;
       below = λ base is e has its under. subst (λ (b : Option ℕ). e.nonce ≤ number b) (sym is) (at_most e has its under);
-      used = λ e has its. sent_used e (head_or_tail one (history t.opening t.past) e has) its;
+      used = λ e has its. cases (head_or_tail one (history t.opening t.past) e has)
+          (λ same. Contains-append_left (keys_since_loss t.opening t.past t.node) (keys_before_loss t.opening t.past t.node) e.key (subst (λ (k : ℕ). Contains (keys_since_loss t.opening t.past t.node) k) (sym (ap (λ (x : SentRegister). x.key) same ∙ own)) was.here))
+          (λ old. was.used e old its);
       here = was.here;
     })
 
@@ -405,7 +403,7 @@ module _ (f : ℕ → ℕ) where
   get_number first (suc n) (suc k) d low = get_number (suc first) n k d (omega (arith, low)) ∙ ap f (omega arith)
 
   module _ (p : ℕ → Bool) where
-    -- the least place that passes is sent_one of them, and passes
+    -- the least place that passes is one of them, and passes
     pub passes_there : (n part : ℕ) → position p (map f (numbers_from 0 n)) ≡ Some part → (part < n) × (p (f part) ≡ true)
     passes_there n part e =
         let found = position-Some p (map f (numbers_from 0 n)) part 0 e in
@@ -413,7 +411,7 @@ module _ (f : ℕ → ℕ) where
         let same : part ≡ 0 + part = omega arith in
         (low, ap (λ (k : ℕ). p (f k)) same ∙ ap p (sym (get_number 0 n part 0 low)) ∙ found.1)
 
-    -- where sent_one passes, there is a least sent_one
+    -- where one passes, there is a least one
     pub passes_somewhere : (n k : ℕ) → k < n → p (f k) ≡ true → (part : ℕ) × (position p (map f (numbers_from 0 n)) ≡ Some part)
     passes_somewhere n k low e = (position_or_len p (map f (numbers_from 0 n)), rw (lt-ltb (position_or_len p (map f (numbers_from 0 n))) (length (map f (numbers_from 0 n))) inside) refl)
       where
@@ -463,12 +461,12 @@ module _ (o : Opening) (T : List Step) (actor : ℕ) (after : ShownStore) (r k p
   abbrev Telling : EventValue → Line → Type 0
   Telling e line = Tells (context_of o T (record { event = e; line = line; actor = actor; shown = after })) e line
 
-  -- an old entry is still sent_one
+  -- an old entry is still one
   still_latest : (more : List SentRegister) (key nonce : ℕ) → IsLatest o (history o T) r k p key nonce → IsLatest o (more ++ history o T) r k p key nonce
   still_latest more key nonce (inl none) = inl none
   still_latest more key nonce (inr e) = inr (record { entry = e.entry; sent = Contains-append_right more (history o T) e.entry e.sent; who = e.who; whom = e.whom; of = e.of; under = e.under; number = e.number })
 
-  -- a Map-Register goes_rested out
+  -- a Map-Register goes out
   module _ (router server part key nonce : ℕ) where
     abbrev sent_one : SentRegister
     sent_one = record { router = router; key = key; nonce = nonce; server = server; database = database o T router; part = part; position = length T }
@@ -489,7 +487,7 @@ module _ (o : Opening) (T : List Step) (actor : ℕ) (after : ShownStore) (r k p
           number = refl;
         })
 
-  -- the router doesn't act where the line names another sent_one
+  -- the router doesn't act where the line names another one
   not_named : (named : ℕ) → named ≡ actor → (named == r) ≡ false → r ≢ actor
   not_named named by is same = true≢false (sym ((Decides-eqb named r).1 (by ∙ sym same)) ∙ is)
 
@@ -528,7 +526,7 @@ module _ (o : Opening) (T : List Step) (actor : ℕ) (after : ShownStore) (r k p
       let on = goes_on _ e line row refl in
       subst (λ (key : ℕ). IsLatest o (history o T) r k p key (latest_nonce T r k p)) (sym (on.key r (key_of o T r))) (was (sym (on.up r (is_up T r)) ∙ up))
 
-  -- A part that the database of a router that is up doesn't have has no sends_there in its round.
+  -- A part that the database of a router that is up doesn't have has no sends in its round.
   abbrev Rests : RoundTimes → Type 0
   Rests x = x.moments ≡ []
 
@@ -555,7 +553,7 @@ module _ (o : Opening) (T : List Step) (actor : ℕ) (after : ShownStore) (r k p
           at true is = refl
           at false is = stays_rested (not_named named by is)
 
-    -- the router goes_rested on as it was
+    -- the router goes on as it was
     goes_rested : GoesOn e line → changes line ≡ false → Rests (round T r k p)
     goes_rested on same = was (sym (on.up r (is_up T r)) ∙ up) (subst Absent (on.database same r (database o T r)) none)
 
@@ -616,6 +614,7 @@ module _ (t : Context) (was : is_up t.past t.node ≡ true → Reached (own_valu
   doubts_reached saved = cases saved.doubt
       (λ same. stays_reached same)
       (λ more. grows (λ v has. subst (λ (vs : List (Option ℕ)). Contains vs v) (sym more) (Contains-append_left (own_values t) (Some saved.nonce ∷ []) v has)))
+
   abbrev AfterReached : EventValue → Line → Type 0
   AfterReached e line = up_after e line t.node (is_up t.past t.node) ≡ true
       → Reached (key_values_after t (key_after e line t.node (own_key t))) (last_sent_after line t.node (last_sent t.past t.node)) (start_values_after line (key_values_after t (key_after e line t.node (own_key t))) t.node (start_values t.opening t.past t.node))
@@ -628,17 +627,15 @@ module _ (t : Context) (was : is_up t.past t.node ≡ true → Reached (own_valu
 
   saves_reached : (router nonce : ℕ) → t.node ≡ router → is_up t.past router ≡ true → (base : Option ℕ) → CountsFrom t.opening t.past router base → (bound : ℕ) → Saves t (pair_at t.opening t.past router) nonce bound
       → (v : Option ℕ) × Contains (own_values_after t) v × (nonce ≤ number v)
-  saves_reached router nonce is up base counts bound saves = subst (λ (n : ℕ). (v : Option ℕ) × Contains (values_after t (pair_at t.opening t.past n)) v × (nonce ≤ number v)) (sym is) (at saves.here)
+  saves_reached router nonce is up base counts bound saves = subst (λ (n : ℕ). (v : Option ℕ) × Contains (values_after t (pair_at t.opening t.past n)) v × (nonce ≤ number v)) (sym is) (cases saves.here
+      (λ same. let has = subst (λ (vs : List (Option ℕ)). Contains vs old.0) (sym same) old.1 in (old.0, has, saves.none_below old.0 has))
+      (λ one. let has = subst (λ (vs : List (Option ℕ)). Contains vs (Some bound)) (sym one.0) (at_head (Some bound) []) in (Some bound, has, saves.none_below (Some bound) has)))
     where
       old : (v : Option ℕ) × Contains (values t (pair_at t.opening t.past router)) v × (number base ≤ number v)
       old = subst (λ (n : ℕ). (v : Option ℕ) × Contains (values t (pair_at t.opening t.past n)) v × (number base ≤ number v)) is
           (was (ap (is_up t.past) is ∙ up) base (subst (λ (n : ℕ). CountsFrom t.opening t.past n base) (sym is) counts))
 
-      at : (values_after t (pair_at t.opening t.past router) ≡ values t (pair_at t.opening t.past router)) ⊎ ((values_after t (pair_at t.opening t.past router) ≡ Some bound ∷ []) × MaySave t) → (v : Option ℕ) × Contains (values_after t (pair_at t.opening t.past router)) v × (nonce ≤ number v)
-      at (inl same) = let has = subst (λ (vs : List (Option ℕ)). Contains vs old.0) (sym same) old.1 in (old.0, has, saves.none_below old.0 has)
-      at (inr one) = let has = subst (λ (vs : List (Option ℕ)). Contains vs (Some bound)) (sym one.0) (at_head (Some bound) []) in (Some bound, has, saves.none_below (Some bound) has)
-
-  -- the router starts, or goes_reached over to another key
+  -- the router starts, or goes over to another key
   starts_reached : (named : ℕ) → named ≡ t.node → (kept : List (Option ℕ)) (last : Option ℕ) → Reached kept (if named == t.node then None else last) (if named == t.node then kept else start_values t.opening t.past t.node)
   starts_reached named is kept last = subst (λ b. Reached kept (if b then None else last) (if b then kept else start_values t.opening t.past t.node)) (sym (ap (λ s. s == t.node) is ∙ same_number t.node))
       (λ base has. (base, has, omega arith))
@@ -646,13 +643,13 @@ module _ (t : Context) (was : is_up t.past t.node ≡ true → Reached (own_valu
   down_now : (named : ℕ) → named ≡ t.node → (if named == t.node then false else is_up t.past t.node) ≡ false
   down_now named is = ap (λ b. if b then false else is_up t.past t.node) (ap (λ s. s == t.node) is ∙ same_number t.node)
 
-  -- the router goes_reached on as it was
+  -- the router goes on as it was
   goes_reached : (e : EventValue) (line : Line) → GoesOn e line → Later → up_after e line t.node (is_up t.past t.node) ≡ true
       → Reached (key_values_after t (key_after e line t.node (own_key t))) (last_sent t.past t.node) (start_values t.opening t.past t.node)
   goes_reached e line on later up = subst (λ (key : ℕ). Reached (key_values_after t key) (last_sent t.past t.node) (start_values t.opening t.past t.node)) (sym (on.key t.node (own_key t)))
       (later (sym (on.up t.node (is_up t.past t.node)) ∙ up))
 
-  -- a start that is refused_reached
+  -- a start that is refused
   refused_reached : (e : EventValue) (named : ℕ) (fault : StartFault) → named ≡ t.node → Refusing t e named (Refusal.Start fault) → AfterReached e (Line.Refused named (Refusal.Start fault))
   refused_reached e named fault is (inl f) = subst (λ (x : EventValue). AfterReached x (Line.Refused named (Refusal.Start fault))) f.2 (λ up. absurd (true≢false (sym up ∙ down_now named is)))
   refused_reached e named fault is (inr f) = subst (λ (x : EventValue). AfterReached x (Line.Refused named (Refusal.Start fault))) f.2 (λ up. absurd (true≢false (sym up ∙ down_now named is)))
@@ -862,7 +859,7 @@ must o T s legal l = record {
   noticed = λ a h is kind up passes high. heard_arrives (context_of o T s) kind up a h passes is_noticed (notices (context_of o T s) kind up a h passes high) s.line (arrived (context_of o T s) (λ idle. true≢false (sym kind ∙ idle.router)) a s.event s.line is l.row);
 }
 
--- What must be done where no memory may be refused_reached.
+-- What must be done where no memory may be refused.
 
 -- what must be done but for one excuse must be but for another that the first one gives
 excused_by : (One Other : Excuse) (o : Opening) (T : List Step) (s : Step) → (One (context_of o T s) s.line → Other (context_of o T s) s.line)
@@ -875,7 +872,7 @@ excused_by One Other o T s gives must = record {
   noticed = λ a h is kind up passes high. ⊎_map (λ e. e) gives (must.noticed a h is kind up passes high);
 }
 
--- where no memory may be refused_reached, an excuse is a device that failed
+-- where no memory may be refused, an excuse is a device that failed
 module _ (node store : Type 0) (no_node : ¬ node) (no_store : ¬ store) where
   -- a refusal for a store's fault isn't for out of memory
   not_memory : (why : StoreFault → Refusal) → is_store_memory (why StoreFault.OutOfMemory) ≡ true
@@ -894,7 +891,7 @@ module _ (node store : Type 0) (no_node : ¬ node) (no_store : ¬ store) where
       (not_memory (λ f. Refusal.Receive (Refused.StoreSave f)) refl fault may.1, excused)
   device_failed t _ may excused = absurd excused
 
--- where no memory may be refused_reached, legal steps do what they must unless a device failed
+-- where no memory may be refused, legal steps do what they must unless a device failed
 pub must_with_memory : (node store : Type 0) → ¬ node → ¬ store → (o : Opening) (T : List Step) (s : Step) → LegalTrace o T → Legal o T s
     → MayTell node store s.line → Must DeviceFailed o T s
 must_with_memory node store no_node no_store o T s trace legal may =

@@ -4,7 +4,7 @@ use Rattle.lisp_records.specs.Moment.{max_moment}
 use Rattle.lisp_model.specs.declared.event.Event.TheVariants as events
 use Rattle.lisp_model.specs.declared.line.Line.TheVariants as lines
 use Rattle.lisp_model.specs.declared.refusal.Refusal.TheVariants as refusals
-use Rattle.lisp_model.specs.Trace.{EventValue, Step, Opening, shown_store, clock, fate_of, node_at, is_server, is_router, Line}
+use Rattle.lisp_model.specs.Trace.{Line, EventValue, Step, Opening, shown_store, clock, fate_of, node_at, is_server, is_router}
 use Rattle.lisp_model.specs.Keys.{MayRotate}
 use Rattle.lisp_model.specs.Bag.{Item, Arrival, arrival_of, junk_arrival, bag}
 use Rattle.lisp_model.specs.Context.{Context, IsAtServer, IsAtRouter, Same, IsAtNoNode}

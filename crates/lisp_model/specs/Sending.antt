@@ -12,7 +12,8 @@ use Rattle.lisp_etr.specs.Sending.{last_nonce, map_register_of, block_end}
 pub use Rattle.lisp_etr.specs.declared.send_fault.SendFault.{SendFault}
 use Rattle.lisp_etr.specs.declared.send_fault.SendFault.TheVariants.{NoServer, NoPart, NonceSpent, OutOfMemory, Store}
 use Rattle.lisp_model.specs.declared.line.Line.TheVariants as lines
-use Rattle.lisp_model.specs.Trace.{Step, Opening, shown_store, etr_config, is_server, is_listed, database, Line}
+use Rattle.lisp_model.specs.declared.line.Line.{Line}
+use Rattle.lisp_model.specs.Trace.{Step, Opening, shown_store, etr_config, is_server, is_listed, database}
 use Rattle.lisp_model.specs.Bag.{bag}
 use Rattle.lisp_model.specs.Context.{Context, IsAtRouter, Same, Saves, SaveFails, IsBase}
 

@@ -28,7 +28,8 @@ use Rattle.lisp_model.specs.Promises.{AbsentPartsRest, AcceptedWasSent, CountedW
 use Rattle.lisp_model.specs.Timers.{Notice, RoundTimes}
 use Rattle.lisp_model.specs.Trace.{Step, address_at, router_at, addresses, Opening}
 use Rattle.lisp_model.specs.Story.{at, blank, counts, got_from, keeps, local_at, mapping, network, one, one_counted, one_sent, one_taken, opening, replays, secret, sends, sent_by, step, takes, two, wide, restarts, narrow, site}
-use Rattle.lisp_model.proofs.Examples.Steps.{admitted, hears, registers_read, wide_whole, acknowledged, answered, arrived, counts_part, ends, heard_of, notices, one_left, refuses, registers, row_of, tells, ticks, told_to, answered_elsewhere, both_heard, both_sent, both_taken, first_entry, first_told, foreign, foreign_sent, newer_taken, parts_sent, parts_taken, registered_again, restarted, sent_twice, short, was_noticed, item_authentic, fits, item_reads, short_message, wide_record, changes, two_keys, restarted_changed, two_sent, fresh_value, saved, IsOnePart, legal, send_legal, Event, Fate, Line, NotifyFault, ReadFault, Refusal, Refused, SendFault, StartFault, StoreFault}
+use Rattle.lisp_model.proofs.Examples.Steps.{acknowledged, answered, arrived, counts_part, ends, heard_of, notices, one_left, refuses, registers, row_of, tells, ticks, told_to, answered_elsewhere, both_heard, both_sent, both_taken, first_entry, first_told, foreign, foreign_sent, newer_taken, parts_sent, parts_taken, registered_again, restarted, sent_twice, short, was_noticed, changes, two_keys, restarted_changed, two_sent, Event, Fate, Line, NotifyFault, ReadFault, Refusal, Refused, SendFault, StartFault, StoreFault}
+use Rattle.lisp_model.proofs.Examples.Steps.{admitted, hears, registers_read, wide_whole, item_authentic, fits, item_reads, short_message, wide_record, fresh_value, saved, IsOnePart, legal, send_legal}
 use Rattle.lisp_model.proofs.Examples.NearMisses.{never, unfailed, a_device, first_item, first, nothing_is_no_number, only_set_of, register_is}
 use Rattle.lisp_model.proofs.Examples.LegalRows.{loses, rotating, sends_under, started, takes_under}
 use Rattle.lisp_model.proofs.KeptLemmas.{only_value, set_here}
@@ -43,7 +44,6 @@ use Rattle.std.proofs.lemmas.List.Elements.{All-from_recursion}
 use Rattle.lisp_records.specs.Address.{PrefixValue, masked}
 use Rattle.lisp_records.specs.Database.{repeats as repeats_in}
 use Rattle.lisp_policy.specs.Limits.{no_limits}
-use Rattle.lisp_policy.specs.Site.{SiteValue}
 use Rattle.lisp_policy.specs.declared.full.Full.TheVariants.{Routers, Rows}
 use Rattle.lisp_lookup.proofs.GrowthLaws.{full_or_fits}
 use Rattle.lisp_lookup.specs.Growth.{HasRow, IsFull}
@@ -108,10 +108,7 @@ noticed_twice : NoticeNoncesRise (tells registered_again (2 ^ 63) 5 ∷ register
 noticed_twice rise = let less : 2 ^ 63 < 2 ^ 63 = (rise 0).0 (2 ^ 63) (at_head (2 ^ 63) []) in absurd (omega (arith, less))
 
 -- no two standing notices have one nonce: the second router's has the first one's
-abbrev told_alike : List Step
-told_alike = step (Event.Notice 0 3 Fate.Done) (Line.Notice 0 3 1 (2 ^ 63) 5) 0 (at [] 0) ∷ tells both_heard (2 ^ 63) 4 ∷ both_heard
-
-alike : NoticesDiffer opening told_alike → ⊥
+alike : NoticesDiffer opening (step (Event.Notice 0 3 Fate.Done) (Line.Notice 0 3 1 (2 ^ 63) 5) 0 (at [] 0) ∷ tells both_heard (2 ^ 63) 4 ∷ both_heard) → ⊥
 alike differ = let datagram : ◌≡◌ {A = ℕ} 5 4 = ap (λ (n : Notice). n.datagram) (differ 0 _ _ (0, omega arith, refl) (1, omega arith, refl) refl) in absurd (omega (arith, datagram))
 
 -- other nodes stay: a node's restart is that of another one, a Map-Server or a router
@@ -253,10 +250,7 @@ held_forged all =
     other_records (sym (ap option_to_list (sym (ap (λ (e : SentRegister). record_in e wide) (only first_entry of.0 of.1)) ∙ of.4)))
 
 -- two Map-Servers agree: one accepted another record than what was sent to it, with no change between
-abbrev unequal : List Step
-unequal = step (Event.Junk 1 (local_at 21) (bytes_of (forged 1 2))) (Line.Accepted 1 one 1 2 (Some 3)) 1 (keeps blank (got_from one) 2) ∷ takes both_sent 0 0 1 2 ∷ both_sent
-
-held_unequal : HeldAgree opening unequal → ⊥
+held_unequal : HeldAgree opening (step (Event.Junk 1 (local_at 21) (bytes_of (forged 1 2))) (Line.Accepted 1 one 1 2 (Some 3)) 1 (keeps blank (got_from one) 2) ∷ takes both_sent 0 0 1 2 ∷ both_sent) → ⊥
 unfolding cut cut_from written
 held_unequal agree =
     let same : mapping wide 1440 ≡ mapping wide 60 = agree 0 1 one wide (row_of (mapping wide 1440) 1 0) (row_of (mapping wide 60) 2 0) first_entry (record { router = 2; key = 1; nonce = 2; server = 1; database = mapping wide 1440 ∷ []; part = 0; position = 1 })
@@ -534,13 +528,10 @@ sent_restarted : NoChange (sent_after_step restarted_changed) first_entry (third
 sent_restarted n = absurd (true≢false (n.later 1 restarted_changed (omega arith) (omega arith) refl))
 
 -- of longer traces: a change before both sends, or between two of three; entries in the other order; entries of two routers
-abbrev sent_later : List Step
-sent_later = sends (sends (changes [] short ∷ []) 0 1 0 ∷ changes [] short ∷ []) 0 2 1 ∷ sends (changes [] short ∷ []) 0 1 0 ∷ changes [] short ∷ []
-
 abbrev entry_at : ℕ → ℕ → ℕ → SentRegister
 entry_at router nonce position = record { router = router; key = 1; nonce = nonce; server = 0; database = short; part = 0; position = position }
 
-changed_before : NoChange sent_later (entry_at 2 1 1) (entry_at 2 2 2)
+changed_before : NoChange (sends (sends (changes [] short ∷ []) 0 1 0 ∷ changes [] short ∷ []) 0 2 1 ∷ sends (changes [] short ∷ []) 0 1 0 ∷ changes [] short ∷ []) (entry_at 2 1 1) (entry_at 2 2 2)
 changed_before = record { router = refl; later = λ place s low high is. absurd (omega (arith, low, high)); earlier = λ place s low high is. absurd (omega (arith, low, high)) }
 
 abbrev sent_thrice : List Step
@@ -637,14 +628,11 @@ server_twice n = n.servers.1.0.once 0 1 0 (omega arith) (omega arith) refl
 -- ---- the network, and its trace
 
 -- the site may have one live row; the first router has two records
-abbrev bounded : SiteValue
-bounded = record site { limits = record no_limits { most_rows = Some 1 } }
-
 abbrev two_records : List MapRecordValue
 two_records = mapping wide 1440 ∷ mapping narrow 1440 ∷ []
 
 abbrev limited : Opening
-limited = record opening { config = record network { sites = bounded ∷ []; routers = record (router_at network 2) { database = two_records } ∷ [] } }
+limited = record opening { config = record network { sites = (record site { limits = record no_limits { most_rows = Some 1 } }) ∷ []; routers = record (router_at network 2) { database = two_records } ∷ [] } }
 
 -- it sends them to the first Map-Server
 abbrev limited_sent : List Step

@@ -19,7 +19,8 @@ use Rattle.lisp_model.specs.Receiving.{FailsCheck, IsFresh}
 use Rattle.lisp_model.specs.Trace.{Step, Opening, ShownStore, sites, database, etr_config, etr_config_under, is_up, key as key_of, router_at, shown_store}
 use Rattle.lisp_model.specs.Story.{at, blank, counts, got_from, keeps, local_at, mapping, narrow, network, one, one_counted, one_sent, one_taken, opening, replays, restarts, sends, sent_by, step, takes, two, wide, replay_refused, server_restarted, six_steps, secret, site, xtr_of}
 use Rattle.lisp_model.specs.Numbers.{numbers_below, part_numbers}
-use Rattle.lisp_model.proofs.Examples.Steps.{hears, kinds_differ, registers_read, short_heard, short_message, strange_refused, changes_legal, counts_part_legal, doubts_send_legal, doubts_take_legal, ends_legal, fails_load_legal, notices_legal, refuses_record, repeats_legal, replays_legal, restarts_legal, restarts_to_legal, sends_legal, takes_legal, tells_legal, ticks_legal, foreign_whole, short_whole, wide_whole, legal, send_legal, answered, blocks, changes, counts_part, fails_load, refuses, spent, tells, ticks, told, aged, answered_elsewhere, both_sent, both_taken, doubted, ended, first_told, foreign, foreign_sent, forgot, held_at, is_down, kept_it, newer_taken, not_started, older_noticed, parts_sent_again, parts_taken, registered_again, restarted, second_counted, sent_after, sent_twice, short, spent_taken, told_again, told_and_gone, told_anew, two_sent, unsure, unsure_forgot, unsure_kept, vanished, waited, was_noticed, doubted_end, doubted_new, doubted_old, fresh_value, other_value, set_value, IsOnePart, block_of_one, fits_under, failed, saved, item_authentic, passes, registers, sends_part, parts_sent, strange, Event, Fate, Line, NoticeFault, NotifyFault, ReadFault, Refusal, Refused, RotateFault, SendFault, StartFault, StoreFault}
+use Rattle.lisp_model.proofs.Examples.Steps.{answered, blocks, changes, counts_part, fails_load, refuses, spent, tells, ticks, told, aged, answered_elsewhere, both_sent, both_taken, doubted, ended, first_told, foreign, foreign_sent, forgot, held_at, is_down, kept_it, newer_taken, not_started, older_noticed, parts_sent_again, parts_taken, registered_again, restarted, second_counted, sent_after, sent_twice, short, spent_taken, told_again, told_and_gone, told_anew, two_sent, unsure, unsure_forgot, unsure_kept, vanished, waited, was_noticed, failed, registers, sends_part, parts_sent, strange, Event, Fate, Line, NoticeFault, NotifyFault, ReadFault, Refusal, Refused, RotateFault, SendFault, StartFault, StoreFault}
+use Rattle.lisp_model.proofs.Examples.Steps.{hears, kinds_differ, registers_read, short_heard, short_message, strange_refused, changes_legal, counts_part_legal, doubts_send_legal, doubts_take_legal, ends_legal, fails_load_legal, notices_legal, refuses_record, repeats_legal, replays_legal, restarts_legal, restarts_to_legal, sends_legal, takes_legal, tells_legal, ticks_legal, foreign_whole, short_whole, wide_whole, legal, send_legal, doubted_end, doubted_new, doubted_old, fresh_value, other_value, set_value, IsOnePart, block_of_one, fits_under, saved, item_authentic, passes}
 use Rattle.lisp_model.proofs.KeptLemmas.{empty_full, insert_full, only_value, set_full, set_here, set_others, stays}
 use Rattle.std.proofs.lemmas.Bool.Decides.{Decides-eqb}
 use Rattle.lisp_records.specs.Result.{◌>>=◌}
@@ -338,13 +339,30 @@ notices_spent_told = legal (omega arith) refl (
 -- a router that saves ten nonces at once keeps the last of them
 pub saved_its_block : Legal blocks [] (step (Event.Send 2 0 0 Fate.Done) (Line.Sent 2 0 0 1 1 0) 2 (keeps blank (sent_by one) 10))
 unfolding cut cut_from written
-saved_its_block = send_legal (omega arith) refl refl refl refl refl wide_whole.database wide_whole.there refl None (fresh_value (sent_by one)) refl (omega arith) refl
-    (record { nonce = omega arith; key = omega arith; records = wide_whole.records; xtr = refl; xtr_bytes = search rules; site = omega arith })
-    (record {
+saved_its_block = legal (omega arith) refl (
+  refl,
+  refl,
+  refl,
+  record {
+    acts = record { kind = refl; acts = refl; state = refl };
+    kind = refl;
+    listed = refl;
+    fits = wide_whole.database;
+    there = wide_whole.there;
+    under = refl;
+    base = None;
+    counts = fresh_value (sent_by one);
+    next = refl;
+    within = omega arith;
+    message = record { nonce = omega arith; key = omega arith; records = wide_whole.records; xtr = refl; xtr_bytes = search rules; site = omega arith };
+    place = refl;
+    saves = record {
       here = inr (set_here empty (sent_by one) (Some 10 ∷ []), λ obeys clash. absurd cc);
       none_below = λ v has. subst (λ (w : Option ℕ). 1 ≤ number w) (sym (only_value (Some 10) v (subst (λ (vs : List (Option ℕ)). Contains vs v) (set_here empty (sent_by one) (Some 10 ∷ [])) has))) (omega arith);
       others = set_others empty (sent_by one) (Some 10 ∷ []);
-    })
+    };
+  },
+)
 
 -- ---- The story.
 
@@ -448,7 +466,7 @@ sends_under_legal : (T : List Step) (key nonce datagram : ℕ) (base : Option �
 sends_under_legal T key nonce datagram base is up counted next small low whole place = send_legal (omega arith) refl refl up refl refl whole.database whole.there (sym is) base counted next (omega (arith, low)) place
     (record { nonce = omega (arith, low); key = subst (λ (k : ℕ). k < 256) (sym is) small; records = subst AreRecords (sym whole.alone) whole.records; xtr = refl; xtr_bytes = search rules; site = omega arith })
     (subst (λ (k : ℕ). Saves (context_of rotating T (sends_under T key nonce datagram)) (under k (sent_by one)) nonce (block_end nonce 1)) (sym is)
-        (subst (Saves (context_of rotating T (sends_under T key nonce datagram)) (under key (sent_by one)) nonce) (sym (block_of_one nonce (omega (arith, low)))) (saved _ (under key (sent_by one)) nonce (λ obeys clash. absurd cc) refl)))
+    (subst (Saves (context_of rotating T (sends_under T key nonce datagram)) (under key (sent_by one)) nonce) (sym (block_of_one nonce (omega (arith, low)))) (saved _ (under key (sent_by one)) nonce (λ obeys clash. absurd cc) refl)))
 
 -- it is accepted
 takes_under_legal : (T before : List Step) (k key nonce datagram : ℕ) (base : Option ℕ) → sites rotating T 0 ≡ rotating.config.sites → slice_get (bag rotating T) k ≡ Some (register_item rotating before 2 0 0 nonce) → key_of rotating before 2 ≡ key → secret_of three_keys key ≡ Some (etr_config rotating before 2).secret
@@ -475,14 +493,8 @@ takes_under_legal T before k key nonce datagram base has sent is known allowed c
 })
 
 -- the keys of the site
-pub second_known : KnowsKey rotating.config 2 2
-second_known e = absurd cc
-
-pub first_known : KnowsKey rotating.config 2 1
-first_known e = absurd cc
-
-pub third_known : KnowsKey rotating.config 2 3
-third_known e = absurd cc
+keys_known : KnowsKey rotating.config 2 1 × KnowsKey rotating.config 2 2 × KnowsKey rotating.config 2 3
+keys_known = (λ e. absurd cc, λ e. absurd cc, λ e. absurd cc)
 
 -- the router goes over to a key
 rotates_legal : (T : List Step) (key : ℕ) → is_up T 2 ≡ true → MayRotate rotating T 2 key → key ≢ key_of rotating T 2 → Legal rotating T (rotates T key)
@@ -499,7 +511,7 @@ pub started_legal : LegalTrace rotating started
 started_legal = (sends_under_legal [] 1 1 0 None refl refl (fresh_value (sent_by one)) refl (omega arith) (omega arith) wide_whole refl, tt)
 
 pub renewed_legal : LegalTrace rotating renewed
-renewed_legal = (rotates_legal started 2 refl (record { known = second_known; unused = in_none 2 }) (other_number 2 1 refl), started_legal)
+renewed_legal = (rotates_legal started 2 refl (record { known = keys_known.1; unused = in_none 2 }) (other_number 2 1 refl), started_legal)
 
 pub sent_anew_legal : LegalTrace rotating sent_anew
 sent_anew_legal = (sends_under_legal renewed 2 1 1 None refl refl (fresh_under 2 1 1 (other_number 2 1 refl)) refl (omega arith) (omega arith) wide_whole refl, renewed_legal)
@@ -544,11 +556,11 @@ counted_under_legal = (
 pub sent_back_legal : LegalTrace rotating sent_back
 sent_back_legal = (
   sends_under_legal back 1 2 4 (Some 1) refl refl (other_value (keeps blank (sent_by one) 1).kept (under 2 (sent_by one)) (sent_by one) (Some 1 ∷ []) (Some 1) (keys_differ (sent_by one) 1 2 (other_number 1 2 refl)) (set_value empty (sent_by one) (Some 1))) refl (omega arith) (omega arith) wide_whole refl,
-  (rotates_legal counted_under 1 refl (record { known = first_known; unused = in_none 1 }) (other_number 1 2 refl), counted_under_legal),
+  (rotates_legal counted_under 1 refl (record { known = keys_known.0; unused = in_none 1 }) (other_number 1 2 refl), counted_under_legal),
 )
 
 pub kept_key_legal : LegalTrace rotating kept_key
-kept_key_legal = (record { faults = λ other. omega arith; obedient = refl; row = (refl, record { kind = refl; acts = refl; state = refl }, record { known = first_known; unused = in_none 1 }, (refl, refl)) }, sent_back_legal)
+kept_key_legal = (record { faults = λ other. omega arith; obedient = refl; row = (refl, record { kind = refl; acts = refl; state = refl }, record { known = keys_known.0; unused = in_none 1 }, (refl, refl)) }, sent_back_legal)
 
 -- it used the first two keys alone
 pub not_third : Contains {X = ℕ} (1 ∷ 2 ∷ 1 ∷ []) 3 → ⊥
@@ -561,7 +573,7 @@ pub sent_at_last_legal : LegalTrace rotating (sends_under emptied 3 1 5 ∷ empt
 sent_at_last_legal = (
   sends_under_legal emptied 3 1 5 None refl refl (fresh_value (under 3 (sent_by one))) refl (omega arith) (omega arith) wide_whole refl,
   (
-    record { faults = λ other. omega arith; obedient = refl; row = record { lost = record { acts = refl; kind = refl; may = record { known = third_known; unused = not_third }; fits = tt; some = empty_full }; names = refl; to = refl } },
+    record { faults = λ other. omega arith; obedient = refl; row = record { lost = record { acts = refl; kind = refl; may = record { known = keys_known.2; unused = not_third }; fits = tt; some = empty_full }; names = refl; to = refl } },
     kept_key_legal,
   ),
 )
@@ -572,10 +584,10 @@ not_started_under key differ (zero, lt, is) = differ is
 not_started_under key differ (suc k, lt, is) = absurd (omega (arith, lt))
 
 not_emptied_legal : LegalTrace rotating not_emptied
-not_emptied_legal = (record { faults = λ other. omega arith; obedient = refl; row = record { lost = record { acts = refl; kind = refl; may = record { known = third_known; unused = not_started_under 3 (other_number 1 3 refl) }; fits = tt; some = empty_full }; names = refl; cause = λ other. inl (omega arith) } }, started_legal)
+not_emptied_legal = (record { faults = λ other. omega arith; obedient = refl; row = record { lost = record { acts = refl; kind = refl; may = record { known = keys_known.2; unused = not_started_under 3 (other_number 1 3 refl) }; fits = tt; some = empty_full }; names = refl; cause = λ other. inl (omega arith) } }, started_legal)
 
 pub down_at_a_rotation : LegalTrace rotating (step (Event.Rotate 2 3 Fate.Done) (Line.Down 2) 2 (shows not_emptied 2) ∷ not_emptied)
-down_at_a_rotation = (record { faults = λ other. omega arith; obedient = refl; row = (record { known = third_known; unused = not_started_under 3 (other_number 1 3 refl) }, record { acts = record { kind = refl; acts = refl; state = refl }; names = refl; same = refl }) }, not_emptied_legal)
+down_at_a_rotation = (record { faults = λ other. omega arith; obedient = refl; row = (record { known = keys_known.2; unused = not_started_under 3 (other_number 1 3 refl) }, record { acts = record { kind = refl; acts = refl; state = refl }; names = refl; same = refl }) }, not_emptied_legal)
 
 abbrev pub started_at_last : List Step
 started_at_last = step (Event.Restart 2 0 None) (Line.Restarted 2) 2 (shows not_emptied 2) ∷ not_emptied
@@ -591,7 +603,7 @@ abbrev pub not_loaded : Step
 not_loaded = step (Event.Rotate 2 2 Fate.LoadFails) (Line.Refused 2 (Refusal.Rotate (RotateFault.Store StoreFault.Device))) 2 (failed (shows started 2))
 
 pub not_loaded_legal : LegalTrace rotating (not_loaded ∷ started)
-not_loaded_legal = (record { faults = λ other. omega arith; obedient = refl; row = (refl, record { kind = refl; acts = refl; state = refl }, record { known = second_known; unused = in_none 2 }, (other_number 2 1 refl, record { same = refl; cause = λ other. inl (omega arith); may = λ other obeys. refl })) }, started_legal)
+not_loaded_legal = (record { faults = λ other. omega arith; obedient = refl; row = (refl, record { kind = refl; acts = refl; state = refl }, record { known = keys_known.1; unused = in_none 2 }, (other_number 2 1 refl, record { same = refl; cause = λ other. inl (omega arith); may = λ other obeys. refl })) }, started_legal)
 
 -- ---- A database of two parts: each is sent in a message of its own, and has its own turn.
 

@@ -55,10 +55,7 @@ entries = refl
 abbrev narrowed : List Step
 narrowed = changes one_taken (mapping narrow 5 ∷ []) ∷ one_taken
 
-abbrev narrow_taken : List Step
-narrow_taken = takes (sends narrowed 0 2 2 ∷ narrowed) 2 0 2 3 ∷ sends narrowed 0 2 2 ∷ narrowed
-
-both_held : rows (since_start opening narrow_taken 0) 0 ≡ row_of (mapping wide 1440) 1 0 ∷ row_of (mapping narrow 5) 2 0 ∷ []
+both_held : rows (since_start opening (takes (sends narrowed 0 2 2 ∷ narrowed) 2 0 2 3 ∷ sends narrowed 0 2 2 ∷ narrowed) 0) 0 ≡ row_of (mapping wide 1440) 1 0 ∷ row_of (mapping narrow 5) 2 0 ∷ []
 unfolding cut cut_from written
 both_held = refl
 
@@ -251,15 +248,12 @@ given_while_down = refl
 given_to_another : database opening (changes [] short ∷ []) 3 ≡ mapping narrow 1440 ∷ []
 given_to_another = refl
 
-given_to_another_at_a_start : database opening (restarted_changed ∷ one_sent) 3 ≡ mapping narrow 1440 ∷ []
-given_to_another_at_a_start = refl
-
--- a router is down whose start was refused, until its own start
+-- a router is down whose start was refused, until its own start, which gives another one no database
 up_beside_it : is_up not_started 3 ≡ true
 up_beside_it = refl
 
-up_again : is_up (restarts not_started 2 ∷ not_started) 2 ≡ true
-up_again = refl
+up_again : (is_up (restarts not_started 2 ∷ not_started) 2 ≡ true) × (database opening (restarted_changed ∷ one_sent) 3 ≡ mapping narrow 1440 ∷ [])
+up_again = (refl, refl)
 
 down_though_another_starts : is_up (step (Event.Restart 3 0 None) (Line.Restarted 3) 3 blank ∷ not_started) 2 ≡ false
 down_though_another_starts = refl
@@ -677,9 +671,9 @@ others_sites_then = refl
 secrets_of_its_sites : (secrets_of opening (kept ∷ one_taken) 0 ≡ secret ∷ secret ∷ []) × (secrets_of opening (anew ∷ one_taken) 0 ≡ [])
 secrets_of_its_sites = (refl, refl)
 
--- what it holds then: all, or nothing
-rows_kept : since_start opening (kept ∷ one_taken) 0 ≡ since_start opening one_taken 0
-rows_kept = refl
+-- what it holds then: all, and its life goes on; or nothing
+rows_kept : (since_start opening (kept ∷ one_taken) 0 ≡ since_start opening one_taken 0) × (began (kept ∷ step (Event.Tick 5) (Line.Ticked 5 5) 9 (at [] 9) ∷ []) 0 ≡ 0)
+rows_kept = (refl, refl)
 
 rows_gone : since_start opening (anew ∷ one_taken) 0 ≡ []
 rows_gone = refl
@@ -704,9 +698,6 @@ module _ (T : List Step) where
 
   others_last_notice : last_notice (step (Event.Reload 1 keyless) (Line.Renewed 1 1) 1 (at one_taken 1) ∷ T) 0 ≡ last_notice T 0
   others_last_notice = refl
-
-life_goes_on : began (kept ∷ step (Event.Tick 5) (Line.Ticked 5 5) 9 (at [] 9) ∷ []) 0 ≡ 0
-life_goes_on = refl
 
 life_begins : began (anew ∷ step (Event.Tick 5) (Line.Ticked 5 5) 9 (at [] 9) ∷ []) 0 ≡ 5
 life_begins = refl

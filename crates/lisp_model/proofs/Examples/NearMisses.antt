@@ -1,5 +1,5 @@
 -- Steps that are illegal: each would be legal but for one thing.
-use Rattle.std.proofs.Common.{[], List, None, Ok, Option, Some, ap, false, refl, subst, sym, true, ℕ, ◌∙◌, ◌∷◌, ◌≡◌, arith, inl, inr, slice_index_or, true≢false, Err}
+use Rattle.std.proofs.Common.{[], List, None, Ok, Option, Some, ap, false, refl, subst, sym, true, ℕ, ◌∙◌, ◌∷◌, ◌≡◌, arith, slice_index_or, true≢false, Err}
 use Rattle.std.specs.FinMap.{insert, empty}
 use Rattle.std.specs.List.{Contains}
 use Rattle.std.specs.Prelude.{Result, ◌-◌, ◌<◌, ◌^◌, ◌⊎◌, if◌then◌else◌, ◌+◌, ◌≤◌, slice_get, ◌++◌}
@@ -17,7 +17,8 @@ use Rattle.lisp_model.specs.Bag.{Item, register_item, arrival_of, bytes_of, sinc
 use Rattle.lisp_model.specs.Held.{Acceptance, last_of}
 use Rattle.lisp_model.specs.Timers.{Notice}
 use Rattle.lisp_model.specs.Story.{mapping, opening, wide, at, blank, got_from, keeps, local_at, network, one, one_sent, one_taken, replays, secret, site, step, takes, two, sent_by, sends, counts}
-use Rattle.lisp_model.proofs.Examples.Steps.{fits, registers, strange_refused, told_reads, kinds_differ, answered, fails_load, refuses, told, told_to, first_told, foreign, foreign_sent, restarted, sent_twice, was_noticed, failed, repeats, spent, tells, registered_again, spent_taken, told_and_gone, waited, blocks, one_left, one_left_taken, bad_tag, is_not_allowed, item_authentic, changes, not_started, short, heard_of, notices, told_again, counts_part, doubts, sends_part, parts_sent_again, parts_taken, ticks, answered_elsewhere, hears, short_heard, Event, Fate, Line, NoticeFault, NotifyFault, PairKind, ReadFault, Refusal, Refused, RotateFault, SendFault, StartFault, StoreFault}
+use Rattle.lisp_model.proofs.Examples.Steps.{registers, answered, fails_load, refuses, told, told_to, first_told, foreign, foreign_sent, restarted, sent_twice, was_noticed, failed, repeats, spent, tells, registered_again, spent_taken, told_and_gone, waited, blocks, one_left, one_left_taken, changes, not_started, short, heard_of, notices, told_again, counts_part, doubts, sends_part, parts_sent_again, parts_taken, ticks, answered_elsewhere, Event, Fate, Line, NoticeFault, NotifyFault, PairKind, ReadFault, Refusal, Refused, RotateFault, SendFault, StartFault, StoreFault}
+use Rattle.lisp_model.proofs.Examples.Steps.{fits, strange_refused, told_reads, kinds_differ, bad_tag, is_not_allowed, item_authentic, hears, short_heard}
 use Rattle.lisp_model.proofs.KeptLemmas.{only_value, set_here, set_others}
 use Rattle.std.proofs.lemmas.Option.{none-some}
 use Rattle.lisp_records.specs.declared.router.RouterId.{RouterId}
@@ -59,7 +60,7 @@ number_of v {base} one has = ap number (only_value v base (subst (λ (vs : List 
 pub nothing_is_no_number : {n : ℕ} → ◌≡◌ {A = List (Option ℕ)} (None ∷ []) (Some n ∷ []) → ⊥
 nothing_is_no_number e = absurd cc
 
--- what arrives is what stands in the bag; its Map-Register, its Map-Notify-Ack; the notice, the last Map-Register
+-- the Map-Register of what arrives, and the Map-Notify or Map-Notify-Ack
 pub register_is : (i j : Item) (m n : MapRegisterValue) → i ≡ j → i.message ≡ Registers m → ◌≡◌ {A = Result MessageValue ReadFault} (Ok j.message) (Ok (Registers n)) → m ≡ n
 register_is i j m n same says read = let both : ◌≡◌ {A = Result MessageValue ReadFault} (Ok (Registers m)) (Ok (Registers n)) = ap Ok (sym says) ∙ ap (λ (x : Item). Ok x.message) same ∙ read in cc
 
@@ -80,8 +81,7 @@ never e = absurd cc
 
 -- a device failed, though no count rose
 pub unfailed : (0 < 0) ⊎ (◌≡◌ {A = ℕ} 0 (2 ^ 64 - 1)) → ⊥
-unfailed (inl less) = absurd (omega (arith, less))
-unfailed (inr same) = absurd (omega (arith, same))
+unfailed rose = cases rose (λ less. absurd (omega (arith, less))) (λ same. absurd (omega (arith, same)))
 
 pub a_device : StoreFault.Device ≡ StoreFault.OutOfMemory → ⊥
 a_device e = absurd cc
@@ -241,10 +241,7 @@ done_from_elsewhere bytes read l =
     none-some _ (ap (awaiting t (local_at 22)) (same_notify read l.row.arrives.read) ∙ l.row.arrives.stands)
 
 -- an acknowledgement under another key ends it
-abbrev another_keys : MapNotifyValue
-another_keys = record { ack = true; nonce = 2 ^ 63; key_id = 2; records = mapping wide 1440 ∷ [] }
-
-done_under_another_key : (bytes : List ℕ) → message_at bytes ≡ Ok (Notifies another_keys)
+done_under_another_key : (bytes : List ℕ) → message_at bytes ≡ Ok (Notifies (record { ack = true; nonce = 2 ^ 63; key_id = 2; records = mapping wide 1440 ∷ [] }))
     → Legal opening was_noticed (step (Event.Junk 0 (local_at 21) bytes) (Line.Done 0 one (2 ^ 63)) 0 (at was_noticed 0)) → ⊥
 done_under_another_key bytes read l =
     let t = context_of opening was_noticed (step (Event.Junk 0 (local_at 21) bytes) (Line.Done 0 one (2 ^ 63)) 0 (at was_noticed 0)) in
@@ -332,7 +329,7 @@ told_of_nothing l = let clash : ◌≡◌ {A = List MapRecordValue} (mapping wid
 notices_not_spent : Legal opening one_taken (refuses one_taken (Event.Notice 0 2 Fate.Done) 0 (Refusal.Notice NoticeFault.NonceSpent)) → ⊥
 notices_not_spent l =
     let kept = set_others blank.kept (got_from one) (Some 1 ∷ []) notice_pair (λ e. absurd (kinds_differ e)) ∙ kept_at-empty notice_pair in
-    absurd (omega (arith, number_of None kept l.row.3.2, l.row.3.4))
+    let high : 2 ^ 64 - 1 ≤ number l.row.3.1 = l.row.3.4 in absurd (omega (arith, number_of None kept l.row.3.2, high))
 
 -- a load fails though the last nonce is in memory
 load_for_a_notice_failed_though_known : Legal opening first_told (step (Event.Notice 0 2 Fate.LoadFails) (Line.Refused 0 (Refusal.Notice (NoticeFault.StoreLoad StoreFault.Device))) 0 (failed (at first_told 0))) → ⊥
@@ -379,7 +376,7 @@ past_the_last_nonce l = let within : 2 ^ 63 ≤ last_nonce = l.row.3.within in a
 
 -- it says that its nonces are spent where one is left
 spent_with_one_left : Legal one_left [] (step (Event.Send 2 0 0 Fate.Done) (Line.Refused 2 (Refusal.Send SendFault.NonceSpent)) 2 (keeps blank (sent_by one) (2 ^ 63 - 2))) → ⊥
-spent_with_one_left l = absurd (omega (arith, number_of (Some (2 ^ 63 - 2)) (set_here empty (sent_by one) (Some (2 ^ 63 - 2) ∷ [])) l.row.3.1.1, l.row.3.1.2))
+spent_with_one_left l = let high : last_nonce ≤ number l.row.3.1.0 = l.row.3.1.2 in absurd (omega (arith, number_of (Some (2 ^ 63 - 2)) (set_here empty (sent_by one) (Some (2 ^ 63 - 2) ∷ [])) l.row.3.1.1, high))
 
 -- its save fails where none is left to save
 save_failed_though_spent : Legal spent [] (step (Event.Send 2 0 0 Fate.Doubt) (Line.Refused 2 (Refusal.Send (SendFault.Store StoreFault.Device))) 2 (failed (keeps blank (sent_by one) (2 ^ 63 - 1)))) → ⊥
@@ -393,7 +390,7 @@ past_the_last_notice l = let bound : 2 ^ 64 < 2 ^ 64 = l.row.2.bound in absurd (
 notices_spent_with_one_left : Legal one_left one_left_taken (step (Event.Notice 0 3 Fate.Done) (Line.Refused 0 (Refusal.Notice NoticeFault.NonceSpent)) 0 (keeps (keeps blank notice_pair (2 ^ 64 - 2)) (got_from two) 1)) → ⊥
 notices_spent_with_one_left l =
     let kept = set_others (keeps blank notice_pair (2 ^ 64 - 2)).kept (got_from two) (Some 1 ∷ []) notice_pair (λ e. absurd (kinds_differ e)) ∙ set_here empty notice_pair (Some (2 ^ 64 - 2) ∷ []) in
-    absurd (omega (arith, number_of (Some (2 ^ 64 - 2)) kept l.row.3.2, l.row.3.4))
+    let high : 2 ^ 64 - 1 ≤ number l.row.3.1 = l.row.3.4 in absurd (omega (arith, number_of (Some (2 ^ 64 - 2)) kept l.row.3.2, high))
 
 -- a router that saves ten nonces at once saves one
 saved_short_of_its_block : Legal blocks [] (step (Event.Send 2 0 0 Fate.Done) (Line.Sent 2 0 0 1 1 0) 2 (keeps blank (sent_by one) 1)) → ⊥
@@ -453,7 +450,7 @@ memory_for_unlisted l = let clash : false ≡ true = l.row.3.0.0 in absurd cc
 
 -- a router's nonces are spent before the last one
 sends_not_spent : Legal opening [] (refuses [] (Event.Send 2 0 0 Fate.Done) 2 (Refusal.Send SendFault.NonceSpent)) → ⊥
-sends_not_spent l = absurd (omega (arith, number_of None (kept_at-empty (sent_by one)) l.row.3.1.1, l.row.3.1.2))
+sends_not_spent l = let high : last_nonce ≤ number l.row.3.1.0 = l.row.3.1.2 in absurd (omega (arith, number_of None (kept_at-empty (sent_by one)) l.row.3.1.1, high))
 
 -- memory is refused where the nonces are spent
 memory_before_spent : Legal spent [] (step (Event.Send 2 0 0 Fate.Done) (Line.Refused 2 (Refusal.Send SendFault.OutOfMemory)) 2 (keeps blank (sent_by one) (2 ^ 63 - 1))) → ⊥
@@ -737,7 +734,7 @@ doubt_of_a_message_without_memory l = adds_is_not_same blank (got_from one) 1 (l
 save_damaged : Legal opening [] (step (Event.Send 2 0 0 Fate.Doubt) (Line.Refused 2 (Refusal.Send (SendFault.Store StoreFault.Damaged))) 2 (doubts blank (sent_by one) 1)) → ⊥
 save_damaged l = l.row.3.1.fails.sound refl
 
--- a store counts fewer faults than before, and nothing restarted_under
+-- a store counts fewer faults than before, and nothing restarted
 fewer_faults : Legal opening not_started (step (Event.Restart 2 0 None) (Line.Refused 2 (Refusal.Start (StartFault.Store StoreFault.Device))) 2 (at one_sent 2)) → ⊥
 fewer_faults l = let more : 1 ≤ 0 = l.faults refl in absurd (omega (arith, more))
 
@@ -817,10 +814,7 @@ doubt_not_kept l =
     absurd cc
 
 -- a notice is told though the event asks for doubt
-abbrev obedient_taken : List Step
-obedient_taken = step (Event.Deliver 0 Fate.Done) (Line.Accepted 0 one 1 1 (Some 1)) 0 (keeps obeys (got_from one) 1) ∷ obedient_sent
-
-told_in_doubt : Legal obedient obedient_taken (step (Event.Notice 0 2 Fate.Doubt) (Line.Notice 0 2 1 (2 ^ 63) 2) 0 (keeps (keeps obeys (got_from one) 1) notice_pair (2 ^ 63))) → ⊥
+told_in_doubt : Legal obedient (step (Event.Deliver 0 Fate.Done) (Line.Accepted 0 one 1 1 (Some 1)) 0 (keeps obeys (got_from one) 1) ∷ obedient_sent) (step (Event.Notice 0 2 Fate.Doubt) (Line.Notice 0 2 1 (2 ^ 63) 2) 0 (keeps (keeps obeys (got_from one) 1) notice_pair (2 ^ 63))) → ⊥
 told_in_doubt l = cases l.row.2.saves.here (λ same. nothing_is_no_number (sym before ∙ sym same ∙ set_here (keeps obeys (got_from one) 1).kept notice_pair (Some (2 ^ 63) ∷ []))) (λ saved. saved.1 refl refl)
   where
     before : kept_at (keeps obeys (got_from one) 1).kept notice_pair ≡ None ∷ []

@@ -1,6 +1,6 @@
 -- The small network: what the checks make of an item, which is authentic under its secret; its steps and traces; and that they are legal.
 use Rattle.std.proofs.Common.{◌≡◌, ℕ, true, false, List, Some, None, Ok, Err, refl, ◌∙◌, true≢false, ◌≤◌, [], ◌∷◌, Option, sym, ap, subst, inl, inr, arith, length, ◌+◌, ◌-◌, ◌^◌, Bool, rules}
-use Rattle.std.proofs.lemmas.Bool.{and_from, le-leb, leb-true}
+use Rattle.std.proofs.lemmas.Bool.{and_from, le-leb, leb-true, false_from_ne_true}
 use Rattle.std.proofs.lemmas.Slice.Eq.{bytes_eq-Decides}
 use Rattle.lisp_messages.specs.Message.{MessageValue, MapRegisterValue, Registers, Notifies, AreRecords, IsMapRegister, IsMessage}
 use Rattle.lisp_messages.specs.Authentic.{IsAuthentic, is_authentic, signed}
@@ -504,21 +504,26 @@ pub send_legal : {o : Opening} {T : List Step} {server part key nonce datagram :
     → (base : Option ℕ) → CountsFrom o T 2 base → nonce ≡ number base + 1 → nonce ≤ last_nonce → datagram ≡ length (bag o T) → IsMapRegister (map_register_of (etr_config o T 2) (part_at (database o T 2) part) nonce)
     → Saves (context_of o T (step (Event.Send 2 server part fate) (Line.Sent 2 server part key nonce datagram) 2 shown)) (pair_at o T 2) nonce (block_end nonce (etr_config o T 2).nonce_block)
     → Legal o T (step (Event.Send 2 server part fate) (Line.Sent 2 server part key nonce datagram) 2 shown)
-send_legal faults obedient router up kind listed fits there under base counts next within place message saves = legal faults obedient (refl, refl, refl, record {
-  acts = record { kind = router; acts = refl; state = up };
-  kind = kind;
-  listed = listed;
-  fits = fits;
-  there = there;
-  under = under;
-  base = base;
-  counts = counts;
-  next = next;
-  within = within;
-  message = message;
-  place = place;
-  saves = saves;
-})
+send_legal faults obedient router up kind listed fits there under base counts next within place message saves = legal faults obedient (
+  refl,
+  refl,
+  refl,
+  record {
+    acts = record { kind = router; acts = refl; state = up };
+    kind = kind;
+    listed = listed;
+    fits = fits;
+    there = there;
+    under = under;
+    base = base;
+    counts = counts;
+    next = next;
+    within = within;
+    message = message;
+    place = place;
+    saves = saves;
+  },
+)
 
 -- a router that saves each nonce by itself
 pub block_of_one : (nonce : ℕ) → nonce ≤ last_nonce → block_end nonce 1 ≡ nonce
@@ -580,11 +585,7 @@ replays_legal T k server nonce saved i db sent there kind has says key allowed c
 
 -- a number below another isn't above it
 pub not_above : (m n : ℕ) → n < m → nat_le m n ≡ false
-not_above m n low = at (nat_le m n) refl
-  where
-    at : (b : Bool) → nat_le m n ≡ b → nat_le m n ≡ false
-    at false is = is
-    at true is = let above = leb-true m n is in absurd (omega (arith, low, above))
+not_above m n low = false_from_ne_true (nat_le m n) (λ is. let above = leb-true m n is in absurd (omega (arith, low, above)))
 
 pub counts_part_legal : (T : List Step) (k server part nonce : ℕ) (from : Addr) (records : List MapRecordValue) → key_of opening T 2 ≡ 1 → is_up T 2 ≡ true → slice_get (bag opening T) k ≡ Some (told from (local_at 21) nonce records)
     → server_from network 2 from ≡ Some server → nonce < first_notice → part_with nonce (latest_nonces T 2 server) ≡ Some part → Legal opening T (counts_part T k server part nonce)
