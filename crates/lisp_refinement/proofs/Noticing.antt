@@ -314,10 +314,6 @@ module _ (old new : WorldState) (server router : ℕ) (fate : Fate) (line : Line
     last : (last : Acceptance) × (heard_last me (since_start o T server) ≡ Some last) × (contact_of last.message last.from ≡ contact)
     last = heard contact announced.registered announced.registered.heard.heard
 
-    -- what the store keeps then
-    kept_now : kept_at called.kept notice_pair ≡ Some nonce ∷ []
-    kept_now = announced.kept is_honest
-
     -- the step is legal
     sent_legal : Legal o T (step sent)
     sent_legal = record {
@@ -340,8 +336,8 @@ module _ (old new : WorldState) (server router : ℕ) (fate : Fate) (line : Line
           bound = announced.fits.nonce;
           place = stand.bag.count;
           saves = record {
-            here = inr (kept_now, by (λ f. f ≢ Doubt) announced.saves);
-            none_below = λ v has. subst (λ (w : Option ℕ). nonce ≤ number w) (sym (only_value (Some nonce) v (subst (λ (vs : List (Option ℕ)). Contains vs v) kept_now has))) (omega arith);
+            here = inr ((announced.kept is_honest), by (λ f. f ≢ Doubt) announced.saves);
+            none_below = λ v has. subst (λ (w : Option ℕ). nonce ≤ number w) (sym (only_value (Some nonce) v (subst (λ (vs : List (Option ℕ)). Contains vs v) (announced.kept is_honest) has))) (omega arith);
             others = λ q differ. announced.others is_honest q differ ∙ ap (λ (kept : Kept). kept_at kept q) shows.armed_shows.kept;
           };
         },

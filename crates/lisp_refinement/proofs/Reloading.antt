@@ -82,11 +82,8 @@ module _ (old new : WorldState) (server : ℕ) (given : List SiteValue) (line : 
 
   -- it starts anew
   module _ (is : extends before.core.sites given ≡ false) where
-    abbrev later : List Step
-    later = step false ∷ T
-
-    fresh_part : StandsForServer o later server after
-    fresh_part = fresh_stands o later server after given
+    fresh_part : StandsForServer o (step false ∷ T) server after
+    fresh_part = fresh_stands o (step false ∷ T) server after given
         (core_is false is) (sym (takes false)) (here server [] (since_start o T server)) (here server [] (notices o T server)) (here server None (last_notice T server))
         (life_is false is ∙ stand.bag.moment ∙ sym (here server (clock T) (began T server)))
 

@@ -358,16 +358,13 @@ module _ (old new : WorldState) (node pick : ℕ) (db : Option (List MapRecordVa
   abbrev event : EventValue
   event = events.Restart node pick db
 
-  abbrev turn : Context
-  turn = turn_at o T node Done (shown_by after.store)
-
   -- the restart narrows what is kept
-  narrows : Restarts turn
+  narrows : Restarts (turn_at o T node Done (shown_by after.store))
   narrows q = subst (λ (k : Kept). Narrows (kept_at (shown_store o T node).kept q) (kept_at k q)) (sym keeps)
       (crash_narrows before.store crashed pick (shown_store o T node) restarts.reopens shows q)
 
   -- to what is picked
-  picks : Picks turn pick
+  picks : Picks (turn_at o T node Done (shown_by after.store)) pick
   picks obeys q = subst (λ (k : Kept). kept_at k q ≡ picked (kept_at (shown_store o T node).kept q) pick ∷ []) (sym keeps)
       (crash_picks before.store crashed pick (shown_store o T node) restarts.reopens shows obeys q)
 

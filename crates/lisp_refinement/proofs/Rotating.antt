@@ -151,10 +151,6 @@ module _ (old new : WorldState) (router key : ℕ) (fate : Fate) (line : Line) (
     unmoved : Same turn
     unmoved = same uses.armed_shows.honest ∙ uses.armed_shows.kept
 
-    -- its key is what the trace says
-    key_is : e.config.key_id ≡ key_at o T router
-    key_is = ap (λ (c : EtrConfigValue). c.key_id) own.config
-
     -- it went over to the key
     module _ (used : UsesKey before.used after.used key) (call : CoreRotates e left key rotates.of.secret armed called old.clock) where
       -- the trace with the step
@@ -203,7 +199,7 @@ module _ (old new : WorldState) (router key : ℕ) (fate : Fate) (line : Line) (
           names = refl;
           to = refl;
           may = may;
-          other = λ is. call.other (is ∙ sym key_is);
+          other = λ is. call.other (is ∙ sym (ap (λ (c : EtrConfigValue). c.key_id) own.config));
           loads = by_fate (λ x. x ≢ FailedLoads) fate armed (shown_store o T router) uses.armed_shows uses.fated call.loads;
           same = unmoved;
         };
@@ -233,9 +229,9 @@ module _ (old new : WorldState) (router key : ℕ) (fate : Fate) (line : Line) (
 
       -- each refusal has its row
       refusal : (f : RotateFault) → IsRotateFaultOf e key armed called f → RefusesToRotate turn router key f
-      refusal SameKey is = (is.0 ∙ key_is, unmoved)
+      refusal SameKey is = (is.0 ∙ (ap (λ (c : EtrConfigValue). c.key_id) own.config), unmoved)
       refusal (Store f) is = (
-        λ own_key. is.0 (own_key ∙ sym key_is),
+        λ own_key. is.0 (own_key ∙ sym (ap (λ (c : EtrConfigValue). c.key_id) own.config)),
         record {
           same = unmoved;
           cause = λ other. (subst (λ (n : ℕ). (n < called.faults) ⊎ (called.faults ≡ 2 ^ 64 - 1)) uses.armed_shows.faults (is.1 other));
