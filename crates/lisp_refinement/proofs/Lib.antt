@@ -10,8 +10,6 @@ pub mod Hearing
 pub mod ServerArrivals
 pub mod NoticeParts
 pub mod Reloading
-pub mod Resending
-pub mod Noticing
 pub mod Taking
 pub mod Asking
 pub mod Headlines

@@ -14,9 +14,9 @@ use Rattle.lisp_refinement.specs.Stands.{StandsAfter}
 use Rattle.lisp_refinement.specs.Taking.{NetworkTakes}
 use Rattle.lisp_refinement.proofs.Rotating.{change_stands}
 use Rattle.lisp_refinement.proofs.Rotating.{lose_stands}
-use Rattle.lisp_refinement.proofs.Noticing.{notice_stands}
+use Rattle.lisp_refinement.proofs.NoticeParts.{notice_stands}
 use Rattle.lisp_refinement.proofs.Reloading.{reload_stands}
-use Rattle.lisp_refinement.proofs.Resending.{resend_stands}
+use Rattle.lisp_refinement.proofs.NoticeParts.{resend_stands}
 use Rattle.lisp_refinement.proofs.Rotating.{rotate_stands}
 use Rattle.lisp_refinement.proofs.Sending.{send_stands}
 use Rattle.lisp_refinement.proofs.Passing.{tick_stands}
