@@ -30,7 +30,7 @@ use Rattle.lisp_etr.specs.declared.seen.Seen.TheVariants.{Counted}
 use Rattle.lisp_model.specs.declared.event.Event.TheVariants as events
 use Rattle.lisp_model.specs.declared.line.Line.{Line}
 use Rattle.lisp_model.specs.declared.line.Line.TheVariants as lines
-use Rattle.lisp_model.specs.Trace.{EventValue, ShownStore, Step, Opening, fate_of, address_at, is_router, router_at, etr_config, key, shown_store, node_at}
+use Rattle.lisp_model.specs.Trace.{EventValue, ShownStore, Step, Opening, fate_of, address_at, is_router, router_at, etr_config, shown_store, node_at}
 use Rattle.lisp_model.specs.Bag.{Arrival, bytes_of, as_notify, ack_item, arrival_in, items_added, past, bag, Item, arrival_of, junk_arrival}
 use Rattle.lisp_model.specs.Counted.{server_from, notify_at, latest_nonces}
 use Rattle.lisp_model.specs.Hearing.{refused_with, counted_line, counted_or_stale, line_of, IsToAnswer, Hears}

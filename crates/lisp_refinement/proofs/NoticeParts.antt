@@ -1,5 +1,5 @@
 -- The notices of Map-Servers: which are kept, and that a network stands for a trace with a notice that is sent, anew or again.
-use Rattle.std.proofs.Common.{◌≡◌, ◌≢◌, ℕ, ◌+◌, Bool, true, false, cond, not, List, [], ◌∷◌, length, map, Option, Some, None, refl, sym, ap, subst, ◌∙◌, inl, inr, ◌++◌, suc, ◌<◌, true≢false, ◌&&◌, slice_index_or, arith, zero, ◌≤◌, ◌^◌, Result, Ok, Err}
+use Rattle.std.proofs.Common.{◌≡◌, ◌≢◌, ℕ, ◌+◌, Bool, true, false, cond, not, List, [], ◌∷◌, length, map, Option, Some, None, refl, sym, ap, subst, ◌∙◌, inl, inr, ◌++◌, suc, ◌<◌, slice_index_or, arith, zero, ◌≤◌, ◌^◌, Result, Ok, Err}
 use Rattle.std.specs.Prelude.{◌⊎◌, slice_get, ◌-◌, IsTrue, IfOk, IfErr, OnErr}
 use Rattle.std.specs.List.{find, AllPairs, Contains, filter, remove}
 use Rattle.std.specs.Option.{option_map, option_and_then, option_to_list, unwrap_or}

@@ -25,7 +25,7 @@ use Rattle.lisp_model.specs.declared.refusal.Refusal.TheVariants as refusals
 use Rattle.lisp_model.specs.Trace.{EventValue, ShownStore, Step, Opening, fate_of, router_at, address_at, etr_config, shown_store, clock, is_up, database, database_after, sites}
 use Rattle.lisp_model.specs.Timers.{RoundTimes, round, Notice, notices, last_notice}
 use Rattle.lisp_model.specs.Bag.{bag, since_start}
-use Rattle.lisp_model.specs.Context.{Rose, IsBase, Context, Restarts, Picks}
+use Rattle.lisp_model.specs.Context.{Rose, IsBase, Restarts, Picks}
 use Rattle.lisp_model.specs.Counted.{latest_nonce, acked}
 use Rattle.lisp_model.specs.Sending.{pair_at, last_sent, start_values, CountsFrom}
 use Rattle.lisp_model.specs.Legal.{MayCome, is_restart}

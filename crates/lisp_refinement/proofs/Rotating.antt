@@ -41,7 +41,7 @@ use Rattle.lisp_refinement.specs.Calls.{CoreRotates, IsRotateFaultOf, CoreAnswer
 use Rattle.lisp_refinement.proofs.Gets.{none_is_some, get_mapped}
 use Rattle.lisp_refinement.proofs.Acting.{here, adds_none, Shown-in, uses_shown, by_fate, step_of, turn_at, shown_now, RouterStep, moved, acts_router, acts_part, acts_shows, down_step, stands_by, up_stays, router_acts}
 use Rattle.lisp_refinement.proofs.Places.{rounds_become}
-use Rattle.lisp_refinement.proofs.Restarting.{BeginsAnew, counts_anew, round_anew, config_known, database_known, answer_line, goes_on, StartsBy, become_honest, loaded, start_stands}
+use Rattle.lisp_refinement.proofs.Restarting.{BeginsAnew, counts_anew, round_anew, config_known, database_known, answer_line, goes_on, become_honest, loaded, start_stands}
 use Rattle.lisp_records.specs.Record.{MapRecordValue}
 use Rattle.lisp_etr.specs.declared.start_fault.StartFault.{StartFault}
 use Rattle.lisp_model.specs.Restarting.{Fits}
