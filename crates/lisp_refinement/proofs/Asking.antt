@@ -230,12 +230,12 @@ module _ (o : Opening) (T : List Step) (router : ℕ) (etr : EtrState) (part : S
   router_tells = record {
     acked = λ place server listed. (
         let its = (
-            let low = slice_get_within ((router_at o.config router).servers) place server listed in
-            let count = part.count in
-            get_within etr.rounds place (omega (arith, low, count))) in
+        let low = slice_get_within ((router_at o.config router).servers) place server listed in
+        let count = part.count in
+        get_within etr.rounds place (omega (arith, low, count))) in
         let stand = part.rounds place server its.0 listed its.1 in
         ap (λ (all : Option Rounds). unwrap_or (option_map (λ (rs : Rounds). rs.acked) all) []) its.1 ∙ list_by_parts (acked T router server) its.0.acked stand.acked_parts stand.acked);
-    due = first_alike (router_part (clock T) (part_count etr.database)) (due_part o T router) etr.rounds ((router_at o.config router).servers) part.count (λ place rs server at listed. 
+    due = first_alike (router_part (clock T) (part_count etr.database)) (due_part o T router) etr.rounds ((router_at o.config router).servers) part.count (λ place rs server at listed.
         let stand = part.rounds place server rs listed at in
         first_by_parts (λ (r : Round). nat_le r.due (clock T)) (λ number. nat_le (due T router server number) (clock T)) (part_count etr.database) rs.parts stand.parts (round_due server rs stand)
         ∙ ap (λ (db : List MapRecordValue). position (λ number. nat_le (due T router server number) (clock T)) (take (part_count db) part_numbers)) part.database);

@@ -229,8 +229,13 @@ module _ (A : Type 0) (old : WorldState) (o : Opening) (T : List Step) (stand : 
       from = address_is old o T stand node;
       to = sym from_is;
       bytes = λ i. signed (own.config i).secret (written (Notifies (ack_of (same.message i))));
-      message = subst IsMapNotify {x = record { ack = true; nonce = h.message.nonce; key_id = e.config.key_id; records = h.message.records }} {y = ack_of g.message} (λ i. record { ack = true; nonce = (same.message i).nonce; key_id =
-          (ap (λ (c : EtrConfigValue). c.key_id) own.config ∙ sym same.under) i; records = (same.message i).records }) fits;
+      message = subst IsMapNotify {x = record { ack = true; nonce = h.message.nonce; key_id = e.config.key_id; records = h.message.records }} {y = ack_of g.message} (λ i. record {
+        ack = true;
+        nonce = (same.message i).nonce;
+        key_id =
+            (ap (λ (c : EtrConfigValue). c.key_id) own.config ∙ sym same.under) i;
+        records = (same.message i).records;
+      }) fits;
     }
 
     -- an acknowledgement
@@ -273,8 +278,8 @@ module _ (A : Type 0) (old : WorldState) (o : Opening) (T : List Step) (stand : 
             core = etr_goes o T (step said ∷ T) node (life said) e
                 (slice_set e.rounds h.server counted_rounds) own refl refl (safe said) (length-set e.rounds h.server counted_rounds)
                 (rounds_set T (step said ∷ T) node servers e.rounds h.server g.server counted_rounds once there
-                    (counted_here T event node (shown_store o T node) g.server place e.config.key_id h.message.nonce rounds last_of.1 last_of.0 rounds_stand)
-                    (counted_there T event node (shown_store o T node) g.server place e.config.key_id h.message.nonce) own.rounds);
+                (counted_here T event node (shown_store o T node) g.server place e.config.key_id h.message.nonce rounds last_of.1 last_of.0 rounds_stand)
+                (counted_there T event node (shown_store o T node) g.server place e.config.key_id h.message.nonce) own.rounds);
           };
         })
 
@@ -342,8 +347,10 @@ module _ (A : Type 0) (old : WorldState) (o : Opening) (T : List Step) (stand : 
       at : (ans ≡ seen_at e from bytes) ⊎ (ans ≡ Err faults.OutOfMemory) → ComesBy ans
       at (inl is) = by_both ans (checked_notify (etr_config o T node) a.bytes a.read from_place) (notify_at o T node a) refl both_heard (is ∙ ap (λ (r : Result ServerNotify NotifyFault). r >>= seen_in e) (by_place bytes bytes_are read_is)) call.fits
       at (inr is) = subst ComesBy (sym is) (refuses faults.OutOfMemory (inr (
-          (subst HasHead (sym bytes_are) (subst (λ (x : Result (Seen A) NotifyFault). IsErrOf x faults.OutOfMemory → TakesMemory e.config from bytes) is call.grows refl).0),
-          (takes (subst (λ (x : Result (Seen A) NotifyFault). IsErrOf x faults.OutOfMemory → TakesMemory e.config from bytes) is call.grows refl).1), refl)))
+        (subst HasHead (sym bytes_are) (subst (λ (x : Result (Seen A) NotifyFault). IsErrOf x faults.OutOfMemory → TakesMemory e.config from bytes) is call.grows refl).0),
+        (takes (subst (λ (x : Result (Seen A) NotifyFault). IsErrOf x faults.OutOfMemory → TakesMemory e.config from bytes) is call.grows refl).1),
+        refl,
+      )))
 
 -- what arrives at a router
 module _ (A : Type 0) (old new : WorldState) (o : Opening) (T : List Step) (stand : Stands old o T) (node : ℕ) (fate : Fate) (from : Addr) (bytes : List ℕ) (line : Line) (arrived : ArrivesAtRouter A old new node fate from bytes line)
@@ -366,9 +373,9 @@ module _ (A : Type 0) (old new : WorldState) (o : Opening) (T : List Step) (stan
       moved o T event node (shown_store o T node) _ line _ arrived.more _ arrived.acts.after _ up.said up.posts (h.is ∙ ap (λ (x : EtrState). record arrived.acts.before { core = Up x; store = arrived.acts.after.store }) h.call.after)
       (comes_by A old o T stand node event arrival a arrives arrived.acts.before kind_here part_here (acts_once old new node arrived.more arrived.acts o T stand) h.etr
       (subst (λ (core : RouterCoreState). StandsForCore o T node core) h.was part_here.core) arrived.acts.after.store ((
-          let x : Shown-in fate h.armed h.armed arrived.acts.after.store (shown_store o T node) = uses_shown arrived.acts.before.store h.armed h.armed arrived.acts.after.store fate (shown_store o T node)
-              (acts_shows old new node arrived.more arrived.acts o T stand) h.uses in
-          record { honest = x.after.honest; kept = x.after.kept ∙ x.armed_shows.kept; faults = x.after.faults ∙ x.armed_shows.faults; obedient = x.after.obedient ∙ x.armed_shows.obedient })) from from_is
+      let x : Shown-in fate h.armed h.armed arrived.acts.after.store (shown_store o T node) = uses_shown arrived.acts.before.store h.armed h.armed arrived.acts.after.store fate (shown_store o T node)
+      (acts_shows old new node arrived.more arrived.acts o T stand) h.uses in
+      record { honest = x.after.honest; kept = x.after.kept ∙ x.armed_shows.kept; faults = x.after.faults ∙ x.armed_shows.faults; obedient = x.after.obedient ∙ x.armed_shows.obedient })) from from_is
       bytes bytes_are read_is h.left up.answer h.call)
   hears_at (Down config db) core at = down_step old new node arrived.more arrived.acts o T stand event _ line at
       (record { acts = record { kind = kind_here; acts = refl; state = core.0 }; names = refl; same = refl }) refl (heard_life o T event arrival node (shown_store o T node) (lines.Down node))

@@ -328,11 +328,11 @@ module _ (table : List RowValue) (since : List Acceptance) (now : ℕ) (one : On
   -- the records that are told, by prefix, are those of the trace
   told_is : (records : List MapRecordValue) → ByPrefix (live_of table router now) records → records ≡ records_of since router now
   told_is records by_prefix = one_rising_order records (records_of since router now) (IsPermutation-trans records (live_of table router now) (records_of since router now) (IsPermutation-sym (live_of table router now) records by_prefix.same) same_records) by_prefix.rising (mapped_rise told
-      (λ i j d before lt. 
-          let a = slice_index_or told i d in
-          let b = slice_index_or told j d in
-          let routers : router_cmp a.router b.router ≡ Equal = ap (λ (r : RouterId). router_cmp r b.router) (their_router i d (omega (arith, before, lt)) ∙ sym (their_router j d lt)) ∙ tied (router_cmp b.router b.router) (router_total.antisymm b.router b.router) in
-          sym (ap (λ (o : Ordering). ordering_then o (prefix_cmp a.mapping.eid b.mapping.eid)) routers) ∙ told_rise i j d before lt))
+      (λ i j d before lt.
+      let a = slice_index_or told i d in
+      let b = slice_index_or told j d in
+      let routers : router_cmp a.router b.router ≡ Equal = ap (λ (r : RouterId). router_cmp r b.router) (their_router i d (omega (arith, before, lt)) ∙ sym (their_router j d lt)) ∙ tied (router_cmp b.router b.router) (router_total.antisymm b.router b.router) in
+      sym (ap (λ (o : Ordering). ordering_then o (prefix_cmp a.mapping.eid b.mapping.eid)) routers) ∙ told_rise i j d before lt))
 
   -- there are some, or none, in both
   none_told : live_of table router now ≡ [] → records_of since router now ≡ []
@@ -532,7 +532,7 @@ module _ (old new : WorldState) (server router : ℕ) (fate : Fate) (line : Line
           moments = refl;
           resends = refl;
         }))
-      (λ other differ.
+        (λ other differ.
         let here = after_is other ∙ ap (λ (b : Bool). cond b (Some notice) (found other (notices_to_others me (notices o T server)))) (router_other me other (λ same. differ (sym same))) ∙ found_without me other (notices o T server) differ in
         rw (here, announced.stands.others other differ) (notice_goes o T (step sent ∷ T) server ((item ∷ []), sent_bag) (notice_to o T server other) (notice_at core.notices other) (part.notices other)))
 
@@ -550,15 +550,15 @@ module _ (old new : WorldState) (server router : ℕ) (fate : Fate) (line : Line
         let head = its_head says.head says.read in
         let said : line ≡ sent = says.said ∙ ap (λ (h : Head). lines.Notice server router h.key_id h.nonce (length old.bag)) head in
         subst (λ (l : Line). Stands new o (step l ∷ T)) (sym said) (
-            (server_acts old new server turn.more turn.acts o T (step sent) stand refl refl sent_legal (subst (λ (more : List DatagramValue). Adds o T (step sent) more) (sym says.posts)
-                (adds_one o T (step sent) (record { from = address_of old server; to = to; bytes = bytes }) item sent_bag (record {
-                  from = address_is old o T stand server;
-                  to = its_to;
-                  bytes = its_bytes;
-                  message = subst (λ (records : List MapRecordValue). IsMapNotify (notice_of contact.key nonce records)) its_records announced.fits;
-                }))) shows.after (part_after o T (step sent) server turn.acts.before turn.acts.after part (time sent) refl refl announced.rest (turn.notifies.started ∙ part.started)
-                    (λ pair differ. announced.nonces.others pair differ) (announced.nonces.here ∙ sym
-                        (ap (λ (b : Bool). cond b (Some nonce) (last_notice T server)) (same_number server))) each_notice)))
+        (server_acts old new server turn.more turn.acts o T (step sent) stand refl refl sent_legal (subst (λ (more : List DatagramValue). Adds o T (step sent) more) (sym says.posts)
+        (adds_one o T (step sent) (record { from = address_of old server; to = to; bytes = bytes }) item sent_bag (record {
+          from = address_is old o T stand server;
+          to = its_to;
+          bytes = its_bytes;
+          message = subst (λ (records : List MapRecordValue). IsMapNotify (notice_of contact.key nonce records)) its_records announced.fits;
+        }))) shows.after (part_after o T (step sent) server turn.acts.before turn.acts.after part (time sent) refl refl announced.rest (turn.notifies.started ∙ part.started)
+        (λ pair differ. announced.nonces.others pair differ) (announced.nonces.here ∙ sym
+        (ap (λ (b : Bool). cond b (Some nonce) (last_notice T server)) (same_number server))) each_notice)))
 
   -- none goes out
   module _ (fault : NoticeFault) (refuses : RefusesToTell core armed called me now fault) (same : after ≡ core) where
@@ -623,8 +623,8 @@ module _ (old new : WorldState) (server router : ℕ) (fate : Fate) (line : Line
     refused_stands : turn.more ≡ [] → Stands new o (step refused ∷ T)
     refused_stands posts = server_acts old new server turn.more turn.acts o T (step refused) stand refl refl
         (record { faults = λ other. shows.count; obedient = shows.obedient; row = (refl, acting refused, known_router old o T stand router turn.place turn.number turn.node turn.there, why fault refuses) })
-        (subst (λ (more : List DatagramValue). Adds o T (step refused) more) (sym posts) (adds_none o T (step refused) refl)) shows.after 
-            (part_idle o T (step refused) server turn.acts.before turn.acts.after part (time refused) refl refl same turn.notifies.started refl refl refl refl)
+        (subst (λ (more : List DatagramValue). Adds o T (step refused) more) (sym posts) (adds_none o T (step refused) refl)) shows.after
+        (part_idle o T (step refused) server turn.acts.before turn.acts.after part (time refused) refl refl same turn.notifies.started refl refl refl refl)
 
   -- the notice was sent, or refused
   either : (answer : Result (Addr × List ℕ) NoticeFault) → IfOk answer (λ x. Announces core after armed called me now x.0 x.1) → IfErr answer (λ fault. RefusesToTell core armed called me now fault) → OnErr answer (after ≡ core)
@@ -634,10 +634,14 @@ module _ (old new : WorldState) (server router : ℕ) (fate : Fate) (line : Line
 
   -- so the network stands for the trace with that step, by the router and the moment of the trace
   pub notice_stands : (actor : ℕ) × (s : ShownStore) × Stands new o (record { event = events.Notice server router fate; line = line; actor = actor; shown = s } ∷ T)
-  notice_stands = (server, shown_by called, either turn.answer
-      (subst (λ (x : RouterId × ℕ). IfOk turn.answer (λ y. Announces core after armed called x.0 x.1 y.0 y.1)) (λ i. (its_me old o T stand router turn.place turn.number turn.node turn.there i, stand.bag.moment i)) turn.notifies.announces)
-      (subst (λ (x : RouterId × ℕ). IfErr turn.answer (λ fault. RefusesToTell core armed called x.0 x.1 fault)) (λ i. (its_me old o T stand router turn.place turn.number turn.node turn.there i, stand.bag.moment i)) turn.notifies.refused)
-      turn.notifies.err turn.says)
+  notice_stands = (
+    server,
+    shown_by called,
+    either turn.answer
+        (subst (λ (x : RouterId × ℕ). IfOk turn.answer (λ y. Announces core after armed called x.0 x.1 y.0 y.1)) (λ i. (its_me old o T stand router turn.place turn.number turn.node turn.there i, stand.bag.moment i)) turn.notifies.announces)
+        (subst (λ (x : RouterId × ℕ). IfErr turn.answer (λ fault. RefusesToTell core armed called x.0 x.1 fault)) (λ i. (its_me old o T stand router turn.place turn.number turn.node turn.there i, stand.bag.moment i)) turn.notifies.refused)
+        turn.notifies.err turn.says,
+  )
 
 -- A Map-Server sends a notice again.
 
@@ -725,7 +729,7 @@ module _ (old new : WorldState) (server router : ℕ) (line : Line) (turn : Netw
           moments = ap (λ (now : ℕ). now ∷ kept.0.moments) (sym stand.bag.moment);
           resends = (let longer = ap length kept.2.moments in omega (arith, longer, kept.2.resends));
         }))
-      (λ other differ.
+        (λ other differ.
         let here = after_again other ∙ others_again whom other (clock T) (notices o T server) differ in
         let there = resends.after.others other (λ same. differ (same ∙ kept.2.router ∙ own_router)) in
         rw (here, there) (notice_goes o T (step_again sent_again ∷ T) server ((kept.2.item ∷ []), bag_again) (notice_to o T server other) (notice_at turn.acts.before.core.notices other) (part_before.notices other)))
@@ -774,8 +778,8 @@ module _ (old new : WorldState) (server router : ℕ) (line : Line) (turn : Netw
     quiet_stands : turn.more ≡ [] → Stands new o (step_again kept_quiet ∷ T)
     quiet_stands posts = server_acts old new server turn.more turn.acts o T (step_again kept_quiet) stand refl refl
         (record { faults = λ other. omega arith; obedient = refl; row = (refl, acting_again kept_quiet, known_router old o T stand router turn.place turn.number turn.node turn.there, why_not fault refuses) })
-        (subst (λ (more : List DatagramValue). Adds o T (step_again kept_quiet) more) (sym posts) (adds_none o T (step_again kept_quiet) refl)) (shows_again kept_quiet) 
-            (part_idle o T (step_again kept_quiet) server turn.acts.before turn.acts.after part_before (time_again kept_quiet) refl refl (ap (λ (n : ServerNodeState). n.core) same) (ap (λ (n : ServerNodeState). n.started) same) refl refl refl refl)
+        (subst (λ (more : List DatagramValue). Adds o T (step_again kept_quiet) more) (sym posts) (adds_none o T (step_again kept_quiet) refl)) (shows_again kept_quiet)
+        (part_idle o T (step_again kept_quiet) server turn.acts.before turn.acts.after part_before (time_again kept_quiet) refl refl (ap (λ (n : ServerNodeState). n.core) same) (ap (λ (n : ServerNodeState). n.started) same) refl refl refl refl)
 
   -- the notice was sent again, or not
   again_or_not : (answer : Result (Addr × List ℕ) NoticeFault) → NodeResends turn.acts.before turn.acts.after old.clock whom answer → SaysResendAnswer old server router answer line turn.more → Stands new o (step_again line ∷ T)
@@ -784,5 +788,8 @@ module _ (old new : WorldState) (server router : ℕ) (line : Line) (turn : Netw
 
   -- so the network stands for the trace with that step, by the router of the trace
   pub resend_stands : (actor : ℕ) × (s : ShownStore) × Stands new o (record { event = events.Resend server router; line = line; actor = actor; shown = s } ∷ T)
-  resend_stands = (server, shown_store o T server,
-      again_or_not turn.answer (subst (λ (r : RouterId). NodeResends turn.acts.before turn.acts.after old.clock r turn.answer) (its_me old o T stand router turn.place turn.number turn.node turn.there) turn.resends) turn.says)
+  resend_stands = (
+    server,
+    shown_store o T server,
+    again_or_not turn.answer (subst (λ (r : RouterId). NodeResends turn.acts.before turn.acts.after old.clock r turn.answer) (its_me old o T stand router turn.place turn.number turn.node turn.there) turn.resends) turn.says,
+  )

@@ -287,22 +287,26 @@ module _ (old new : WorldState) (node pick : ℕ) (line : Line) (restarts : Serv
 
   -- so the network stands for the trace with that step
   pub reopen_server_stands : (actor : ℕ) × (s : ShownStore) × Stands new o (record { event = events.Restart node pick None; line = line; actor = actor; shown = s } ∷ T)
-  reopen_server_stands = (node, shown_by restarts.acts.after.store, subst (λ (l : Line). Stands new o (restart node pick None restarts.acts.after.store l ∷ T)) (sym restarts.said)
-      (server_acts old new node [] restarts.acts o T server_step stand refl refl (record {
-        faults = λ other. absurd (true≢false other);
-        obedient = restarts.reopens.obedient ∙ store_before.obedient;
-        row = record {
-          names = refl;
-          acts = refl;
-          kind = inl (server_is old o T stand node restarts.acts.before restarts.acts.was, refl);
-          fits = tt;
-          narrows = crash_narrows restarts.acts.before.store restarts.acts.after.store pick (shown_store o T node) restarts.reopens store_before;
-          picks = crash_picks restarts.acts.before.store restarts.acts.after.store pick (shown_store o T node) restarts.reopens store_before;
-        };
-      }) (adds_none o T server_step refl)
-      (record { honest = stays_honest restarts.acts.before.store restarts.acts.after.store restarts.reopens.honest store_before.honest; kept = refl; faults = refl; obedient = refl })
-      (fresh_stands o (server_step ∷ T) node restarts.acts.after restarts.acts.before.core.sites restarts.core (stand.servers node restarts.acts.before restarts.acts.was).sites
-      (here node [] (since_start o T node)) (here node [] (notices o T node)) (here node None (last_notice T node)) (restarts.started ∙ stand.bag.moment ∙ sym (here node (clock T) (began T node))))))
+  reopen_server_stands = (
+    node,
+    shown_by restarts.acts.after.store,
+    subst (λ (l : Line). Stands new o (restart node pick None restarts.acts.after.store l ∷ T)) (sym restarts.said)
+        (server_acts old new node [] restarts.acts o T server_step stand refl refl (record {
+          faults = λ other. absurd (true≢false other);
+          obedient = restarts.reopens.obedient ∙ store_before.obedient;
+          row = record {
+            names = refl;
+            acts = refl;
+            kind = inl (server_is old o T stand node restarts.acts.before restarts.acts.was, refl);
+            fits = tt;
+            narrows = crash_narrows restarts.acts.before.store restarts.acts.after.store pick (shown_store o T node) restarts.reopens store_before;
+            picks = crash_picks restarts.acts.before.store restarts.acts.after.store pick (shown_store o T node) restarts.reopens store_before;
+          };
+        }) (adds_none o T server_step refl)
+        (record { honest = stays_honest restarts.acts.before.store restarts.acts.after.store restarts.reopens.honest store_before.honest; kept = refl; faults = refl; obedient = refl })
+        (fresh_stands o (server_step ∷ T) node restarts.acts.after restarts.acts.before.core.sites restarts.core (stand.servers node restarts.acts.before restarts.acts.was).sites
+        (here node [] (since_start o T node)) (here node [] (notices o T node)) (here node None (last_notice T node)) (restarts.started ∙ stand.bag.moment ∙ sym (here node (clock T) (began T node))))),
+  )
 
 -- a crash of a schedule leaves a store as one that is opened anew
 reopened : (old new : StoreState) (pick : ℕ) → StoreRestarts old new pick → StoreReopens old new pick
@@ -380,29 +384,33 @@ module _ (old new : WorldState) (node pick : ℕ) (db : Option (List MapRecordVa
 
   -- so the network stands for the trace with that step
   pub reopen_router_stands : (actor : ℕ) × (s : ShownStore) × Stands new o (step_of event actor s line ∷ T)
-  reopen_router_stands = (node, shown_by after.store, start_stands old new node restarts.acts o T stand crashed line becomes config registered restarts.answer restarts.starts
-      event (lines.Restarted node) (record {
-        timeless = refl;
-        settled = λ l. config_known o T node before.core stood.core;
-        given = λ l. given_case l db;
-        keys = λ l. record {
-          since_loss = subst (λ (used : UsedKeysState). Marks used.since_loss (keys_since_loss o T node)) (sym restarts.used) stood.used.since_loss;
-          before_loss = subst (λ (used : UsedKeysState). Marks used.before_loss (keys_before_loss o T node)) (sym restarts.used) stood.used.before_loss;
-        };
-        up = here node true (is_up T node);
-        begins = record {
-          last = here node None (last_sent T node);
-          values = here node (kept_at after.store.kept (pair_at o T node)) (start_values o T node);
-          rounds = λ server part. here node _ (round T node server part);
-          latest = λ server part. here node 0 (latest_nonce T node server part);
-        };
-        forgets = λ server part. here node None (acked T node server part);
-        up_adds = refl;
-        up_row = record { names = refl; acts = refl; kind = inr (acts_router old new node [] restarts.acts o T stand); fits = fits; narrows = narrows; picks = picks };
-        down = λ fault. here node false (is_up T node);
-        down_adds = λ fault. refl;
-        down_row = λ fault cause. record { names = refl; acts = refl; kind = acts_router old new node [] restarts.acts o T stand; fits = fits; narrows = narrows; picks = picks; cause = cause };
-      }) restarts.me restarts.servers (restarts.said ∙ said restarts.answer))
+  reopen_router_stands = (
+    node,
+    shown_by after.store,
+    start_stands old new node restarts.acts o T stand crashed line becomes config registered restarts.answer restarts.starts
+        event (lines.Restarted node) (record {
+          timeless = refl;
+          settled = λ l. config_known o T node before.core stood.core;
+          given = λ l. given_case l db;
+          keys = λ l. record {
+            since_loss = subst (λ (used : UsedKeysState). Marks used.since_loss (keys_since_loss o T node)) (sym restarts.used) stood.used.since_loss;
+            before_loss = subst (λ (used : UsedKeysState). Marks used.before_loss (keys_before_loss o T node)) (sym restarts.used) stood.used.before_loss;
+          };
+          up = here node true (is_up T node);
+          begins = record {
+            last = here node None (last_sent T node);
+            values = here node (kept_at after.store.kept (pair_at o T node)) (start_values o T node);
+            rounds = λ server part. here node _ (round T node server part);
+            latest = λ server part. here node 0 (latest_nonce T node server part);
+          };
+          forgets = λ server part. here node None (acked T node server part);
+          up_adds = refl;
+          up_row = record { names = refl; acts = refl; kind = inr (acts_router old new node [] restarts.acts o T stand); fits = fits; narrows = narrows; picks = picks };
+          down = λ fault. here node false (is_up T node);
+          down_adds = λ fault. refl;
+          down_row = λ fault cause. record { names = refl; acts = refl; kind = acts_router old new node [] restarts.acts o T stand; fits = fits; narrows = narrows; picks = picks; cause = cause };
+        }) restarts.me restarts.servers (restarts.said ∙ said restarts.answer),
+  )
 
 -- a store that goes on counts on, whether the router starts or not
 counts_on : {less more : ℕ} (answer : Result (Unit {0}) StartFault) → less ≤ more → IfErr answer (λ fault. less ≤ more)

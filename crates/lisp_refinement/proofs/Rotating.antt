@@ -207,15 +207,20 @@ module _ (old new : WorldState) (router key : ℕ) (fate : Fate) (line : Line) (
         obedient = uses.obedient;
         adds = adds_none o T _ refl;
         shows = uses.after;
-        part = record { me = part.me; servers = part.servers; used = keys; core = record {
-          up = own.up;
-          config = ap (λ (x : EtrState). x.config) call.rotates ∙ settled;
-          database = ap (λ (x : EtrState). x.database) call.rotates ∙ own.database;
-          last = (let is = call.last uses.armed_shows.honest in (is.0, counts is.0 is.1, is.2));
-          safe = λ v has. omega (arith, ap (λ (x : EtrState). x.safe) call.rotates);
-          count = ap (λ (x : EtrState). length x.rounds) call.rotates ∙ length-map e.rounds (rotated_rounds old.clock) ∙ own.count;
-          rounds = λ i server rs lists has. rounds_stand i server rs lists (ap (λ (x : EtrState). slice_get x.rounds i) (sym call.rotates) ∙ has);
-        } };
+        part = record {
+          me = part.me;
+          servers = part.servers;
+          used = keys;
+          core = record {
+            up = own.up;
+            config = ap (λ (x : EtrState). x.config) call.rotates ∙ settled;
+            database = ap (λ (x : EtrState). x.database) call.rotates ∙ own.database;
+            last = (let is = call.last uses.armed_shows.honest in (is.0, counts is.0 is.1, is.2));
+            safe = λ v has. omega (arith, ap (λ (x : EtrState). x.safe) call.rotates);
+            count = ap (λ (x : EtrState). length x.rounds) call.rotates ∙ length-map e.rounds (rotated_rounds old.clock) ∙ own.count;
+            rounds = λ i server rs lists has. rounds_stand i server rs lists (ap (λ (x : EtrState). slice_get x.rounds i) (sym call.rotates) ∙ has);
+          };
+        };
       }
 
     -- it was refused
@@ -265,7 +270,7 @@ module _ (old new : WorldState) (router key : ℕ) (fate : Fate) (line : Line) (
       let r = up.rotates in
       answered r.etr r.left (subst (λ (core : RouterCoreState). StandsForCore o T router core) r.was part.core) r.call.armed r.call.called
       (uses_shown before.store r.call.armed r.call.called after.store fate (shown_store o T router)
-          (acts_shows old new router [] rotates.acts o T stand) r.call.uses) r.call.same r.is up.answer up.said r.used r.call.call
+      (acts_shows old new router [] rotates.acts o T stand) r.call.uses) r.call.same r.is up.answer up.said r.used r.call.call
   rotates_at (Down config db) core at = ends (shown_store o T router) (down_step old new router [] rotates.acts o T stand event _ line (at.0, at.1, refl)
       (may, record { acts = record { kind = kind; acts = refl; state = core.0 }; names = refl; same = refl }) refl
       (record { up = refl; under = refl; since_loss = refl; before_loss = refl; given = refl })
@@ -316,31 +321,35 @@ module _ (old new : WorldState) (node key : ℕ) (db : Option (List MapRecordVal
 
   -- so the network stands for the trace with that step
   pub lose_stands : (actor : ℕ) × (s : ShownStore) × Stands new o (step_of (events.Lose node key db) actor s line ∷ T)
-  lose_stands = (node, shown_by loses.acts.after.store, start_stands old new node loses.acts o T stand lost line (goes_on loses.acts.before.store lost line loses.loses.loses.proceeds) config registered loses.answer loses.loses.starts
-      (events.Lose node key db) (lines.Emptied node key) (record {
-        timeless = refl;
-        settled = λ l. config_under old o T stand node loses.acts.before stood key loses.of (config_of loses.acts.before.core) (config_known o T node loses.acts.before.core stood.core)
-            ∙ sym (ap (etr_config_under o.config (router_at o.config node)) (here node key (key_at o T node)));
-        given = λ l. given_case l db;
-        keys = λ l. record {
-          since_loss = subst (Marks loses.acts.after.used.since_loss) (sym (here node (key ∷ []) (keys_since_loss o T node))) (lists_one loses.acts.after.used.since_loss key loses.loses.used.since_loss);
-          before_loss = subst (Marks loses.acts.after.used.before_loss) (sym (here node (keys_since_loss o T node ++ keys_before_loss o T node) (keys_before_loss o T node)))
-              (lists_both loses.acts.before.used.since_loss loses.acts.before.used.before_loss loses.acts.after.used.before_loss (keys_since_loss o T node) (keys_before_loss o T node) stood.used.since_loss stood.used.before_loss loses.loses.used.before_loss);
-        };
-        up = here node true (is_up T node);
-        begins = record {
-          last = here node None (last_sent T node);
-          values = here node _ (start_values o T node);
-          rounds = λ server part. here node _ (round T node server part);
-          latest = λ server part. here node 0 (latest_nonce T node server part);
-        };
-        forgets = λ server part. here node None (acked T node server part);
-        up_adds = refl;
-        up_row = record { lost = is_lost; names = refl; to = refl };
-        down = λ fault. here node false (is_up T node);
-        down_adds = λ fault. refl;
-        down_row = λ fault cause. record { lost = is_lost; names = refl; cause = cause };
-      }) loses.loses.me loses.loses.servers (loses.said ∙ said loses.answer))
+  lose_stands = (
+    node,
+    shown_by loses.acts.after.store,
+    start_stands old new node loses.acts o T stand lost line (goes_on loses.acts.before.store lost line loses.loses.loses.proceeds) config registered loses.answer loses.loses.starts
+        (events.Lose node key db) (lines.Emptied node key) (record {
+          timeless = refl;
+          settled = λ l. config_under old o T stand node loses.acts.before stood key loses.of (config_of loses.acts.before.core) (config_known o T node loses.acts.before.core stood.core)
+              ∙ sym (ap (etr_config_under o.config (router_at o.config node)) (here node key (key_at o T node)));
+          given = λ l. given_case l db;
+          keys = λ l. record {
+            since_loss = subst (Marks loses.acts.after.used.since_loss) (sym (here node (key ∷ []) (keys_since_loss o T node))) (lists_one loses.acts.after.used.since_loss key loses.loses.used.since_loss);
+            before_loss = subst (Marks loses.acts.after.used.before_loss) (sym (here node (keys_since_loss o T node ++ keys_before_loss o T node) (keys_before_loss o T node)))
+                (lists_both loses.acts.before.used.since_loss loses.acts.before.used.before_loss loses.acts.after.used.before_loss (keys_since_loss o T node) (keys_before_loss o T node) stood.used.since_loss stood.used.before_loss loses.loses.used.before_loss);
+          };
+          up = here node true (is_up T node);
+          begins = record {
+            last = here node None (last_sent T node);
+            values = here node _ (start_values o T node);
+            rounds = λ server part. here node _ (round T node server part);
+            latest = λ server part. here node 0 (latest_nonce T node server part);
+          };
+          forgets = λ server part. here node None (acked T node server part);
+          up_adds = refl;
+          up_row = record { lost = is_lost; names = refl; to = refl };
+          down = λ fault. here node false (is_up T node);
+          down_adds = λ fault. refl;
+          down_row = λ fault cause. record { lost = is_lost; names = refl; cause = cause };
+        }) loses.loses.me loses.loses.servers (loses.said ∙ said loses.answer),
+  )
 
 -- A router is given another database: if it is up, new rounds begin; if it is down, nothing changes.
 
@@ -358,7 +367,7 @@ module _ (old new : WorldState) (router : ℕ) (db : List MapRecordValue) (line 
       → StandsForCore o (change o T router db l ∷ T) router (changed_core db old.clock changes.acts.before.core) → Stands new o (change o T router db line ∷ T)
   stands_with l says legal adds core = subst (λ (x : Line). Stands new o (change o T router db x ∷ T)) (sym (changes.said ∙ says))
       (router_acts old new router [] changes.acts o T (change o T router db l) stand refl refl legal (adds_none o T (change o T router db l) adds)
-          (subst (λ (n : RouterNodeState). Shows n.store (shown_store o T router)) (sym changes.changes) (acts_shows old new router [] changes.acts o T stand))
+      (subst (λ (n : RouterNodeState). Shows n.store (shown_store o T router)) (sym changes.changes) (acts_shows old new router [] changes.acts o T stand))
       (subst (λ (n : RouterNodeState). StandsForRouter o (change o T router db l ∷ T) router n) (sym changes.changes) (record { me = router_stood.me; servers = router_stood.servers; used = record { since_loss = router_stood.used.since_loss; before_loss = router_stood.used.before_loss }; core = core })))
 
   -- a router that is up

@@ -178,38 +178,48 @@ module _ (old : WorldState) (o : Opening) (T : List Step) (stand : Stands old o 
     -- its step
     sent_step : RouterStep o T event router after_it Row said (datagram ∷ []) left
     sent_step = record {
-      row = (refl, refl, refl, (record {
-        acts = record { kind = kind; acts = refl; state = own.up };
-        kind = known;
-        listed = found.1;
-        fits = subst (λ (db : List MapRecordValue). database_of db ≡ Ok db) own.database call.fits;
-        there = has_part call.there;
-        under = ap (λ (c : EtrConfigValue). c.key_id) own.config;
-        base = own.last.0;
-        counts = own.last.1;
-        next = ap (λ n. n + 1) own.last.2;
-        within = (let left = call.left in omega (arith, left));
-        message = known_message;
-        place = stand.bag.count;
-        saves = sent_saves;
-      }));
+      row = (
+        refl,
+        refl,
+        refl,
+        (record {
+          acts = record { kind = kind; acts = refl; state = own.up };
+          kind = known;
+          listed = found.1;
+          fits = subst (λ (db : List MapRecordValue). database_of db ≡ Ok db) own.database call.fits;
+          there = has_part call.there;
+          under = ap (λ (c : EtrConfigValue). c.key_id) own.config;
+          base = own.last.0;
+          counts = own.last.1;
+          next = ap (λ n. n + 1) own.last.2;
+          within = (let left = call.left in omega (arith, left));
+          message = known_message;
+          place = stand.bag.count;
+          saves = sent_saves;
+        }),
+      );
       count = uses.count;
       obedient = uses.obedient;
       adds = adds_one o T (step_of event router after_it said) datagram (register_item o T router server portion (e.last + 1)) refl sent_carries;
       shows = uses.after;
-      part = record { me = part.me; servers = part.servers; used = record { since_loss = part.used.since_loss; before_loss = part.used.before_loss }; core = record {
-        up = own.up;
-        config = call.sends.config ∙ own.config;
-        database = call.sends.database ∙ own.database;
-        last = (Some (e.last + 1), sent_counts, call.sends.last);
-        safe = safe_now etr.safe said (safe_after etr.safe (call.keeps_safe uses.armed_shows.honest safe_before));
-        count = ap length call.sends.rounds ∙ length-set e.rounds place (rounds_after_send portion (e.last + 1) old.clock (rounds_at e.rounds place)) ∙ own.count;
-        rounds = λ i k rs listed is. rounds_set T (step_of event router after_it said ∷ T) router (router_at o.config router).servers e.rounds place server (rounds_after_send portion (e.last + 1) old.clock (rounds_at e.rounds place)) once found.0
-            (sent_here T event router after_it server portion e.config.key_id (e.last + 1) (length old.bag) old.clock (rounds_at e.rounds place) stand.bag.moment
-                (let there = call.there in let few = few_parts e.database call.fits in omega (arith, there, few)) (own.rounds place server (rounds_at e.rounds place) found.0
-                (slice_get-get_or e.rounds place (record { parts = []; acked = [] }) (let low = slice_get_within (router_at o.config router).servers place server found.0 in let count = own.count in omega (arith, low, count)))))
-            (sent_there T event router after_it server portion e.config.key_id (e.last + 1) (length old.bag)) own.rounds i k rs listed (ap (λ (all : List Rounds). slice_get all i) (sym call.sends.rounds) ∙ is);
-      } };
+      part = record {
+        me = part.me;
+        servers = part.servers;
+        used = record { since_loss = part.used.since_loss; before_loss = part.used.before_loss };
+        core = record {
+          up = own.up;
+          config = call.sends.config ∙ own.config;
+          database = call.sends.database ∙ own.database;
+          last = (Some (e.last + 1), sent_counts, call.sends.last);
+          safe = safe_now etr.safe said (safe_after etr.safe (call.keeps_safe uses.armed_shows.honest safe_before));
+          count = ap length call.sends.rounds ∙ length-set e.rounds place (rounds_after_send portion (e.last + 1) old.clock (rounds_at e.rounds place)) ∙ own.count;
+          rounds = λ i k rs listed is. rounds_set T (step_of event router after_it said ∷ T) router (router_at o.config router).servers e.rounds place server (rounds_after_send portion (e.last + 1) old.clock (rounds_at e.rounds place)) once found.0
+              (sent_here T event router after_it server portion e.config.key_id (e.last + 1) (length old.bag) old.clock (rounds_at e.rounds place) stand.bag.moment
+              (let there = call.there in let few = few_parts e.database call.fits in omega (arith, there, few)) (own.rounds place server (rounds_at e.rounds place) found.0
+              (slice_get-get_or e.rounds place (record { parts = []; acked = [] }) (let low = slice_get_within (router_at o.config router).servers place server found.0 in let count = own.count in omega (arith, low, count)))))
+              (sent_there T event router after_it server portion e.config.key_id (e.last + 1) (length old.bag)) own.rounds i k rs listed (ap (λ (all : List Rounds). slice_get all i) (sym call.sends.rounds) ∙ is);
+        };
+      };
     }
 
     -- what its line says is what stands in the datagram
@@ -350,7 +360,7 @@ module _ (old new : WorldState) (router server portion : ℕ) (fate : Fate) (lin
       let call = up.sends.call in
       sends_ok up.sends.etr (subst (λ (core : RouterCoreState). StandsForCore o T router core) up.sends.was part_here.core) up.sends.left up.sends.is call.armed call.called
       (uses_shown sends.acts.before.store call.armed call.called sends.acts.after.store fate (shown_store o T router)
-          (acts_shows old new router sends.more sends.acts o T stand) call.uses) up.answer call.call up.says
+      (acts_shows old new router sends.more sends.acts o T stand) call.uses) up.answer call.call up.says
   sends_at (Down config db) core at = ends (shown_store o T router) (down_step old new router sends.more sends.acts o T stand (events.Send router server portion fate) _ line at
       (known_server, record { acts = record { kind = kind_here; acts = refl; state = core.0 }; names = refl; same = refl }) refl
       (record { up = refl; under = refl; since_loss = refl; before_loss = refl; given = refl })

@@ -206,7 +206,7 @@ module _ (old new : WorldState) (fate : Fate) where
 
 module _ {X : Type 0} where
   -- what stands behind a list
-  get_behind : (xs ys : List X) (i k : ℕ) → i ≡ length xs + k → slice_get (xs ++ ys) i ≡ slice_get ys k
+  pub get_behind : (xs ys : List X) (i k : ℕ) → i ≡ length xs + k → slice_get (xs ++ ys) i ≡ slice_get ys k
   get_behind [] ys i k behind = ap (λ j. slice_get ys j) (omega (arith, behind))
   get_behind (a ∷ xs) ys zero k behind = absurd (omega (arith, behind))
   get_behind (a ∷ xs) ys (suc i) k behind = get_behind xs ys i k (omega (arith, behind))

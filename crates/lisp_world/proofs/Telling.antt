@@ -15,7 +15,7 @@ use Rattle.lisp_admission.specs.declared.notice_fault.NoticeFault.{NoticeFault}
 use Rattle.lisp_server.specs.Notices.{StandingNoticeValue, RefusesResend}
 use Rattle.lisp_model.specs.declared.line.Line.{Line}
 use Rattle.lisp_model.specs.declared.world_fault.WorldFault.{WorldFault}
-use Rattle.lisp_model.specs.declared.world_fault.WorldFault.TheVariants.{Clock, KeyUsed, NoDatagram, NoNode, OutOfMemory, Repeated, Start, UnknownKey, WrongKind}
+use Rattle.lisp_model.specs.declared.world_fault.WorldFault.TheVariants.{Clock, KeyUsed, NoDatagram, NoNode, OutOfMemory, UnknownKey, WrongKind}
 use Rattle.lisp_model.specs.declared.event.Event.{Event}
 use Rattle.lisp_model.specs.Memory.{MayTell}
 use Rattle.lisp_model.specs.Trace.{EventValue, fate_of, event_value, Step, Opening}
@@ -119,21 +119,6 @@ module _ (node_may store_may : Type 0) (node : ℕ) where
 
 -- ---- What an event comes to that a network takes, part by part; and faults that are no other.
 
--- what was taken has no fault, and one fault is no other
-module _ {X P : Type 0} where
-  pub taken : (x : X) (why : WorldFault) → ◌≡◌ {A = Result X WorldFault} (Ok x) (Err why) → P
-  taken x why clash = absurd cc
-
-  pub repeated_no_memory : ◌≡◌ {A = Result X WorldFault} (Err Repeated) (Err OutOfMemory) → P
-  repeated_no_memory clash = absurd cc
-
-  pub repeated_no_start : (node : ℕ) (why : StartFault) → ◌≡◌ {A = Result X WorldFault} (Err Repeated) (Err (Start node why)) → P
-  repeated_no_start node why clash = absurd cc
-
-  pub memory_no_start : (r : Result X WorldFault) (node : ℕ) (why : StartFault) → IsErrAnd r (λ e. e ≡ OutOfMemory) → r ≡ Err (Start node why) → P
-  memory_no_start (Ok x) node why is clash = absurd is
-  memory_no_start (Err e) node why is clash = absurd cc
-
 -- no event's fault is want of memory
 unless : (b : Bool) (why : WorldFault) (rest : Option WorldFault) → why ≢ OutOfMemory → rest ≢ Some OutOfMemory → (if b then Some why else rest) ≢ Some OutOfMemory
 unless true why rest other none is = other (ap (λ (o : Option WorldFault). unwrap_or o why) is)
@@ -179,7 +164,7 @@ module _ (node_may store_may : Type 0) (old new : WorldState) (event : EventValu
   pub parts : (r : Result Line WorldFault) → Takes node_may store_may old new event r → Parts r
   parts (Ok line) took =
       let fault = subst (λ (f : Option WorldFault). Faults {X = Line} f (Ok line)) (sym took.possible) tt in
-      record { stands = took.stands; fault = fault; left = tt; memory = λ clash. taken line OutOfMemory clash; tells = took.tells; calm = took.calm }
+      record { stands = took.stands; fault = fault; left = tt; memory = λ clash. absurd cc; tells = took.tells; calm = took.calm }
   parts (Err why) refused =
       let calm = subst (λ (w : WorldState). KeepsCalm old w (fate_of event)) (sym refused.0) (record { calm = λ calm. calm; unfailing = λ calm done. refl }) in
       record { stands = tt; fault = fault refused.1; left = refused.0; memory = λ out. memory refused.1 out; tells = tt; calm = calm }
