@@ -374,4 +374,4 @@ module _ (node_may store_may : Type 0) (w : WorldState) (room : List DatagramVal
       at_node = arrived A w node fate d.from d.bytes line reply servers routers servers_long routers_long bag all_servers all_routers
           (posts ∙ (λ i. same i ++ datagram_to (its i) d.from reply))
           (subst (λ (b : List ℕ). Arrives A w (record w { bag = w.bag ++ datagram_to (address_of w node) d.from reply; servers = servers; routers = routers }) node fate d.from b line)
-              (says ∙ ap (λ (p : DatagramValue). p.bytes) ((get_or_read room k second within again first ∙ sym read) ∙ sym is)) arrives)
+          (says ∙ ap (λ (p : DatagramValue). p.bytes) ((get_or_read room k second within again first ∙ sym read) ∙ sym is)) arrives)

@@ -10,7 +10,7 @@ returns g c =
     let there = rw (← c.self.view_is) at c.in_ok-place.ensures.place in
     let possible = rw (← c.self.view_is) at c.in_ok-place.ensures.fault in
     let said = c.changed.ensures
-        ∙ changed_line c.args.router (length c.records-records.result.now) c.args.db.now c.index_mut.result.now.core c.change-is_up.result (ap length c.records-records.ensures.value) c.change-is_up.ensures.1 in
+    ∙ changed_line c.args.router (length c.records-records.result.now) c.args.db.now c.index_mut.result.now.core c.change-is_up.result (ap length c.records-records.ensures.value) c.change-is_up.ensures.1 in
     rw (← c.self.view_is)
     (event_taken _ _ (Unit {0}) _ _ _ _ (sym possible) (record {
       acts = acted _ _ _ c.in_ok-place.place [] c.index_mut.result.now c.change-is_up.new.self there c.index_mut.ensures.value (same_bag _ _ (sym (append-nil c.self.inside.bag.items)));
