@@ -1,8 +1,7 @@
 use Rattle.std.proofs.Common.{[], ◌∙◌, append-nil, sym, ap, length, arith}
 use Rattle.std.proofs.lemmas.List.{length-set}
 use Rattle.lisp_nodes.proofs.RouterCalls.{acted, same_bag, changed_line}
-use Rattle.lisp_world.proofs.Taking.{event_taken}
-use Rattle.lisp_world.proofs.Telling.{changed_tells}
+use Rattle.lisp_world.proofs.Taking.{event_taken, changed_tells}
 use Rattle.lisp_world.proofs.world.World.change.Goals as goal
 
 pub returns : goal.returns

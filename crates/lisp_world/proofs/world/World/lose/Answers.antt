@@ -3,8 +3,7 @@ use Rattle.lisp_records.specs.Record.{MapRecordValue}
 use Rattle.lisp_refinement.specs.{World.WorldState, Calls.NodeLoses}
 use Rattle.lisp_world.specs.Faults.{used_ever}
 use Rattle.lisp_world.proofs.Keys.{lost, no_key_fault, used_key, used_there}
-use Rattle.lisp_world.proofs.Telling.{out_of_memory, lost_tells}
-use Rattle.lisp_world.proofs.Taking.{event_taken}
+use Rattle.lisp_world.proofs.Taking.{out_of_memory, lost_tells, event_taken}
 use Rattle.lisp_world.proofs.world.World.lose.Goals as goal
 
 pub returns-then-used_ever : goal.returns-then-used_ever

@@ -1,8 +1,7 @@
 use Rattle.std.proofs.{Common.arith, Common.sym, lemmas.List.length-set}
 use Rattle.lisp_refinement.specs.World.{WorldState}
 use Rattle.lisp_world.proofs.Noticing.{noticed, notice_headed}
-use Rattle.lisp_world.proofs.Taking.{event_taken, no_pair_fault, router_there, server_there}
-use Rattle.lisp_world.proofs.Telling.{noticed_tells}
+use Rattle.lisp_world.proofs.Taking.{event_taken, no_pair_fault, router_there, server_there, noticed_tells}
 use Rattle.lisp_world.proofs.world.World.notice.Goals as goal
 
 pub notice_line-requires-clause-head : goal.notice_line-requires-clause-head

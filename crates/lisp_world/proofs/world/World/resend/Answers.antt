@@ -1,8 +1,7 @@
 use Rattle.std.proofs.{Common.arith, Common.sym, lemmas.List.length-set}
 use Rattle.lisp_refinement.specs.World.{WorldState}
 use Rattle.lisp_world.proofs.Noticing.{resent}
-use Rattle.lisp_world.proofs.Taking.{event_taken, no_pair_fault, router_there, server_there}
-use Rattle.lisp_world.proofs.Telling.{resent_tells}
+use Rattle.lisp_world.proofs.Taking.{event_taken, no_pair_fault, router_there, server_there, resent_tells}
 use Rattle.lisp_world.proofs.world.World.resend.Goals as goal
 
 pub invariant_of-self-3 : goal.invariant_of-self-3

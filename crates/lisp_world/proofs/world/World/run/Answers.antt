@@ -3,7 +3,7 @@ use Rattle.std.proofs.lemmas.List.{length-map}
 use Rattle.lisp_model.specs.Trace.{event_value}
 use Rattle.lisp_model.specs.declared.line.Line.{Line}
 use Rattle.lisp_model.specs.declared.world_fault.WorldFault.{WorldFault}
-use Rattle.lisp_world.proofs.Telling.{possible_of, event_there, runs_none, runs_all, runs_next, stops_here, why_refused, at_error, at_value}
+use Rattle.lisp_world.proofs.Taking.{possible_of, event_there, runs_none, runs_all, runs_next, stops_here, why_refused, at_error, at_value}
 use Rattle.lisp_refinement.proofs.Headlines.{networks_promise}
 use Rattle.lisp_world.proofs.world.World.run.Goals as goal
 

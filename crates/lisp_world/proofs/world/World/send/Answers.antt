@@ -1,8 +1,7 @@
 use Rattle.std.proofs.{Common.arith, Common.sym, lemmas.List.length-set}
 use Rattle.lisp_refinement.specs.World.{WorldState}
 use Rattle.lisp_world.proofs.Sending.{sent, sent_headed}
-use Rattle.lisp_world.proofs.Taking.{event_taken, no_pair_fault, router_there, server_there}
-use Rattle.lisp_world.proofs.Telling.{sent_tells}
+use Rattle.lisp_world.proofs.Taking.{event_taken, no_pair_fault, router_there, server_there, sent_tells}
 use Rattle.lisp_world.proofs.world.World.send.Goals as goal
 
 pub send_line-requires-clause-head : goal.send_line-requires-clause-head
