@@ -5,8 +5,7 @@ pub mod Acting
 pub mod Passing
 pub mod Restarting
 pub mod Rotating
-pub mod Sending
-pub mod Hearing
+pub mod Routers
 pub mod ServerArrivals
 pub mod NoticeParts
 pub mod Reloading

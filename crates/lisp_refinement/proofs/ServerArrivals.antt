@@ -77,7 +77,7 @@ use Rattle.lisp_model.proofs.RisingLaws.{taken_one}
 use Rattle.lisp_admission.proofs.Secrets.{its_secret}
 use Rattle.lisp_policy.specs.Configuration.{ConfigValue}
 use Rattle.lisp_refinement.specs.Events.{reply_number, server_line, replies, ArrivesAtServer, address_of, node_with}
-use Rattle.lisp_refinement.proofs.Hearing.{item_read}
+use Rattle.lisp_refinement.proofs.Routers.{item_read}
 
 -- the pair of a Map-Register isn't that of notices
 pub not_notices : (m : MapRegisterValue) → pair_of m ≢ notice_pair

@@ -18,10 +18,10 @@ use Rattle.lisp_refinement.proofs.NoticeParts.{notice_stands}
 use Rattle.lisp_refinement.proofs.Reloading.{reload_stands}
 use Rattle.lisp_refinement.proofs.NoticeParts.{resend_stands}
 use Rattle.lisp_refinement.proofs.Rotating.{rotate_stands}
-use Rattle.lisp_refinement.proofs.Sending.{send_stands}
+use Rattle.lisp_refinement.proofs.Routers.{send_stands}
 use Rattle.lisp_refinement.proofs.Passing.{tick_stands}
 use Rattle.lisp_refinement.proofs.ServerArrivals.{deliver_to_server_stands, junk_to_server_stands, nowhere_stands}
-use Rattle.lisp_refinement.proofs.Hearing.{deliver_to_router_stands, junk_to_router_stands}
+use Rattle.lisp_refinement.proofs.Routers.{deliver_to_router_stands, junk_to_router_stands}
 use Rattle.lisp_refinement.proofs.Restarting.{restart_server_stands, restart_router_stands}
 
 -- a datagram that was sent arrives
