@@ -4,7 +4,6 @@ pub mod Heads
 pub mod Acting
 pub mod Passing
 pub mod Restarting
-pub mod Rotating
 pub mod Routers
 pub mod ServerArrivals
 pub mod NoticeParts

@@ -12,12 +12,12 @@ use Rattle.lisp_refinement.specs.World.{WorldState}
 use Rattle.lisp_refinement.specs.Events.{node_with, Arrives, ArrivesWhere, NetworkDelivers, NetworkRestarts}
 use Rattle.lisp_refinement.specs.Stands.{StandsAfter}
 use Rattle.lisp_refinement.specs.Taking.{NetworkTakes}
-use Rattle.lisp_refinement.proofs.Rotating.{change_stands}
-use Rattle.lisp_refinement.proofs.Rotating.{lose_stands}
+use Rattle.lisp_refinement.proofs.Restarting.{change_stands}
+use Rattle.lisp_refinement.proofs.Restarting.{lose_stands}
 use Rattle.lisp_refinement.proofs.NoticeParts.{notice_stands}
 use Rattle.lisp_refinement.proofs.Reloading.{reload_stands}
 use Rattle.lisp_refinement.proofs.NoticeParts.{resend_stands}
-use Rattle.lisp_refinement.proofs.Rotating.{rotate_stands}
+use Rattle.lisp_refinement.proofs.Restarting.{rotate_stands}
 use Rattle.lisp_refinement.proofs.Routers.{send_stands}
 use Rattle.lisp_refinement.proofs.Passing.{tick_stands}
 use Rattle.lisp_refinement.proofs.ServerArrivals.{deliver_to_server_stands, junk_to_server_stands, nowhere_stands}
