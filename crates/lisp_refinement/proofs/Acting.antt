@@ -62,8 +62,7 @@ Stay o T U = (more : List Item) × (bag o U ≡ bag o T ++ more)
 pub notice_goes : (o : Opening) (T U : List Step) (k : ℕ) → Stay o T U → (n : Option Notice) (kept : Option StandingNoticeValue) → SameNotice o T k n kept → SameNotice o U k n kept
 notice_goes o T U k stay (Some n) (Some kept) same = search (same, ap (λ (items : List Item). slice_get items n.datagram) stay.1 ∙ get_before (bag o T) stay.0 n.datagram same.item same.sent)
 notice_goes o T U k stay None None same = tt
-notice_goes o T U k stay (Some n) None same = absurd same
-notice_goes o T U k stay None (Some kept) same = absurd same
+notice_goes o T U k stay _ _ same = absurd same
 
 -- a server's rows, and who of them was heard where, at a moment
 pub record StandsForRows (n : ServerNodeState) (all : List Acceptance) (now : ℕ) : Type 0 where

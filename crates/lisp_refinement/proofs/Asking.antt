@@ -190,8 +190,7 @@ module _ (o : Opening) (T : List Step) (k : ℕ) (n : ServerNodeState) (part : S
       by : (m : Option Notice) (kept : Option StandingNoticeValue) → SameNotice o T k m kept → is_due_at (clock T) kept ≡ is_due m (clock T)
       by (Some m) (Some kept) is = ap (has_come (clock T)) (due_together m kept is)
       by None None is = refl
-      by (Some m) None is = absurd is
-      by None (Some kept) is = absurd is
+      by _ _ is = absurd is
 
   -- the least router to which a notice is due
   next_notice : (router : Option RouterId) → IsDueRouter n.core.notices (clock T) router → IsNextNotice o T k router

@@ -149,8 +149,7 @@ found_without me router (x ∷ xs) differ = by (router_eq x.router me) refl (fou
 pub kept_stands : (o : Opening) (T : List Step) (server : ℕ) (n : Option Notice) (k : Option StandingNoticeValue) (kept : StandingNoticeValue) → SameNotice o T server n k → k ≡ Some kept → (x : Notice) × (n ≡ Some x) × IsStanding o T server x kept
 kept_stands o T server (Some n) (Some k) kept is same = (n, refl, (let own : k ≡ kept = cc in subst (λ (y : StandingNoticeValue). IsStanding o T server n y) own is))
 kept_stands o T server None None kept is same = absurd (let clash : ◌≡◌ {A = Option StandingNoticeValue} None (Some kept) = same in cc)
-kept_stands o T server (Some n) None kept is same = absurd is
-kept_stands o T server None (Some k) kept is same = absurd is
+kept_stands o T server _ _ kept is same = absurd is
 
 -- a notice that was sent again
 pub sent_again_own : (router : RouterId) (now : ℕ) (n : Notice) → n.router ≡ router → resent_at router now n ≡ record n { moments = now ∷ n.moments }
@@ -244,8 +243,7 @@ module _ {X K : Type 0} (key : X → K) where
 -- an answer of an order that is the same turned round isn't 'before'
 not_before_itself : (o : Ordering) → o ≡ ordering_reverse o → o ≢ Less
 not_before_itself Less turned is = absurd cc
-not_before_itself Equal turned is = absurd cc
-not_before_itself Greater turned is = absurd cc
+not_before_itself _ turned is = absurd cc
 
 -- it is a tie
 tied : (o : Ordering) → o ≡ ordering_reverse o → o ≡ Equal
@@ -650,8 +648,7 @@ same_due : (o : Opening) (T : List Step) (server moment : ℕ) (n : Option Notic
 unfolding due_after
 same_due o T server moment (Some n) (Some kept) is = ap (λ (moments : List ℕ). has_come moment (due_after moments)) is.moments ∙ ap (λ (k : ℕ). has_come moment (option_map (λ gap. kept.last + gap) (slice_get gaps k))) (sym is.resends)
 same_due o T server moment None None is = refl
-same_due o T server moment (Some n) None is = absurd is
-same_due o T server moment None (Some kept) is = absurd is
+same_due o T server moment _ _ is = absurd is
 
 module _ (old new : WorldState) (server router : ℕ) (line : Line) (turn : NetworkResends old new server router line) (o : Opening) (T : List Step) (stand : Stands old o T) where
   -- the router that is told again

@@ -97,8 +97,7 @@ module _ (c : EtrConfigValue) (bytes : List ℕ) where
   from_alike : (m : MapNotifyValue) (p q : Option ℕ) → Both p q → Alike c (Ok (Notifies m)) p q (later p m) (later q m)
   from_alike m None None both = refl
   from_alike m (Some i) (Some j) both = tested m i j (m.key_id == c.key_id) (is_authentic bytes c.secret) refl
-  from_alike m None (Some j) both = absurd both
-  from_alike m (Some i) None both = absurd both
+  from_alike m _ _ both = absurd both
 
   -- and so they do where it may be a Map-Notify-Ack
   notify_alike : (m : MapNotifyValue) (ack : Bool) (p q : Option ℕ) → Both p q → Alike c (Ok (Notifies m)) p q ((if ack then Err NotMine else Ok m) >>= later p) ((if ack then Err NotMine else Ok m) >>= later q)
@@ -153,8 +152,7 @@ module _ {A : Type 0} (e : EtrState) (h : ServerNotify) where
 both_of : {X : Type 0} (xs : List X) (p : Option ℕ) (q : Option X) → Placed xs p q → Both p q
 both_of xs (Some i) (Some x) is = tt
 both_of xs None None is = tt
-both_of xs (Some i) None is = absurd is
-both_of xs None (Some x) is = absurd is
+both_of xs _ _ is = absurd is
 
 -- a router that is up hears what arrives
 module _ (A : Type 0) (old : WorldState) (o : Opening) (T : List Step) (stand : Stands old o T) (node : ℕ) (event : EventValue) (arrival : IsArrival event) (a : Arrival) (arrives : arrival_in (bag o T) event ≡ Some a)
@@ -341,8 +339,7 @@ module _ (A : Type 0) (old : WorldState) (o : Opening) (T : List Step) (stand : 
   by_both ans (Err f) (Err g) heard_is same is fits = subst ComesBy (sym is) (refuses f (inl (ap (refused_with turn) same ∙ sym (ap (line_of turn) heard_is))))
   by_both ans (Ok h) (Ok g) heard_is same is fits = passes h g heard_is from_place (server_from o.config node a.from) (first_place (λ s. addr_eq (address_at o.config s) a.from) servers) same ans is fits
       (nat_le first_notice h.message.nonce) (part_with h.message.nonce (latest_of (rounds_at e.rounds h.server))) refl refl
-  by_both ans (Ok h) (Err g) heard_is same is fits = absurd same
-  by_both ans (Err f) (Ok g) heard_is same is fits = absurd same
+  by_both ans _ _ heard_is same is fits = absurd same
 
   -- or memory runs out
   comes_by : (bytes : List ℕ) → a.bytes ≡ bytes → a.read ≡ message_at bytes → (etr : EtrState) (ans : Result (Seen A) NotifyFault) → HearsAs e etr from bytes ans → ComesBy ans
@@ -465,8 +462,7 @@ has_place servers server = at (position (λ s. s == server) servers) (find (λ s
         let same : s ≡ server = (Decides-eqb s server).0 (find_true (λ s. s == server) servers s found) in
         inl (ap (λ (p : Option ℕ). slice_get servers (unwrap_or p (length servers))) place ∙ stands ∙ ap Some same, any_found (λ s. s == server) servers ∙ ap is_some found)
     at None None place found stands = inr (ap (λ (p : Option ℕ). unwrap_or p (length servers)) place, any_found (λ s. s == server) servers ∙ ap is_some found)
-    at (Some i) None place found stands = absurd stands
-    at None (Some s) place found stands = absurd stands
+    at _ _ place found stands = absurd stands
 
 -- a place within the list is the server's
 there_of : (servers : List ℕ) (server place : ℕ) → place < length servers → HasPlace servers server place → (slice_get servers place ≡ Some server) × (list_any (λ s. s == server) servers ≡ true)
