@@ -42,7 +42,7 @@ use Rattle.lisp_refinement.specs.World.{DatagramValue, RouterNodeState, RouterCo
 use Rattle.lisp_refinement.specs.Calls.{CoreHears as HearsAs, CoreSends, IsSendFaultOf, CoreRefusesToSend, CoreAnswersSend}
 use Rattle.lisp_refinement.specs.Events.{address_of, server_number, router_line, acknowledges, RouterHears, ArrivesAtRouter, node_with, place_of, SaysSendAnswer, RouterSends, NetworkSends}
 use Rattle.lisp_refinement.specs.Stands.{Shows, Carries, StandsForRounds, StandsForEtr, StandsForCore, StandsForRouter, Stands, StandsAfter, shown_by}
-use Rattle.lisp_refinement.proofs.Acting.{adds_none, adds_one, Shown-in, uses_shown, address_is, step_of, turn_at, shown_now, RouterStep, moved, acts_router, acts_part, acts_shows, acts_once, counted_here, counted_there, rounds_set, stands_by, SameLife, SameRounds, up_stays, etr_goes, keys_stay, down_step, by_fate, sent_here, sent_there}
+use Rattle.lisp_refinement.proofs.Acting.{adds_none, adds_one, Shown-in, uses_shown, address_is, step_of, turn_at, shown_now, RouterStep, moved, acts_router, acts_part, acts_shows, acts_once, counted_here, counted_there, rounds_set, stands_by, SameLife, SameRounds, up_stays, etr_goes, keys_stay, down_step, by_fate, sent_here, sent_there, idle_step}
 use Rattle.lisp_refinement.proofs.Places.{latest_known, found_part, Placed, first_place, position_map, few_parts, any_found}
 use Rattle.lisp_refinement.proofs.Gets.{get_within}
 use Rattle.lisp_refinement.proofs.Heads.{reads_signed, head_written}
@@ -196,14 +196,8 @@ module _ (A : Type 0) (old : WorldState) (o : Opening) (T : List Step) (stand : 
 
   -- it is refused
   refuses : (fault : NotifyFault) → (refused_with turn fault ≡ line_of turn (notify_at o T node a)) ⊎ (HasHead a.bytes × (HasRecords a.bytes ⊎ IsToAnswer turn a) × (refused_with turn fault ≡ refused_with turn faults.OutOfMemory)) → ComesBy (Err fault)
-  refuses fault comes = record {
-    row = hears_row (refused_with turn fault) comes;
-    count = omega arith;
-    obedient = refl;
-    adds = adds_none o T (step (refused_with turn fault)) refl;
-    shows = shows;
-    part = still (refused_with turn fault) (record { sent = refl; values = refl; times = λ k p. refl; latest = λ k p. refl; counted = λ k p. refl });
-  }
+  refuses fault comes = idle_step o T event node _ (refused_with turn fault) [] _ (hears_row (refused_with turn fault) comes) (adds_none o T (step (refused_with turn fault)) refl) shows
+      (still (refused_with turn fault) (record { sent = refl; values = refl; times = λ k p. refl; latest = λ k p. refl; counted = λ k p. refl }))
 
   -- a Map-Notify passed all checks
   module _ (h g : ServerNotify) (hears : notify_at o T node a ≡ Ok g) (p q : Option ℕ) (placed : Placed servers p q) (same : SameHeard (etr_config o T node) a.read p q h g) where
