@@ -577,8 +577,7 @@ module _ (node_may store_may : Type 0) where
       → Chain node_may store_may old (events ++ event ∷ []) (lines ++ line ∷ []) new
   chain_more old now new [] [] event line same took = (new, subst (λ (w : WorldState). TookEvent node_may store_may w new event line) same took, refl)
   chain_more old now new (e ∷ events) (l ∷ lines) event line (next, first, others) took = (next, first, chain_more next now new events lines event line others took)
-  chain_more old now new [] (l ∷ lines) event line none took = absurd none
-  chain_more old now new (e ∷ events) [] event line none took = absurd none
+  chain_more old now new _ _ event line none took = absurd none
 
 module _ (node_may store_may : Type 0) (old : WorldState) (before : List Line) (events : List EventValue) where
   -- a network that has run no event stands as it did
