@@ -62,8 +62,7 @@ Stay o T U = (more : List Item) × (bag o U ≡ bag o T ++ more)
 pub notice_goes : (o : Opening) (T U : List Step) (k : ℕ) → Stay o T U → (n : Option Notice) (kept : Option StandingNoticeValue) → SameNotice o T k n kept → SameNotice o U k n kept
 notice_goes o T U k stay (Some n) (Some kept) same = search (same, ap (λ (items : List Item). slice_get items n.datagram) stay.1 ∙ get_before (bag o T) stay.0 n.datagram same.item same.sent)
 notice_goes o T U k stay None None same = tt
-notice_goes o T U k stay (Some n) None same = absurd same
-notice_goes o T U k stay None (Some kept) same = absurd same
+notice_goes o T U k stay _ _ same = absurd same
 
 -- a server's rows, and who of them was heard where, at a moment
 pub record StandsForRows (n : ServerNodeState) (all : List Acceptance) (now : ℕ) : Type 0 where
@@ -422,6 +421,11 @@ pub record RouterStep (o : Opening) (T : List Step) (event : EventValue) (node :
   pub shows : Shows after.store s
   pub part : StandsForRouter o (step_of event node s line ∷ T) node after
 
+-- a step for which the store wasn't used, or only armed
+pub idle_step : (o : Opening) (T : List Step) (event : EventValue) (node : ℕ) (Row : Line → Type 0) (line : Line) (more : List DatagramValue) (after : RouterNodeState) → Row line → Adds o T (step_of event node (shown_store o T node) line) more
+    → Shows after.store (shown_store o T node) → StandsForRouter o (step_of event node (shown_store o T node) line ∷ T) node after → RouterStep o T event node (shown_store o T node) Row line more after
+idle_step o T event node Row line more after row adds shows part = record { row = row; count = omega arith; obedient = refl; adds = adds; shows = shows; part = part }
+
 -- the same of another line, other datagrams and another node that are equal to these
 pub moved : (o : Opening) (T : List Step) (event : EventValue) (node : ℕ) (s : ShownStore) (Row : Line → Type 0) (line said : Line) (more posts : List DatagramValue) (after left : RouterNodeState)
     → line ≡ said → more ≡ posts → after ≡ left → RouterStep o T event node s Row said posts left → RouterStep o T event node s Row line more after
@@ -458,14 +462,9 @@ module _ (old new : WorldState) (node : ℕ) (more : List DatagramValue) (acts :
   pub down_step : (event : EventValue) (Row : Line → Type 0) (line : Line) → (acts.after ≡ acts.before) × (line ≡ lines.Down node) × (more ≡ []) → Row (lines.Down node)
       → bag o (step_of event node (shown_store o T node) (lines.Down node) ∷ T) ≡ bag o T ++ [] → SameLife o T (step_of event node (shown_store o T node) (lines.Down node) ∷ T) node
       → SameRounds o T (step_of event node (shown_store o T node) (lines.Down node) ∷ T) node → RouterStep o T event node (shown_store o T node) Row line more acts.after
-  down_step event Row line is row adds life rounds = moved o T event node (shown_store o T node) Row line (lines.Down node) more [] acts.after acts.before is.1 is.2 is.0 (record {
-    row = row;
-    count = omega arith;
-    obedient = refl;
-    adds = adds_none o T _ adds;
-    shows = acts_shows;
-    part = idle_stays o T _ node life rounds (shown_now o T event node (shown_store o T node) (lines.Down node)) acts.before acts_part;
-  })
+  down_step event Row line is row adds life rounds = moved o T event node (shown_store o T node) Row line (lines.Down node) more [] acts.after acts.before is.1 is.2 is.0
+      (idle_step o T event node Row (lines.Down node) [] acts.before row (adds_none o T _ adds) acts_shows
+      (idle_stays o T _ node life rounds (shown_now o T event node (shown_store o T node) (lines.Down node)) acts.before acts_part))
 
   -- with such a step the network stands for the trace
   pub stands_by : (event : EventValue) (s : ShownStore) (line : Line) → is_timeless event ≡ true → RouterStep o T event node s (MayCome (turn_at o T node (fate_of event) s) event) line more acts.after → Stands new o (step_of event node s line ∷ T)

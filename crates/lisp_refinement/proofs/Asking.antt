@@ -190,8 +190,7 @@ module _ (o : Opening) (T : List Step) (k : ℕ) (n : ServerNodeState) (part : S
       by : (m : Option Notice) (kept : Option StandingNoticeValue) → SameNotice o T k m kept → is_due_at (clock T) kept ≡ is_due m (clock T)
       by (Some m) (Some kept) is = ap (has_come (clock T)) (due_together m kept is)
       by None None is = refl
-      by (Some m) None is = absurd is
-      by None (Some kept) is = absurd is
+      by _ _ is = absurd is
 
   -- the least router to which a notice is due
   next_notice : (router : Option RouterId) → IsDueRouter n.core.notices (clock T) router → IsNextNotice o T k router
@@ -221,10 +220,6 @@ servers_tell A w o T stand k n at =
 
 -- a router that is up and stands for a trace
 module _ (o : Opening) (T : List Step) (router : ℕ) (etr : EtrState) (part : StandsForEtr o T router etr) where
-  -- its Map-Servers
-  abbrev servers : List ℕ
-  servers = (router_at o.config router).servers
-
   -- a round is due when the trace's is
   round_due : (server : ℕ) (rs : Rounds) → StandsForRounds T router server rs → (number : ℕ) (r : Round) → slice_get rs.parts number ≡ Some r → nat_le r.due (clock T) ≡ nat_le (due T router server number) (clock T)
   round_due server rs stand number r at = ap (λ (moment : ℕ). nat_le moment (clock T)) (stand.round number r at).keeps.due
@@ -234,12 +229,12 @@ module _ (o : Opening) (T : List Step) (router : ℕ) (etr : EtrState) (part : S
   router_tells = record {
     acked = λ place server listed. (
         let its = (
-            let low = slice_get_within servers place server listed in
-            let count = part.count in
-            get_within etr.rounds place (omega (arith, low, count))) in
+        let low = slice_get_within ((router_at o.config router).servers) place server listed in
+        let count = part.count in
+        get_within etr.rounds place (omega (arith, low, count))) in
         let stand = part.rounds place server its.0 listed its.1 in
         ap (λ (all : Option Rounds). unwrap_or (option_map (λ (rs : Rounds). rs.acked) all) []) its.1 ∙ list_by_parts (acked T router server) its.0.acked stand.acked_parts stand.acked);
-    due = first_alike (router_part (clock T) (part_count etr.database)) (due_part o T router) etr.rounds servers part.count (λ place rs server at listed. 
+    due = first_alike (router_part (clock T) (part_count etr.database)) (due_part o T router) etr.rounds ((router_at o.config router).servers) part.count (λ place rs server at listed.
         let stand = part.rounds place server rs listed at in
         first_by_parts (λ (r : Round). nat_le r.due (clock T)) (λ number. nat_le (due T router server number) (clock T)) (part_count etr.database) rs.parts stand.parts (round_due server rs stand)
         ∙ ap (λ (db : List MapRecordValue). position (λ number. nat_le (due T router server number) (clock T)) (take (part_count db) part_numbers)) part.database);

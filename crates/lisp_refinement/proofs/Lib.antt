@@ -4,14 +4,10 @@ pub mod Heads
 pub mod Acting
 pub mod Passing
 pub mod Restarting
-pub mod Rotating
-pub mod Sending
-pub mod Hearing
+pub mod Routers
 pub mod ServerArrivals
 pub mod NoticeParts
 pub mod Reloading
-pub mod Resending
-pub mod Noticing
 pub mod Taking
 pub mod Asking
 pub mod Headlines

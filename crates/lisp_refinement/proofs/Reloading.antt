@@ -82,11 +82,8 @@ module _ (old new : WorldState) (server : ℕ) (given : List SiteValue) (line : 
 
   -- it starts anew
   module _ (is : extends before.core.sites given ≡ false) where
-    abbrev later : List Step
-    later = step false ∷ T
-
-    fresh_part : StandsForServer o later server after
-    fresh_part = fresh_stands o later server after given
+    fresh_part : StandsForServer o (step false ∷ T) server after
+    fresh_part = fresh_stands o (step false ∷ T) server after given
         (core_is false is) (sym (takes false)) (here server [] (since_start o T server)) (here server [] (notices o T server)) (here server None (last_notice T server))
         (life_is false is ∙ stand.bag.moment ∙ sym (here server (clock T) (began T server)))
 
@@ -94,8 +91,8 @@ module _ (old new : WorldState) (server : ℕ) (given : List SiteValue) (line : 
   stands : (kept : Bool) → extends before.core.sites given ≡ kept → StandsForServer o (step kept ∷ T) server after → Stands new o (record (step kept) { line = line } ∷ T)
   stands kept is its = subst (λ (l : Line). Stands new o (record (step kept) { line = l } ∷ T)) (sym (turn.said ∙ ap (λ (b : Bool). reload_line server b (length given)) is))
       (server_acts old new server [] turn.acts o T (step kept) stand refl refl (
-          (record { faults = λ other. omega arith; obedient = refl; row = row kept is })) (adds_none o T (step kept) (added kept))
-          (subst (λ store. Shows store (shown_store o T server)) (sym turn.reloads.store) (stand.steps.server_stores server before turn.acts.was)) its)
+      (record { faults = λ other. omega arith; obedient = refl; row = row kept is })) (adds_none o T (step kept) (added kept))
+      (subst (λ store. Shows store (shown_store o T server)) (sym turn.reloads.store) (stand.steps.server_stores server before turn.acts.was)) its)
     where
       added : (b : Bool) → bag o (step b ∷ T) ≡ bag o T ++ []
       added true = refl

@@ -77,7 +77,7 @@ use Rattle.lisp_model.proofs.RisingLaws.{taken_one}
 use Rattle.lisp_admission.proofs.Secrets.{its_secret}
 use Rattle.lisp_policy.specs.Configuration.{ConfigValue}
 use Rattle.lisp_refinement.specs.Events.{reply_number, server_line, replies, ArrivesAtServer, address_of, node_with}
-use Rattle.lisp_refinement.proofs.Hearing.{item_read}
+use Rattle.lisp_refinement.proofs.Routers.{item_read}
 
 -- the pair of a Map-Register isn't that of notices
 pub not_notices : (m : MapRegisterValue) → pair_of m ≢ notice_pair
@@ -639,7 +639,7 @@ module _ (o : Opening) (T : List Step) (node : ℕ) (kind : is_server o.config n
     done = record {
       row = done_row;
       adds = adds_none o T (received_step (lines.Done node router nonce)) refl;
-      part = stays (lines.Done node router nonce) refl refl refl e.rest (λ q. 
+      part = stays (lines.Done node router nonce) refl refl refl e.rest (λ q.
           subst (λ (b : Bool). SameNotice o (received_step (lines.Done node router nonce) ∷ T) node (find (λ n. router_eq n.router q) (if b then notices_to_others router (notices o T node) else notices o T node)) (notice_at after.core.notices q)) (sym (same_number node))
           (subst (λ (r : RouterId). SameNotice o (received_step (lines.Done node router nonce) ∷ T) node (find (λ n. router_eq n.router q) (notices_to_others r (notices o T node))) (notice_at after.core.notices q)) (sym e.its)
           (ended_same o T node before.core.notices part.notices (received_step (lines.Done node router nonce) ∷ T) after.core.notices e.notice.router e.ended refl q)));
@@ -690,31 +690,35 @@ module _ (o : Opening) (T : List Step) (node : ℕ) (kind : is_server o.config n
     accepted : Received o T (received_step (said reply)) (arriving from bytes (Ok (Registers m))) node after (replies {A = A} (address_at o.config node) from (Ok (Accepted router key nonce reply)))
     accepted =
         let adds = adds_reply reply answers.answer in
-        record { row = record {
-          acts = acts;
-          message = message;
-          admits = admitted;
-          who = answers.who;
-          under = answers.under;
-          number = answers.number;
-          fresh = is_fresh o T node before part armed called shows (fate_of event) fated message a.fresh;
-          space = space_in o T node before part armed called shows (fate_of event) fated from bytes (Ok (Registers m)) message a.space;
-          may = by_fate (λ f. f ≢ Doubt) (fate_of event) armed (shown_store o T node) shows fated a.saves;
-          kept = a.kept shows.honest;
-          others = subst (λ (k : Kept). SameElsewhere k called.kept (pair_of message)) shows.kept (a.others shows.honest);
-          reply = ap (reply_number (length (bag o T))) answers.answer ∙ reply_case (length (bag o T)) message.want_notify (signed a.passed.secret (written_notify (reply_to message)));
-        }; adds = adds; part = record {
-          sites = a.sites ∙ part.sites ∙ sym has;
-          rows = λ q eid. subst (λ (now : ℕ). option_and_then (if_alive now) (row_at after.core.rows q eid) ≡ held_row (since_start o (received_step (said reply) ∷ T) node) q eid now) (sym still)
-              (rows_after message from (clock T) (since_start o T node) q eid before.core.rows after.core.rows a.rows (part.rows q eid) ∙ ap (λ (xs : List Acceptance). held_row xs q eid (clock T)) (sym since_is));
-          nonces = λ pair other. nonces_after message from (clock T) (since_start o T node) before.core.nonces after.core.nonces a.nonces pair (part.nonces pair other) ∙ ap (last_of pair) (sym since_is);
-          notice_nonce = a.nonces.others notice_pair (λ e. not_notices message (sym e)) ∙ part.notice_nonce;
-          contacts = λ q eid h is. contacts_after message from (clock T) (since_start o T node) q eid before.core.contacts after.core.contacts a.contacts (part.contacts q eid) h ((λ i. held_row (sym since_is i) q eid (sym still i)) ∙ is)
-              ∙ ap (λ (xs : List Acceptance). option_map (λ x. contact_of x.message x.from) (heard_last q xs)) (sym since_is);
-          notices = λ q. subst (λ (ns : List StandingNoticeValue). SameNotice o (received_step (said reply) ∷ T) node (notice_to o T node q) (notice_at ns q)) (sym a.notices)
-              (notice_goes o T (received_step (said reply) ∷ T) node (adds.items, adds.added) (notice_to o T node q) (notice_at before.core.notices q) (part.notices q));
-          started = lives ∙ part.started;
-        } }
+        record {
+          row = record {
+            acts = acts;
+            message = message;
+            admits = admitted;
+            who = answers.who;
+            under = answers.under;
+            number = answers.number;
+            fresh = is_fresh o T node before part armed called shows (fate_of event) fated message a.fresh;
+            space = space_in o T node before part armed called shows (fate_of event) fated from bytes (Ok (Registers m)) message a.space;
+            may = by_fate (λ f. f ≢ Doubt) (fate_of event) armed (shown_store o T node) shows fated a.saves;
+            kept = a.kept shows.honest;
+            others = subst (λ (k : Kept). SameElsewhere k called.kept (pair_of message)) shows.kept (a.others shows.honest);
+            reply = ap (reply_number (length (bag o T))) answers.answer ∙ reply_case (length (bag o T)) message.want_notify (signed a.passed.secret (written_notify (reply_to message)));
+          };
+          adds = adds;
+          part = record {
+            sites = a.sites ∙ part.sites ∙ sym has;
+            rows = λ q eid. subst (λ (now : ℕ). option_and_then (if_alive now) (row_at after.core.rows q eid) ≡ held_row (since_start o (received_step (said reply) ∷ T) node) q eid now) (sym still)
+                (rows_after message from (clock T) (since_start o T node) q eid before.core.rows after.core.rows a.rows (part.rows q eid) ∙ ap (λ (xs : List Acceptance). held_row xs q eid (clock T)) (sym since_is));
+            nonces = λ pair other. nonces_after message from (clock T) (since_start o T node) before.core.nonces after.core.nonces a.nonces pair (part.nonces pair other) ∙ ap (last_of pair) (sym since_is);
+            notice_nonce = a.nonces.others notice_pair (λ e. not_notices message (sym e)) ∙ part.notice_nonce;
+            contacts = λ q eid h is. contacts_after message from (clock T) (since_start o T node) q eid before.core.contacts after.core.contacts a.contacts (part.contacts q eid) h ((λ i. held_row (sym since_is i) q eid (sym still i)) ∙ is)
+                ∙ ap (λ (xs : List Acceptance). option_map (λ x. contact_of x.message x.from) (heard_last q xs)) (sym since_is);
+            notices = λ q. subst (λ (ns : List StandingNoticeValue). SameNotice o (received_step (said reply) ∷ T) node (notice_to o T node q) (notice_at ns q)) (sym a.notices)
+                (notice_goes o T (received_step (said reply) ∷ T) node (adds.items, adds.added) (notice_to o T node q) (notice_at before.core.notices q) (part.notices q));
+            started = lives ∙ part.started;
+          };
+        }
 
   -- whatever it answers
   received : {A : Type 0} → LegalTrace o T → (read : Result MessageValue ReadFault) (answer : Result (Took A) Refused) → arrival_in (bag o T) event ≡ Some (arriving from bytes read)
@@ -783,10 +787,10 @@ module _ (A : Type 0) (old new : WorldState) (node : ℕ) (fate : Fate) (from : 
       → (Arrives (context_of o T (step event says)) (junk_arrival from bytes) says → MayCome (context_of o T (step event says)) event says) → Stands new o (step event line ∷ T)
   goes_on event fated timeless arrives comes =
       let left = (received o T node (server_is old o T stand node at.acts.before at.acts.was) at.acts.before at.acts.after (stand.servers node at.acts.before at.acts.was) at.receives.started
-          at.receives.armed at.receives.called uses.armed_shows event (λ obeys. uses.fated obeys ∙ sym fated) timeless (same_sites (bag o T) event (junk_arrival from bytes) arrives node (sites o T node)) from bytes stand.steps.legal (message_at bytes) at.answer arrives
-          (subst (λ (now : ℕ). IfOk at.answer (λ took. ServerTakes (message_at bytes) from bytes at.acts.before.core at.acts.after.core at.receives.armed at.receives.called now took)) stand.bag.moment at.receives.taken)
-          (subst (λ (now : ℕ). IfErr at.answer (λ why. ServerRefuses (message_at bytes) from bytes at.acts.before.core at.receives.armed at.receives.called now why)) stand.bag.moment at.receives.refused)
-          at.receives.err at.receives.head) in
+      at.receives.armed at.receives.called uses.armed_shows event (λ obeys. uses.fated obeys ∙ sym fated) timeless (same_sites (bag o T) event (junk_arrival from bytes) arrives node (sites o T node)) from bytes stand.steps.legal (message_at bytes) at.answer arrives
+      (subst (λ (now : ℕ). IfOk at.answer (λ took. ServerTakes (message_at bytes) from bytes at.acts.before.core at.acts.after.core at.receives.armed at.receives.called now took)) stand.bag.moment at.receives.taken)
+      (subst (λ (now : ℕ). IfErr at.answer (λ why. ServerRefuses (message_at bytes) from bytes at.acts.before.core at.receives.armed at.receives.called now why)) stand.bag.moment at.receives.refused)
+      at.receives.err at.receives.head) in
       subst (λ (said : Line). Stands new o (step event said ∷ T)) (sym (at.said ∙ ap (λ (next : ℕ). server_line node next at.answer) stand.bag.count))
       (server_acts old new node (replies (address_of old node) from at.answer) at.acts o T (step event says) stand refl timeless
       (record { faults = λ other. uses.count; obedient = uses.obedient; row = comes left.row })

@@ -12,16 +12,16 @@ use Rattle.lisp_refinement.specs.World.{WorldState}
 use Rattle.lisp_refinement.specs.Events.{node_with, Arrives, ArrivesWhere, NetworkDelivers, NetworkRestarts}
 use Rattle.lisp_refinement.specs.Stands.{StandsAfter}
 use Rattle.lisp_refinement.specs.Taking.{NetworkTakes}
-use Rattle.lisp_refinement.proofs.Rotating.{change_stands}
-use Rattle.lisp_refinement.proofs.Rotating.{lose_stands}
-use Rattle.lisp_refinement.proofs.Noticing.{notice_stands}
+use Rattle.lisp_refinement.proofs.Restarting.{change_stands}
+use Rattle.lisp_refinement.proofs.Restarting.{lose_stands}
+use Rattle.lisp_refinement.proofs.NoticeParts.{notice_stands}
 use Rattle.lisp_refinement.proofs.Reloading.{reload_stands}
-use Rattle.lisp_refinement.proofs.Resending.{resend_stands}
-use Rattle.lisp_refinement.proofs.Rotating.{rotate_stands}
-use Rattle.lisp_refinement.proofs.Sending.{send_stands}
+use Rattle.lisp_refinement.proofs.NoticeParts.{resend_stands}
+use Rattle.lisp_refinement.proofs.Restarting.{rotate_stands}
+use Rattle.lisp_refinement.proofs.Routers.{send_stands}
 use Rattle.lisp_refinement.proofs.Passing.{tick_stands}
 use Rattle.lisp_refinement.proofs.ServerArrivals.{deliver_to_server_stands, junk_to_server_stands, nowhere_stands}
-use Rattle.lisp_refinement.proofs.Hearing.{deliver_to_router_stands, junk_to_router_stands}
+use Rattle.lisp_refinement.proofs.Routers.{deliver_to_router_stands, junk_to_router_stands}
 use Rattle.lisp_refinement.proofs.Restarting.{restart_server_stands, restart_router_stands}
 
 -- a datagram that was sent arrives

@@ -1,9 +1,7 @@
 -- The keys that a router used when the network was made: its first one alone.
-use Rattle.std.proofs.Common.{[], ◌≡◌, ℕ, zero, suc, ◌<◌, Bool, true, false, true≢false, List, ◌∷◌, length, replicate, refl, sym, ap, subst, ◌∙◌, arith, ◌⊎◌, inl, inr, ◌+◌, ◌≤◌, ◌++◌, get_or, take, drop, Some, length-set, append-nil, ◌-◌, map, Result, Ok, Err}
+use Rattle.std.proofs.Common.{[], ◌≡◌, ℕ, zero, suc, ◌<◌, Bool, true, false, true≢false, List, ◌∷◌, length, replicate, refl, sym, ap, subst, ◌∙◌, arith, ◌⊎◌, inl, inr, ◌+◌, ◌≤◌, ◌++◌, get_or, Some, length-set, ◌-◌, map, Result, Ok, Err}
 use Rattle.std.proofs.lemmas.List.{length-replicate, length-append, length-map}
 use Rattle.std.proofs.lemmas.Option.{slice_get-get_or, slice_get_within, slice_get-map, get_or_from_slice_get}
-use Rattle.std.proofs.Math.Seq.{take-length}
-use Rattle.std.proofs.Math.ListN.{drop_of_length-le}
 use Rattle.std.specs.Prelude.{slice_set, ◌≢◌, slice_get, IsTrue, IfErr, IsErrAnd, ◌↔◌, IfOk, IsErrOf}
 use Rattle.std.specs.List.{Contains, AllByRecursion}
 use Rattle.std.specs.FinMap.{empty}
@@ -30,6 +28,7 @@ use Rattle.lisp_nonces.specs.declared.fault.StoreFault.TheVariants as store_faul
 use Rattle.lisp_etr.specs.declared.start_fault.StartFault.TheVariants as start_faults
 use Rattle.lisp_model.specs.declared.world_fault.WorldFault.TheVariants as faults
 use Rattle.lisp_refinement.specs.Headline.{Promises}
+use Rattle.lisp_world.proofs.Taking.{get_behind}
 
 -- a list of one holds that one
 only : (key k : ℕ) → Contains (key ∷ []) k → k ≡ key
@@ -93,21 +92,6 @@ module _ {X : Type 0} where
       further (inl is) = inl is
       further (inr (same, is)) = inr (ap suc same, is)
 
-  -- that one stands at the end
-  pub get_end : (xs : List X) (y : X) → slice_get (xs ++ y ∷ []) (length xs) ≡ Some y
-  get_end [] y = refl
-  get_end (a ∷ xs) y = get_end xs y
-
-  -- a list is one longer
-  pub one_longer : (xs : List X) (y : X) → length (xs ++ y ∷ []) ≡ length xs + 1
-  one_longer xs y = length-append xs (y ∷ [])
-
-  -- a list that was written whole in place of another one
-  pub written_whole : (old new : List X) (count : ℕ) → count ≡ length old → length new ≡ length old → take count (new ++ drop (length new) old) ≡ new
-  written_whole old new count all same =
-      let none : drop (length new) old ≡ [] = drop_of_length-le old (omega (arith, same)) in
-      (λ i. take ((all ∙ sym same) i) (new ++ none i)) ∙ ap (take (length new)) (append-nil new) ∙ take-length new
-
 -- the nodes over the stores so far: Map-Servers first
 pub record SoFar (c : ConfigValue) (stores : List StoreState) (made : List ServerNodeState) (down : List RouterNodeState) : Type 0 where
   pub count : length stores ≡ length made + length down
@@ -144,12 +128,12 @@ module _ (c : ConfigValue) (stores : List StoreState) (made : List ServerNodeSta
         here (inr (same, new)) =
             let none : length down ≡ 0 = no_router so_far.first in
             let place : k ≡ length stores = omega (arith, same, none, so_far.count) in
-            (s, ap (slice_get stores_now) place ∙ get_end stores s, new ∙ is)
+            (s, ap (slice_get stores_now) place ∙ get_behind stores (s ∷ []) (length stores) 0 (omega arith), new ∙ is)
 
     server_more : SoFar c stores_now (made ++ n ∷ []) down
     server_more = record {
-      count = (let a = one_longer stores s in let b = one_longer made n in omega (arith, a, b, so_far.count));
-      few = (let b = one_longer made n in omega (arith, b, low));
+      count = (let a = length-append stores (s ∷ []) in let b = length-append made (n ∷ []) in omega (arith, a, b, so_far.count));
+      few = (let b = length-append made (n ∷ []) in omega (arith, b, low));
       first = inl (no_router so_far.first);
       are_servers = servers_now;
       are_routers = λ k m at. (let old = so_far.are_routers k m at in (old.0, get_before stores (s ∷ []) (length c.servers + k) old.0 old.1, old.2));
@@ -167,11 +151,11 @@ module _ (c : ConfigValue) (stores : List StoreState) (made : List ServerNodeSta
         here (inl was) = (let old = so_far.are_routers k m was in (old.0, get_before stores (s ∷ []) (length c.servers + k) old.0 old.1, old.2))
         here (inr (same, new)) =
             let place : length c.servers + k ≡ length stores = omega (arith, same, all_servers, so_far.count) in
-            (s, ap (slice_get stores_now) place ∙ get_end stores s, (is.0, ap (slice_get c.routers) same ∙ is.1, new ∙ is.2))
+            (s, ap (slice_get stores_now) place ∙ get_behind stores (s ∷ []) (length stores) 0 (omega arith), (is.0, ap (slice_get c.routers) same ∙ is.1, new ∙ is.2))
 
     router_more : SoFar c stores_now made (down ++ n ∷ [])
     router_more = record {
-      count = (let a = one_longer stores s in let b = one_longer down n in omega (arith, a, b, so_far.count));
+      count = (let a = length-append stores (s ∷ []) in let b = length-append down (n ∷ []) in omega (arith, a, b, so_far.count));
       few = so_far.few;
       first = inr all_servers;
       are_servers = λ k m at. (let old = so_far.are_servers k m at in (old.0, get_before stores (s ∷ []) k old.0 old.1, old.2));
@@ -277,11 +261,6 @@ module _ {X : Type 0} where
       further : (slice_get xs k ≡ Some x) ⊎ ((j : ℕ) × (k ≡ length xs + j) × (slice_get ys j ≡ Some x)) → (slice_get xs k ≡ Some x) ⊎ ((j : ℕ) × (suc k ≡ suc (length xs) + j) × (slice_get ys j ≡ Some x))
       further (inl here) = inl here
       further (inr (j, place, there)) = inr (j, omega (arith, place), there)
-
-  -- what stands in the second one stands in both
-  pub get_behind : (xs ys : List X) (j : ℕ) (x : X) → slice_get ys j ≡ Some x → slice_get (xs ++ ys) (length xs + j) ≡ Some x
-  get_behind [] ys j x at = (let none : 0 + j ≡ j = omega arith in ap (slice_get ys) none ∙ at)
-  get_behind (a ∷ xs) ys j x at = (let next : suc (length xs) + j ≡ suc (length xs + j) = omega arith in ap (slice_get (a ∷ (xs ++ ys))) next ∙ get_behind xs ys j x at)
 
   -- two lists are mapped to one list where each element of one is mapped to what the element there of the other is
   pub mapped_alike : {Z : Type 0} (f : X → Z) (xs ys : List X) → length xs ≡ length ys
@@ -395,8 +374,8 @@ module _ (c : ConfigValue) (stores : List StoreState) (w : WorldState) (count : 
     router_shows k n at =
         let long = length-map w.servers (λ (m : ServerNodeState). m.store) ∙ made.nodes.server_count in
         shows_at (length c.servers + k) n.store
-        (ap (λ l. slice_get (stores_of w) (l + k)) (sym long)
-        ∙ get_behind (map (λ (m : ServerNodeState). m.store) w.servers) (map (λ (m : RouterNodeState). m.store) w.routers) k n.store (slice_get-map (λ m. m.store) w.routers k ∙ ap (option_map (λ m. m.store)) at))
+        (get_behind (map (λ (m : ServerNodeState). m.store) w.servers) (map (λ (m : RouterNodeState). m.store) w.routers) (length c.servers + k) k (ap (λ l. l + k) (sym long))
+        ∙ slice_get-map (λ m. m.store) w.routers k ∙ ap (option_map (λ m. m.store)) at)
 
     -- a router that has started
     module _ (k : ℕ) (n : RouterNodeState) (at : slice_get w.routers k ≡ Some n) where

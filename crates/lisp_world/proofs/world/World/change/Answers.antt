@@ -1,8 +1,7 @@
 use Rattle.std.proofs.Common.{[], ◌∙◌, append-nil, sym, ap, length, arith}
 use Rattle.std.proofs.lemmas.List.{length-set}
 use Rattle.lisp_nodes.proofs.RouterCalls.{acted, same_bag, changed_line}
-use Rattle.lisp_world.proofs.Taking.{event_taken}
-use Rattle.lisp_world.proofs.Telling.{changed_tells}
+use Rattle.lisp_world.proofs.Taking.{event_taken, changed_tells}
 use Rattle.lisp_world.proofs.world.World.change.Goals as goal
 
 pub returns : goal.returns
@@ -10,7 +9,7 @@ returns g c =
     let there = rw (← c.self.view_is) at c.in_ok-place.ensures.place in
     let possible = rw (← c.self.view_is) at c.in_ok-place.ensures.fault in
     let said = c.changed.ensures
-        ∙ changed_line c.args.router (length c.records-records.result.now) c.args.db.now c.index_mut.result.now.core c.change-is_up.result (ap length c.records-records.ensures.value) c.change-is_up.ensures.1 in
+    ∙ changed_line c.args.router (length c.records-records.result.now) c.args.db.now c.index_mut.result.now.core c.change-is_up.result (ap length c.records-records.ensures.value) c.change-is_up.ensures.1 in
     rw (← c.self.view_is)
     (event_taken _ _ (Unit {0}) _ _ _ _ (sym possible) (record {
       acts = acted _ _ _ c.in_ok-place.place [] c.index_mut.result.now c.change-is_up.new.self there c.index_mut.ensures.value (same_bag _ _ (sym (append-nil c.self.inside.bag.items)));

@@ -3,8 +3,7 @@ use Rattle.lisp_records.specs.Record.{MapRecordValue}
 use Rattle.lisp_refinement.specs.{World.WorldState, Calls.NodeLoses}
 use Rattle.lisp_world.specs.Faults.{used_ever}
 use Rattle.lisp_world.proofs.Keys.{lost, no_key_fault, used_key, used_there}
-use Rattle.lisp_world.proofs.Telling.{out_of_memory, lost_tells}
-use Rattle.lisp_world.proofs.Taking.{event_taken}
+use Rattle.lisp_world.proofs.Taking.{out_of_memory, lost_tells, event_taken}
 use Rattle.lisp_world.proofs.world.World.lose.Goals as goal
 
 pub returns-then-used_ever : goal.returns-then-used_ever
@@ -36,7 +35,9 @@ returns g c =
     let unused = used_there w c.args.router c.args.key place secret found c.index.result.now c.index.ensures was_used _ c.used_ever.ensures ∙ c.if-used_ever.false in
     let e = c.lose-answer.ensures in
     rw (← c.self.view_is, c.loss_line.ensures)
-    (event_taken _ _ (Unit {0}) w _ _ _ (no_key_fault w c.args.router c.args.key place secret found was_used unused)
-    (c.in_ok-db.ensures.fits, lost w c.args.router c.args.key place secret found c.index_mut.result.now c.index_mut.ensures.value c.lose-answer.new.self (omega arith) c.args.db.now c.lose-answer.result unused
-    (subst (λ (given : Option (List MapRecordValue)). NodeLoses c.index_mut.result.now c.lose-answer.new.self c.args.key secret given inside.clock c.lose-answer.result) c.in_ok-db.ensures.equal e.loses))
+    (event_taken _ _ (Unit {0}) w _ _ _ (no_key_fault w c.args.router c.args.key place secret found was_used unused) (
+      c.in_ok-db.ensures.fits,
+      lost w c.args.router c.args.key place secret found c.index_mut.result.now c.index_mut.ensures.value c.lose-answer.new.self (omega arith) c.args.db.now c.lose-answer.result unused
+          (subst (λ (given : Option (List MapRecordValue)). NodeLoses c.index_mut.result.now c.lose-answer.new.self c.args.key secret given inside.clock c.lose-answer.result) c.in_ok-db.ensures.equal e.loses),
+    )
     (lost_tells _ _ c.args.router c.args.key c.lose-answer.result e.memory e.store_memory))

@@ -8,10 +8,10 @@ use Rattle.lisp_nonces.specs.Store.{StoreState}
 use Rattle.lisp_refinement.specs.World.{RouterNodeState, WorldState}
 use Rattle.lisp_refinement.proofs.Headlines.{networks_promise}
 use Rattle.lisp_world.specs.Making.{HaveStarted, IsStartFault}
-use Rattle.lisp_world.proofs.Making.{written_whole, memory_fault, start_fault, fails, IsMade, lists_same, stays_calm, made_stands}
-use Rattle.lisp_world.proofs.Telling.{taken, repeated_no_memory, repeated_no_start}
+use Rattle.lisp_world.proofs.Making.{memory_fault, start_fault, fails, IsMade, lists_same, stays_calm, made_stands}
 use Rattle.lisp_model.specs.declared.world_fault.WorldFault.{WorldFault}
 use Rattle.lisp_model.specs.declared.world_fault.WorldFault.TheVariants as faults
+use Rattle.lisp_world.proofs.Taking.{rewritten}
 use Rattle.lisp_world.proofs.world.World.new.Goals as goal
 
 module _ (g : _) (c : goal.After-new g) where
@@ -24,7 +24,7 @@ module _ (g : _) (c : goal.After-new g) where
   routers_left = take c.in_ok-servers.routers.len (c.start_all.new.routers ++ drop (length c.start_all.new.routers) c.in_ok-servers.routers.items)
 
   routers_now : routers_left ≡ c.start_all.new.routers
-  routers_now = written_whole c.in_ok-servers.routers.items c.start_all.new.routers _ c.in_ok-servers.routers.ok.0 started.count
+  routers_now = rewritten _ c.in_ok-servers.routers.items c.start_all.new.routers (c.in_ok-servers.routers.ok.0 ∙ sym started.count)
 
   -- the stores as they were given
   abbrev stores : List StoreState
@@ -68,29 +68,19 @@ invariant_of-result g c =
     let starts = started g c in
     (omega arith, omega (arith, known, both, one, other, written, starts.count, nodes.server_count, nodes.router_count))
 
-pub returns-clause-stands : goal.returns-clause-stands
-returns-clause-stands g c = λ honest. made_stands c.args.config.now (stores g c) (world g c) (stores_count g c) (made g c) (c.repeats.ensures.network c.if-repeats.false) honest
-
-pub returns-clause-lists : goal.returns-clause-lists
-returns-clause-lists g c = λ honest. lists_same c.args.config.now (stores g c) (world g c) (stores_count g c) (made g c) honest
-
-pub returns-clause-calm : goal.returns-clause-calm
-returns-clause-calm g c = λ calm. stays_calm c.args.config.now (stores g c) (world g c) (stores_count g c) (made g c) calm
-
-pub returns-clause-headline : goal.returns-clause-headline
-returns-clause-headline g c = networks_promise _
-
-pub returns-clause-repeated : goal.returns-clause-repeated
-returns-clause-repeated g c = (λ is. absurd cc, λ twice. absurd (true≢false (sym twice ∙ sym c.repeats.ensures.exact ∙ c.if-repeats.false)))
-
-pub returns-clause-memory : goal.returns-clause-memory
-returns-clause-memory g c = taken _ _
-
-pub returns-clause-start_memory : goal.returns-clause-start_memory
-returns-clause-start_memory g c = λ node. taken _ _
-
-pub returns-clause-store_memory : goal.returns-clause-store_memory
-returns-clause-store_memory g c = λ node. taken _ _
+pub returns : goal.returns
+returns g c = record {
+  stands = λ honest. made_stands c.args.config.now (stores g c) (world g c) (stores_count g c) (made g c) (c.repeats.ensures.network c.if-repeats.false) honest;
+  headline = networks_promise _;
+  lists = λ honest. lists_same c.args.config.now (stores g c) (world g c) (stores_count g c) (made g c) honest;
+  faults = tt;
+  repeated = (λ is. absurd cc, λ twice. absurd (true≢false (sym twice ∙ sym c.repeats.ensures.exact ∙ c.if-repeats.false)));
+  memory = λ is. absurd cc;
+  start_memory = λ node is. absurd cc;
+  store_memory = λ node is. absurd cc;
+  calm = λ calm. stays_calm c.args.config.now (stores g c) (world g c) (stores_count g c) (made g c) calm;
+  calm_faults = λ calm below. tt;
+}
 
 -- it isn't made: nodes are alike, memory ran out, or a router doesn't start
 pub returns-then-repeats : goal.returns-then-repeats

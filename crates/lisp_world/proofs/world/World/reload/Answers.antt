@@ -3,8 +3,7 @@ use Rattle.std.proofs.lemmas.List.{length-set}
 use Rattle.lisp_policy.specs.{Extends.extends, Site.SiteValue}
 use Rattle.lisp_refinement.specs.Events.{reload_line}
 use Rattle.lisp_nodes.proofs.ServerCalls.{server_acted}
-use Rattle.lisp_world.proofs.Taking.{event_taken}
-use Rattle.lisp_world.proofs.Telling.{reloaded_tells}
+use Rattle.lisp_world.proofs.Taking.{event_taken, reloaded_tells}
 use Rattle.lisp_world.proofs.world.World.reload.Goals as goal
 
 pub returns : goal.returns

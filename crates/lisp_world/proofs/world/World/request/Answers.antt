@@ -3,7 +3,7 @@ use Rattle.std.proofs.lemmas.Bool.{ltb-true}
 use Rattle.std.proofs.lemmas.Option.{slice_get_read, slice_get_past}
 use Rattle.std.specs.Option.{option_map}
 use Rattle.lisp_refinement.specs.World.{ServerNodeState}
-use Rattle.lisp_world.proofs.Telling.{network_promises, network_replies}
+use Rattle.lisp_world.proofs.Taking.{network_promises, network_replies}
 use Rattle.lisp_world.proofs.world.World.request.Goals as goal
 
 pub returns-clause-replies : goal.returns-clause-replies

@@ -1,8 +1,7 @@
 use Rattle.std.proofs.{Common.arith, Common.sym, lemmas.List.length-set}
 use Rattle.lisp_refinement.specs.World.{WorldState}
 use Rattle.lisp_world.proofs.Noticing.{resent}
-use Rattle.lisp_world.proofs.Taking.{event_taken, no_pair_fault, router_there, server_there}
-use Rattle.lisp_world.proofs.Telling.{resent_tells}
+use Rattle.lisp_world.proofs.Taking.{event_taken, no_pair_fault, router_there, server_there, resent_tells}
 use Rattle.lisp_world.proofs.world.World.resend.Goals as goal
 
 pub invariant_of-self-3 : goal.invariant_of-self-3
@@ -26,15 +25,12 @@ returns g c =
 
 pub address-from-requires : goal.address-from-requires
 address-from-requires g c =
-    let server = server_there _ _ c.self.view_is c.args.server c.args.router _ _ c.in_ok-place.ensures.room.0 c.place_beside-place.ensures.server in
-    omega (arith, server, c.self.invariant.1)
+    omega (arith, server_there _ _ c.self.view_is c.args.server c.args.router _ _ c.in_ok-place.ensures.room.0 c.place_beside-place.ensures.server, c.self.invariant.1)
 
 pub index-requires : goal.index-requires
 index-requires g c =
-    let router = router_there _ _ c.self.view_is c.args.server c.args.router _ _ c.in_ok-place.ensures.room.0 c.place_beside-place.ensures.place in
-    omega (arith, router.1, c.self.inside.routers.ok.0)
+    omega (arith, router_there _ _ c.self.view_is c.args.server c.args.router _ _ c.in_ok-place.ensures.room.0 c.place_beside-place.ensures.place, c.self.inside.routers.ok.0)
 
 pub index_mut-requires : goal.index_mut-requires
 index_mut-requires g c =
-    let server = server_there _ _ c.self.view_is c.args.server c.args.router _ _ c.in_ok-place.ensures.room.0 c.place_beside-place.ensures.server in
-    omega (arith, server, c.self.inside.servers.ok.0)
+    omega (arith, server_there _ _ c.self.view_is c.args.server c.args.router _ _ c.in_ok-place.ensures.room.0 c.place_beside-place.ensures.server, c.self.inside.servers.ok.0)

@@ -2,7 +2,7 @@ use Rattle.std.proofs.Common.{ap, ◌∙◌, sym, arith, ◌-◌, ◌+◌, ◌<�
 use Rattle.std.proofs.lemmas.List.{length-set}
 use Rattle.lisp_refinement.specs.Events.{start_line}
 use Rattle.lisp_nodes.proofs.RouterCalls.{router_changed}
-use Rattle.lisp_world.proofs.Telling.{start_tells}
+use Rattle.lisp_world.proofs.Taking.{start_tells}
 use Rattle.lisp_world.proofs.world.World.restart_router.Goals.{in-Ok, in-Err}
 use Rattle.lisp_world.proofs.world.World.restart_router.Goals as goal
 

@@ -2,8 +2,7 @@ use Rattle.std.proofs.Common.{◌∙◌, refl, inl, arith}
 use Rattle.lisp_refinement.specs.World.{WorldState}
 use Rattle.lisp_world.specs.Faults.{used_before_loss}
 use Rattle.lisp_world.proofs.Keys.{no_key_fault, rotated, used_key, used_there}
-use Rattle.lisp_world.proofs.Taking.{event_taken}
-use Rattle.lisp_world.proofs.Telling.{rotated_tells}
+use Rattle.lisp_world.proofs.Taking.{event_taken, rotated_tells}
 use Rattle.lisp_world.proofs.world.World.rotate.Goals as goal
 
 pub returns-then-used_before_loss : goal.returns-then-used_before_loss

@@ -1,5 +1,5 @@
 use Rattle.lisp_refinement.proofs.Headlines.{networks_promise}
-use Rattle.lisp_world.proofs.Telling.{parts}
+use Rattle.lisp_world.proofs.Taking.{parts}
 use Rattle.lisp_world.proofs.world.World.step.Goals as goal
 
 pub returns : goal.returns
