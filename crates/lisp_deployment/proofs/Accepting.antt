@@ -34,8 +34,7 @@ use Rattle.lisp_turns.proofs.Reaching.{all_split}
 use Rattle.lisp_admission.specs.Pairs.{router_of}
 use Rattle.lisp_deployment.specs.Received.{IsUnforged, MayHold}
 use Rattle.lisp_deployment.proofs.Giving.{TakeGiven, sites_given, may_hold}
-use Rattle.lisp_deployment.proofs.Posting.{WasTold, told_still, WasReplied, AreReplied}
-use Rattle.lisp_deployment.proofs.Adding.{reads}
+use Rattle.lisp_deployment.proofs.Posting.{WasTold, told_still, WasReplied, AreReplied, reads}
 
 -- each Map-Register among datagrams was sent, and its line was printed
 abbrev pub AreTold : Opening → List Step → List Line → List DatagramValue → Type 0

@@ -19,7 +19,8 @@ pub record GoesOnBy (config : ConfigValue) (deed : Deed) (new : DeploymentState)
   pub stands : DeploymentStands config new left o (steps ++ T)
 
 module _ (A : Type 0) (config : ConfigValue) where
-  abbrev pub one_deed : (deed : Deed) (old new : DeploymentState) → DoesDeed A config deed old new → (w : WorldState) (o : Opening) (T : List Step) → DeploymentStands config old w o T → GoesOnBy config deed new w o T
+  abbrev pub one_deed : (deed : Deed) (old new : DeploymentState) → DoesDeed A config deed old new → (w : WorldState) (o : Opening) (T : List Step)
+      → DeploymentStands config old w o T → GoesOnBy config deed new w o T
   one_deed (Turn number calls) old new takes w o T stand = record {
     steps = (turned A config number calls old new takes w o T stand).steps;
     left = (turned A config number calls old new takes w o T stand).left;
@@ -40,10 +41,12 @@ module _ (A : Type 0) (config : ConfigValue) where
       pub holds : Holds deeds new did (steps ++ T)
 
     pub deeds_stand : (w : WorldState) (T : List Step) → DeploymentStands config old w o T → ((d : DeploymentState) (is : d ≡ old) → Holds [] d is T)
-        → ((deed : Deed) (earlier : List Deed) (between new : DeploymentState) (did : DoDeeds A config earlier old between) (does : DoesDeed A config deed between new) (v : WorldState) (U : List Step) (stand : DeploymentStands config between v o U)
+        → ((deed : Deed) (earlier : List Deed) (between new : DeploymentState) (did : DoDeeds A config earlier old between) (does : DoesDeed A config deed between new)
+        (v : WorldState) (U : List Step) (stand : DeploymentStands config between v o U)
         → Holds earlier between did U → Holds (deed ∷ earlier) new (between, did, does) ((one_deed deed between new does v o U stand).steps ++ U))
         → (deeds : List Deed) (new : DeploymentState) (did : DoDeeds A config deeds old new) → GoOn deeds new did w T
-    deeds_stand w T stand none keeps [] new is = record { steps = []; left = w; are_of = (refl, refl); stands = subst (λ (d : DeploymentState). DeploymentStands config d w o T) (sym is) stand; holds = none new is }
+    deeds_stand w T stand none keeps [] new is =
+        record { steps = []; left = w; are_of = (refl, refl); stands = subst (λ (d : DeploymentState). DeploymentStands config d w o T) (sym is) stand; holds = none new is }
     deeds_stand w T stand none keeps (deed ∷ earlier) new (between, did, does) =
         let first = deeds_stand w T stand none keeps earlier between did in
         let second = one_deed deed between new does first.left o (first.steps ++ T) first.stands in
@@ -57,7 +60,8 @@ module _ (A : Type 0) (config : ConfigValue) where
         }
 
     -- a trace from the opening on
-    pub its_trace : (deeds : List Deed) (new : DeploymentState) (did : DoDeeds A config deeds old new) (w : WorldState) → GoOn deeds new did w [] → (has : HasTrace config deeds new w o) × Holds deeds new did has.trace
+    pub its_trace : (deeds : List Deed) (new : DeploymentState) (did : DoDeeds A config deeds old new) (w : WorldState) → GoOn deeds new did w []
+        → (has : HasTrace config deeds new w o) × Holds deeds new did has.trace
     its_trace deeds new did w goes =
         let stand = subst (λ (l : List Step). DeploymentStands config new goes.left o l) (append-nil goes.steps) goes.stands in (
           record { trace = goes.steps; network = goes.left; are_of = goes.are_of; stands = stand; headline = networks_promise goes.left o goes.steps stand.stands },

@@ -7,7 +7,6 @@ pub mod Living
 pub mod Deeds
 pub mod Printed
 pub mod Killed
-pub mod Adding
 pub mod Giving
 pub mod Standing
 pub mod Posting

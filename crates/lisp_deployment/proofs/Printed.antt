@@ -145,7 +145,8 @@ pub printed_nonces_rise : (A : Type 0) → PrintedNoncesRise A
 printed_nonces_rise A config stores begun d deeds network begins did server router key =
     let all = deployments_have_traces A config stores begun d deeds network begins did in
     let has = all.3 in
-    falls_among (accepted_nonces server router key (all_lines deeds)) (step_nonces server router key has.trace) (subst (λ (ns : List ℕ). IsAmong (nonces server router key (all_lines deeds)) ns) (numbered_nonces server router key has.trace)
+    falls_among (accepted_nonces server router key (all_lines deeds)) (step_nonces server router key has.trace)
+    (subst (λ (ns : List ℕ). IsAmong (nonces server router key (all_lines deeds)) ns) (numbered_nonces server router key has.trace)
     (nonces_among server router key (all_lines deeds) (told_lines has.trace) (deeds_among deeds all.0 has.network all.1 [] has.trace has.are_of)))
     (falls_among (step_nonces server router key has.trace) (accepted server router key all.1 has.trace) (trace_among server router key all.1 has.trace has.stands.stands.steps.legal)
     (has.headline.nonces_rise server (pair server router key)))

@@ -29,7 +29,7 @@ use Rattle.lisp_nonces.specs.Store.{StoreState}
 use Rattle.lisp_model.specs.Network.{IsNetwork}
 use Rattle.lisp_deployment.proofs.Deeds.{one_deed, deeds_stand, its_trace}
 use Rattle.lisp_deployment.proofs.Deploying.{turned, its_part, turn_bag}
-use Rattle.lisp_deployment.proofs.Adding.{got}
+use Rattle.lisp_deployment.proofs.Posting.{got}
 use Rattle.lisp_deployment.proofs.Giving.{ordered_given, taken_given, more_given, TakeGiven, may_hold}
 use Rattle.lisp_deployment.proofs.Telling.{AreAllTold, turn_tells, life_tells}
 use Rattle.lisp_deployment.proofs.Living.{lives_are_told}

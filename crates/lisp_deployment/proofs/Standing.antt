@@ -110,8 +110,10 @@ are_high o (s ∷ T) legal k x has = high_case o T s s.line legal.0.row k (are_h
 -- ---- what a line puts into the bag: a Map-Register, replies to some, or a Map-Notify that no router counts
 
 module _ (o : Opening) (T : List Step) (legal : LegalTrace o T) (s : Step) (P : Line → Item → Type 0)
-    (register : (router server part key nonce datagram : ℕ) → MayCome (context_of o T s) s.event (lines.Sent router server part key nonce datagram) → P (lines.Sent router server part key nonce datagram) (register_item o T router server part nonce))
-    (reply : (server : ℕ) (router : RouterId) (key nonce datagram : ℕ) (x : Acceptance) → Contains (acceptances_in_step o T s) x → P (lines.Accepted server router key nonce (Some datagram)) (reply_item o.config (sites o T server) server x))
+    (register : (router server part key nonce datagram : ℕ) → MayCome (context_of o T s) s.event (lines.Sent router server part key nonce datagram) → P (lines.Sent router server part key nonce datagram)
+    (register_item o T router server part nonce))
+    (reply : (server : ℕ) (router : RouterId) (key nonce datagram : ℕ) (x : Acceptance) → Contains (acceptances_in_step o T s) x → P (lines.Accepted server router key nonce (Some datagram))
+    (reply_item o.config (sites o T server) server x))
     (other : (line : Line) (i : Item) (n : MapNotifyValue) → i.message ≡ Notifies n → (n.ack ≡ true) ⊎ (first_notice ≤ n.nonce) → P line i) where
   pub each_added : (line : Line) → MayCome (context_of o T s) s.event line → (i : Item) → Contains (items_added o T (past o T) (arrival_in (bag o T) s.event) line) i → P line i
   each_added (lines.Sent router server part key nonce datagram) row i has = by (head_or_tail (register_item o T router server part nonce) [] i has)

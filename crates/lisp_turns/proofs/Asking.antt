@@ -1,6 +1,6 @@
 -- Calls that were made, one after another.
 use Rattle.std.proofs.Common.{◌≡◌, List, [], ◌∷◌, ◌++◌, Option, Some, None, refl, sym, ap, ◌∙◌}
-use Rattle.std.proofs.lemmas.List.{append-nil, append_assoc}
+use Rattle.std.proofs.lemmas.List.{append_assoc}
 use Rattle.lisp_turns.specs.Outside.{Call, OutsideState, Logs, logged}
 use Rattle.lisp_turns.specs.Stretch.{Asks}
 

@@ -119,7 +119,8 @@ begins_with c sites number store node network honest begins =
     (first.0, first.1, [], record { stands = opens.stands; begun = ([], [], refl, tt, inl (refl, refl)); config_is = opens.config_is; kept = opens.kept; has = opens.has; clock = opens.clock; bag = opens.bag })
 
 -- or later, under the sites of its configuration
-begins_configured : (c : ConfigValue) (sites : List SiteValue) (number : ℕ) (store : StoreState) (now : ℕ) (node : NodeState) → IsNetwork c → MayBegin store now → Begins c c.sites number store now node → BeginsIn c sites number store now node
+begins_configured : (c : ConfigValue) (sites : List SiteValue) (number : ℕ) (store : StoreState) (now : ℕ) (node : NodeState) → IsNetwork c → MayBegin store now → Begins c c.sites number store now node
+    → BeginsIn c sites number store now node
 begins_configured c sites number store now node network (honest, inl first) begins =
     subst (λ m. BeginsIn c sites number store m node) (sym first) (begins_with c sites number store node network honest (subst (λ m. Begins c c.sites number store m node) first begins))
 begins_configured c sites number store now node network (honest, inr (some, unscheduled, bound)) begins = begins_later c sites number store now bound network honest some unscheduled node begins

@@ -5,7 +5,6 @@ pub mod ServingDue
 pub mod ServingRouter
 pub mod NoticedRouters
 pub mod ServingServer
-pub mod Obeying
 pub mod ObeyingNodes
 pub mod AgreeingFaults
 pub mod Asking
@@ -28,4 +27,3 @@ pub mod Restarts
 pub mod BeginningLater
 pub mod Running
 pub mod Examples
-pub mod ExamplesOfActs

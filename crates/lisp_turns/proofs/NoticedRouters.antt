@@ -44,7 +44,8 @@ module _ (o : Opening) where
           → Configured (record { router = (router_at o.config router).me; key = key; nonce = nonce; datagram = datagram; moments = clock T ∷ [] } ∷ notices_to_others (router_at o.config router).me old)
       more router key nonce datagram is x has = both (head_or_tail _ (notices_to_others (router_at o.config router).me old) x has)
         where
-          both : (x ≡ record { router = (router_at o.config router).me; key = key; nonce = nonce; datagram = datagram; moments = clock T ∷ [] }) ⊎ Contains (notices_to_others (router_at o.config router).me old) x → IsConfigured o x.router
+          both : (x ≡ record { router = (router_at o.config router).me; key = key; nonce = nonce; datagram = datagram; moments = clock T ∷ [] }) ⊎ Contains (notices_to_others (router_at o.config router).me old) x
+              → IsConfigured o x.router
           both (inl same) = record {
             number = router;
             kind = (subst (λ (l : Line). Following (context_of o T s) s.event l) is (tells (context_of o T s) s.event line row).follows).2.kind;

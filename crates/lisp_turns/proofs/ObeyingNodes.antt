@@ -34,7 +34,7 @@ use Rattle.lisp_turns.specs.Acts.{Does, DoesOne, with_act, datagrams}
 use Rattle.lisp_turns.specs.Made.{RotatesTo}
 use Rattle.lisp_turns.specs.Node.{Router, IsPlaced, HasNode, Server}
 use Rattle.lisp_turns.proofs.Hearing.{router_left, placed_up}
-use Rattle.lisp_turns.proofs.Obeying.{no_fault, there}
+use Rattle.lisp_turns.proofs.AgreeingFaults.{no_fault, there}
 use Rattle.lisp_turns.specs.Serving.{NoticeAct}
 use Rattle.lisp_turns.proofs.ServingServer.{HasRouter}
 
