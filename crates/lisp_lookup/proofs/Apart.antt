@@ -1,19 +1,27 @@
 -- Lists whose elements differ by key, where a test decides whether an element has a key.
-use Rattle.std.proofs.Common.{◌≡◌, ◌≢◌, ℕ, zero, suc, ◌<◌, Bool, true, false, cond, List, [], ◌∷◌, length, slice_index_or, Option, Some, None, refl, sym, ap, ◌∙◌, true≢false, arith}
+use Rattle.std.proofs.Common.{◌⊎◌, inl, inr, ◌||◌, ◌≡◌, ◌≢◌, ℕ, ◌<◌, Bool, true, false, cond, List, [], ◌∷◌, length, slice_index_or, Option, Some, None, refl, sym, ap, ◌∙◌, true≢false, arith}
+use Rattle.std.proofs.lemmas.List.Folds.{list_any_at}
 use Rattle.std.proofs.lemmas.List.Recursion.{found_at}
 use Rattle.std.specs.Bool.{Decides}
-use Rattle.std.specs.List.{AllPairs, Contains, find}
+use Rattle.std.specs.List.{AllPairs, Contains, find, list_any}
+use Rattle.std.specs.Option.{is_some}
 use Rattle.lisp_policy.proofs.Found.{not_true}
 
+-- what follows from each of two
+pub on_either : {A B C : Type 0} → A ⊎ B → (A → C) → (B → C) → C
+on_either (inl a) left right = left a
+on_either (inr b) left right = right b
+
 -- what passes a test is found
-found_case : {X : Type 0} (p : X → Bool) (x : X) (xs : List X) (k : ℕ) (d : X) → k < length (x ∷ xs) → p (slice_index_or (x ∷ xs) k d) ≡ true → (b : Bool) → p x ≡ b → ((j : ℕ) → j < length xs → p (slice_index_or xs j d) ≡ true → find p xs ≢ None) → cond b (Some x) (find p xs) ≢ None
-found_case {X} p x xs k d lt passes true e later none = absurd (let clash : ◌≡◌ {A = Option X} (Some x) None = none in cc)
-found_case p x xs zero d lt passes false e later none = absurd (true≢false (sym passes ∙ e))
-found_case p x xs (suc k) d lt passes false e later none = later k (omega (arith, lt)) passes none
+found_case : {X : Type 0} (x : X) (any own : Bool) (later : Option X) → any ≡ is_some later → (own || any) ≡ is_some (cond own (Some x) later)
+found_case x any own later same = grind arith
+
+pub any_is_found : {X : Type 0} (p : X → Bool) (xs : List X) → list_any p xs ≡ is_some (find p xs)
+any_is_found p [] = refl
+any_is_found p (x ∷ xs) = found_case x (list_any p xs) (p x) (find p xs) (any_is_found p xs)
 
 pub found : {X : Type 0} (p : X → Bool) (xs : List X) (k : ℕ) (d : X) → k < length xs → p (slice_index_or xs k d) ≡ true → find p xs ≢ None
-found p [] k d lt passes none = absurd (omega (arith, lt))
-found p (x ∷ xs) k d lt passes none = found_case p x xs k d lt passes (p x) refl (λ j. found p xs j d) none
+found p xs k d lt passes none = true≢false (sym (list_any_at p xs k d lt passes) ∙ any_is_found p xs ∙ ap is_some none)
 
 module _ {X K : Type 0} (key : X → K) (has : K → X → Bool) (decides : (k : K) (x : X) → Decides (has k x) (key x ≡ k)) where
   abbrev Apart : List X → Type 0

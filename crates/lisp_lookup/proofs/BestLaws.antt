@@ -1,6 +1,6 @@
 -- The best of the rows of one prefix, and of all rows, the longest prefix first.
-use Rattle.std.proofs.Common.{◌≡◌, ◌≢◌, ◌⊎◌, inl, inr, ℕ, ◌+◌, ◌<◌, ◌≤◌, ◌==◌, Bool, true, false, cond, nat_lt, nat_le, List, length, slice_index, slice_index_or, Option, Some, None, refl, sym, ap, ◌∙◌, subst, true≢false, arith}
-use Rattle.std.proofs.lemmas.Bool.{cases_eq, and_parts, and_from, le-leb, leb-true}
+use Rattle.std.proofs.Common.{◌≡◌, ◌≢◌, ◌⊎◌, inl, inr, ℕ, ◌+◌, ◌<◌, ◌≤◌, ◌==◌, Bool, true, false, cond, nat_lt, List, length, slice_index, slice_index_or, Option, Some, None, refl, sym, ap, ◌∙◌, subst, true≢false, arith}
+use Rattle.std.proofs.lemmas.Bool.{cases_eq, and_parts, and_from}
 use Rattle.std.proofs.lemmas.Bool.Decides.{Decides-ltb, Decides-eqb}
 use Rattle.std.proofs.lemmas.List.{get_or_read}
 use Rattle.std.proofs.lemmas.List.Elements.{All-contains}
@@ -12,7 +12,6 @@ use Rattle.std.specs.declared.cmp.Ordering.{Ordering}
 use Rattle.std.specs.declared.cmp.Ordering.TheVariants.{Less, Equal, Greater}
 use Rattle.lisp_records.proofs.DatabaseLaws.{block_eq-Decides}
 use Rattle.lisp_records.specs.declared.address.Addr.{Addr}
-use Rattle.lisp_records.specs.declared.address.Addr.TheVariants.{V4, V6}
 use Rattle.lisp_records.specs.declared.router.RouterId.{RouterId}
 use Rattle.lisp_records.specs.Address.{PrefixValue, IsPrefix, IsWhole, addr_eq, prefix_eq, prefix_cmp, holds, covers, cleared, max_len}
 use Rattle.lisp_records.specs.Router.{router_cmp}
@@ -27,7 +26,8 @@ use Rattle.lisp_lookup.specs.OneAnswer.{ShownAnswer, shown_of, HaveOneAnswer}
 use Rattle.lisp_lookup.specs.Table.{OneEach, row_at, row_key}
 use Rattle.lisp_policy.proofs.Found.{not_true}
 use Rattle.lisp_policy.specs.Site.{SiteValue, is_configured}
-use Rattle.lisp_lookup.proofs.Blocks.{cleared-whole}
+use Rattle.lisp_lookup.proofs.Apart.{on_either}
+use Rattle.lisp_lookup.proofs.Blocks.{cleared-whole, covers_is, holds_is}
 use Rattle.lisp_lookup.proofs.AnswerLaws.{less, BestIn, best_of_all, ranks_tie}
 use Rattle.lisp_lookup.proofs.IndexLaws.{number_at, itself}
 use Rattle.lisp_lookup.proofs.Orders.{block_total, same_block, same_router}
@@ -55,8 +55,7 @@ module _ {A : Type 0} (rows : List RowValue) (numbers : List ℕ) (eid : PrefixV
   before_first k d lt same = absurd (let clash : ◌≡◌ {A = Ordering} Less Equal = sym (less (prefix_cmp (row_at_place rows numbers k d).mapping.eid eid) (bound.before k d lt)) ∙ ap (λ (b : PrefixValue). prefix_cmp b eid) same ∙ itself prefix_cmp block_total eid in cc)
 
   later_case : (a b : PrefixValue) (one two : Ordering) → prefix_cmp a b ≡ one → ordering_then one two ≡ Less → prefix_cmp a b ≢ Greater
-  later_case a b Less two is up above = absurd cc
-  later_case a b _ two is up above = absurd cc
+  later_case a b one two is up above = grind arith
 
   turned_case : (a : PrefixValue) (o : Ordering) → prefix_cmp a eid ≡ o → is_lt o ≡ false → a ≢ eid → o ≢ Equal → prefix_cmp a eid ≡ Greater
   turned_case a Less is low differ no_tie = absurd cc
@@ -118,16 +117,14 @@ its_block h addr now may =
     (block_eq-Decides (block_of addr length) h.mapping.eid).0 (and_from (addr_eq (cleared addr length) h.mapping.eid.addr) (length == length) both.1 ((Decides-eqb length length).1 refl))
 
 pub same_family : (addr : Addr) (mask_len : ℕ) → max_len (cleared addr mask_len) ≡ max_len addr
-same_family (V4 bytes) mask_len = refl
-same_family (V6 bytes) mask_len = refl
+same_family addr mask_len = grind arith
 
 -- and its mask fits the address
 pub its_length : (h : RowValue) (addr : Addr) (now : ℕ) → may_answer addr now h ≡ true → IsPrefix h.mapping.eid → h.mapping.eid.mask_len ≤ max_len addr
 its_length h addr now may block = omega (arith, block.0, same_family addr h.mapping.eid.mask_len, ap (λ (b : PrefixValue). max_len b.addr) (its_block h addr now may))
 
 rank_case : (less : Bool) (one two three : Ordering) (rest : Ordering) → less ≡ true → ordering_then (ordering_then (ordering_then (cond less Less rest) one) two) three ≢ Greater
-rank_case true one two three rest is above = absurd cc
-rank_case false one two three rest is above = absurd (true≢false (sym is))
+rank_case less one two three rest is above = grind arith
 
 -- a row of a shorter prefix is the less
 pub shorter_below : (a b : RowValue) → a.mapping.eid.mask_len < b.mapping.eid.mask_len → rank_cmp a b ≢ Greater
@@ -136,21 +133,18 @@ shorter_below a b lt = rank_case (nat_lt a.mapping.eid.mask_len b.mapping.eid.ma
 -- a row that may answer for a prefix may do so for its address
 pub for_address : (h : RowValue) (asked : PrefixValue) (now : ℕ) → may_answer_for asked now h ≡ true → may_answer asked.addr now h ≡ true
 for_address h asked now may =
-    let both = and_parts (is_alive h now) (covers h.mapping.eid asked) may in
-    let covered = and_parts (nat_le h.mapping.eid.mask_len asked.mask_len) (holds h.mapping.eid asked.addr) both.1 in
-    and_from (is_alive h now) (holds h.mapping.eid asked.addr) both.0 covered.1
+    let (alive, covered) = and_parts (is_alive h now) (covers h.mapping.eid asked) may in
+    and_from (is_alive h now) (holds h.mapping.eid asked.addr) alive ((holds_is h.mapping.eid asked.addr).1 ((covers_is h.mapping.eid asked).0 covered).1)
 
 -- and has no longer one
 pub for_length : (h : RowValue) (asked : PrefixValue) (now : ℕ) → may_answer_for asked now h ≡ true → h.mapping.eid.mask_len ≤ asked.mask_len
-for_length h asked now may =
-    let both = and_parts (is_alive h now) (covers h.mapping.eid asked) may in
-    leb-true h.mapping.eid.mask_len asked.mask_len (and_parts (nat_le h.mapping.eid.mask_len asked.mask_len) (holds h.mapping.eid asked.addr) both.1).0
+for_length h asked now may = ((covers_is h.mapping.eid asked).0 (and_parts (is_alive h now) (covers h.mapping.eid asked) may).1).0
 
 -- one that may do so for the address and has no longer one may do so for the prefix
 pub for_prefix : (h : RowValue) (asked : PrefixValue) (now : ℕ) → may_answer asked.addr now h ≡ true → h.mapping.eid.mask_len ≤ asked.mask_len → may_answer_for asked now h ≡ true
 for_prefix h asked now may short =
-    let both = and_parts (is_alive h now) (holds h.mapping.eid asked.addr) may in
-    and_from (is_alive h now) (covers h.mapping.eid asked) both.0 (and_from (nat_le h.mapping.eid.mask_len asked.mask_len) (holds h.mapping.eid asked.addr) (le-leb h.mapping.eid.mask_len asked.mask_len short) both.1)
+    let (alive, has) = and_parts (is_alive h now) (holds h.mapping.eid asked.addr) may in
+    and_from (is_alive h now) (covers h.mapping.eid asked) alive ((covers_is h.mapping.eid asked).1 (short, (holds_is h.mapping.eid asked.addr).0 has))
 
 -- no row with a longer mask may answer
 abbrev pub NoneLonger : List RowValue → PrefixValue → ℕ → ℕ → Type 0
@@ -165,7 +159,9 @@ module _ (rows : List RowValue) (asked : PrefixValue) (now mask_len : ℕ) (with
   best_longest h is = record {
     held = was.0;
     may = for_prefix h asked now is.may (omega (arith, long, within));
-    most = λ other held may. either other held may (cases_eq other.mapping.eid.mask_len mask_len);
+    most = λ other held may. on_either (cases_eq other.mapping.eid.mask_len mask_len)
+        (λ same. is.most other (in_prefix other held may same) (for_address other asked now may))
+        (λ off. shorter_below other h (omega (arith, long, off, longest other held may)));
   }
     where
       was : Contains rows h × (prefix_eq h.mapping.eid (block_of asked.addr mask_len) ≡ true)
@@ -173,10 +169,6 @@ module _ (rows : List RowValue) (asked : PrefixValue) (now mask_len : ℕ) (with
 
       long : h.mapping.eid.mask_len ≡ mask_len
       long = ap (λ (b : PrefixValue). b.mask_len) ((block_eq-Decides h.mapping.eid (block_of asked.addr mask_len)).0 was.1)
-
-      either : (other : RowValue) → Contains rows other → may_answer_for asked now other ≡ true → (other.mapping.eid.mask_len ≡ mask_len) ⊎ (other.mapping.eid.mask_len ≢ mask_len) → rank_cmp other h ≢ Greater
-      either other held may (inl same) = is.most other (in_prefix other held may same) (for_address other asked now may)
-      either other held may (inr off) = shorter_below other h (omega (arith, long, off, longest other held may))
 
   -- where none of them may answer, no row with a mask of their length may
   pub none_longest : NoneAnswers (of_prefix rows (block_of asked.addr mask_len)) asked.addr now → (h : RowValue) → Contains rows h → may_answer_for asked now h ≡ true → h.mapping.eid.mask_len < mask_len
@@ -192,11 +184,8 @@ pub seen_last : (rows : List RowValue) (numbers : List ℕ) (first place : ℕ) 
 seen_last rows numbers first place x low read = (place, low, omega arith, sym read)
 
 pub seen_splits : (rows : List RowValue) (numbers : List ℕ) (first place : ℕ) (x : RowValue) → ((d : RowValue) → x ≡ row_at_place rows numbers place d) → (h : RowValue) → Seen rows numbers first (place + 1) h → Seen rows numbers first place h ⊎ (x ≡ h)
-seen_splits rows numbers first place x read h (k, low, lt, is) = either (cases_eq k place)
-  where
-    either : (k ≡ place) ⊎ (k ≢ place) → Seen rows numbers first place h ⊎ (x ≡ h)
-    either (inl at) = inr (read h ∙ ap (λ (j : ℕ). row_at_place rows numbers j h) (sym at) ∙ is)
-    either (inr off) = inl (k, low, omega (arith, lt, off), is)
+seen_splits rows numbers first place x read h (k, low, lt, is) = on_either (cases_eq k place)
+    (λ at. inr (read h ∙ ap (λ (j : ℕ). row_at_place rows numbers j h) (sym at) ∙ is)) (λ off. inl (k, low, omega (arith, lt, off), is))
 
 module _ {R : Type 0} (view : R → RowValue) (rows : List RowValue) (asked : PrefixValue) (now mask_len : ℕ) (within : mask_len ≤ asked.mask_len) (longest : NoneLonger rows asked now mask_len) (addr : Addr) (own : addr ≡ asked.addr) (eid : PrefixValue) (named : eid ≡ block_of addr mask_len) where
   found_by : (found : Option R) → IsBestOf (of_prefix rows eid) addr now (option_map view found) → IsBestOf (of_prefix rows (block_of asked.addr mask_len)) asked.addr now (option_map view found)
@@ -240,11 +229,7 @@ answers_alike rows blocks addr whole now best = (alone_best rows blocks addr who
 
 -- each row that was looked at is of the prefix, and so is the next one
 pub same_more : (rows : List RowValue) (numbers : List ℕ) (eid : PrefixValue) (first place : ℕ) (x : RowValue) → ((d : RowValue) → x ≡ row_at_place rows numbers place d) → prefix_eq x.mapping.eid eid ≡ true → ((k : ℕ) (d : RowValue) → first ≤ k → k < place → (row_at_place rows numbers k d).mapping.eid ≡ eid) → (k : ℕ) (d : RowValue) → first ≤ k → k < place + 1 → (row_at_place rows numbers k d).mapping.eid ≡ eid
-same_more rows numbers eid first place x read own same k d low lt = either (cases_eq k place)
-  where
-    either : (k ≡ place) ⊎ (k ≢ place) → (row_at_place rows numbers k d).mapping.eid ≡ eid
-    either (inl at) = ap (λ (j : ℕ). (row_at_place rows numbers j d).mapping.eid) at ∙ ap (λ (h : RowValue). h.mapping.eid) (sym (read d)) ∙ (block_eq-Decides x.mapping.eid eid).0 own
-    either (inr off) = same k d low (omega (arith, lt, off))
+same_more rows numbers eid first place x read own same k d low lt = grind (arith, cases_eq k place, read d, (block_eq-Decides x.mapping.eid eid).0 own, same k d)
 
 -- a row is of another prefix
 pub other_block : (a b : PrefixValue) → prefix_eq a b ≡ false → a ≢ b
@@ -254,9 +239,7 @@ other_block a b other same = true≢false (sym ((block_eq-Decides a b).1 same) �
 
 -- a tie of two orders, one after the other, is one of each
 both_tie : (one two : Ordering) → ordering_then one two ≡ Equal → (one ≡ Equal) × (two ≡ Equal)
-both_tie Less two tie = absurd cc
-both_tie Equal two tie = (refl, tie)
-both_tie Greater two tie = absurd cc
+both_tie one two tie = grind arith
 
 -- rows that may answer for one address, and tie, are of one router and prefix
 same_key : (a b : RowValue) (addr : Addr) (now : ℕ) → may_answer addr now a ≡ true → may_answer addr now b ≡ true → rank_cmp a b ≡ Equal → row_key a ≡ row_key b

@@ -1,15 +1,13 @@
 -- What an ITR that keeps a reply says of an address.
-use Rattle.std.proofs.Common.{◌≡◌, ◌≢◌, ◌⊎◌, inl, inr, ℕ, zero, suc, ◌<◌, ◌≤◌, Bool, true, false, nat_le, nat_lt, List, ◌∷◌, length, map, slice_index_or, if◌then◌else◌, refl, sym, ap, ◌∙◌, subst, true≢false, arith}
-use Rattle.std.proofs.lemmas.Bool.{and_from, and_parts, cases_lt, cases_order, le-leb, leb-true}
-use Rattle.std.proofs.lemmas.Bool.Decides.{Decides-ltb}
+use Rattle.std.proofs.Common.{◌≡◌, ◌≢◌, ◌⊎◌, inl, inr, ℕ, zero, suc, ◌<◌, ◌≤◌, Bool, true, false, nat_le, List, ◌∷◌, length, map, slice_index_or, refl, sym, ap, ◌∙◌, subst, true≢false, arith}
+use Rattle.std.proofs.lemmas.Bool.{and_from, and_parts, cases_lt, cases_order}
 use Rattle.std.proofs.lemmas.List.{get_or-map, get_or_default, length-map}
 use Rattle.std.proofs.lemmas.List.Elements.{All-contains}
 use Rattle.std.proofs.lemmas.List.Folds.{Any-from_list_any, list_any-from_Any}
 use Rattle.std.specs.List.{All, Any, Contains}
 use Rattle.std.specs.declared.cmp.Ordering.TheVariants.{Greater}
-use Rattle.lisp_records.proofs.AddressLemmas.{cleared-wider}
 use Rattle.lisp_records.specs.declared.address.Addr.{Addr}
-use Rattle.lisp_records.specs.Address.{PrefixValue, addr_eq, cleared, covers, holds}
+use Rattle.lisp_records.specs.Address.{PrefixValue, cleared, covers, holds}
 use Rattle.lisp_records.specs.Record.{MapRecordValue}
 use Rattle.lisp_records.specs.Row.{RowValue, is_alive}
 use Rattle.lisp_policy.specs.Site.{SiteValue, has_address, is_configured}
@@ -20,47 +18,18 @@ use Rattle.lisp_lookup.specs.Covering.{IsBestFor}
 use Rattle.lisp_lookup.specs.Hole.{IsHole, KeepsBeside}
 use Rattle.lisp_lookup.specs.Inside.{is_inside, IsBestOfOwn, AreInside}
 use Rattle.lisp_lookup.specs.Replies.{record_of, IsNarrowed, IsLongest, IsAnswered, CachedIsAnswered, HoleIsAnswered}
+use Rattle.lisp_lookup.proofs.Apart.{on_either}
 use Rattle.lisp_lookup.proofs.BestLaws.{its_block, shorter_below}
-use Rattle.lisp_lookup.proofs.Blocks.{addr_is, is_addr}
-
--- ---- two prefixes that have an address
-
--- the longer lies in the shorter
-pub nested : (one other : PrefixValue) (addr : Addr) → holds one addr ≡ true → holds other addr ≡ true → one.mask_len ≤ other.mask_len → covers one other ≡ true
-nested one other addr has_one has_other le =
-    let in_one = addr_is (cleared addr one.mask_len) one.addr has_one in
-    let in_other = addr_is (cleared addr other.mask_len) other.addr has_other in
-    let same : cleared other.addr one.mask_len ≡ one.addr = ap (λ (a : Addr). cleared a one.mask_len) (sym in_other) ∙ cleared-wider addr other.mask_len one.mask_len le ∙ in_one in
-    and_from (nat_le one.mask_len other.mask_len) (addr_eq (cleared other.addr one.mask_len) one.addr) (le-leb one.mask_len other.mask_len le) (is_addr (cleared other.addr one.mask_len) one.addr same)
-
--- what one has that lies in another the other has
-pub has_wider : (one other : PrefixValue) (addr : Addr) → covers one other ≡ true → holds other addr ≡ true → holds one addr ≡ true
-has_wider one other addr covered has =
-    let parts = and_parts (nat_le one.mask_len other.mask_len) (addr_eq (cleared other.addr one.mask_len) one.addr) covered in
-    let low = leb-true one.mask_len other.mask_len parts.0 in
-    let own = addr_is (cleared addr other.mask_len) other.addr has in
-    is_addr (cleared addr one.mask_len) one.addr (sym (cleared-wider addr other.mask_len one.mask_len low) ∙ ap (λ (a : Addr). cleared a one.mask_len) own ∙ addr_is (cleared other.addr one.mask_len) one.addr parts.1)
-
--- one that lies in a second that lies in a third lies in the third
-pub covers_through : (one two three : PrefixValue) → covers one two ≡ true → covers two three ≡ true → covers one three ≡ true
-covers_through one two three first second =
-    let parts = and_parts (nat_le two.mask_len three.mask_len) (holds two three.addr) second in
-    let low = leb-true one.mask_len two.mask_len (and_parts (nat_le one.mask_len two.mask_len) (holds one two.addr) first).0 in
-    let high = leb-true two.mask_len three.mask_len parts.0 in
-    and_from (nat_le one.mask_len three.mask_len) (holds one three.addr) (le-leb one.mask_len three.mask_len (omega (arith, low, high))) (has_wider one two three.addr first parts.1)
+use Rattle.lisp_lookup.proofs.Blocks.{covers_is, holds_is, inside_is}
+pub use Rattle.lisp_lookup.proofs.Blocks.{covers_through, has_wider, nested}
 
 -- ---- the records
 
--- what two records have has each
-of_either : {R X : Type 0} (f : R → X) (test : Bool) (one two : R) (v : X) → f one ≡ v → f two ≡ v → f (if test then one else two) ≡ v
-of_either f true one two v first second = first
-of_either f false one two v first second = second
-
 its_ttl : (ttl : ℕ) (eid : PrefixValue) (h : RowValue) → (record_of ttl eid h).ttl ≡ ttl
-its_ttl ttl eid h = of_either (λ (r : MapRecordValue). r.ttl) h.proxy _ _ ttl refl refl
+its_ttl ttl eid h = grind arith
 
 pub its_eid : (ttl : ℕ) (eid : PrefixValue) (h : RowValue) → (record_of ttl eid h).eid ≡ eid
-its_eid ttl eid h = of_either (λ (r : MapRecordValue). r.eid) h.proxy _ _ eid refl refl
+its_eid ttl eid h = grind arith
 
 -- a record of a row is that of the row for its TTL and prefix
 its_record : (ttl : ℕ) (eid : PrefixValue) (h : RowValue) (r : MapRecordValue) → record_of ttl eid h ≡ r → r ≡ record_of r.ttl r.eid h
@@ -81,7 +50,7 @@ module _ (rows : List RowValue) (asked : PrefixValue) (now : ℕ) (best : RowVal
 
   -- the row has the prefix, and that lies around the one asked for
   around_asked : covers eid asked ≡ true
-  around_asked = and_from (nat_le eid.mask_len asked.mask_len) (addr_eq (cleared asked.addr eid.mask_len) eid.addr) (le-leb eid.mask_len asked.mask_len narrowed.to) (is_addr (cleared asked.addr eid.mask_len) eid.addr (sym (ap (λ (b : PrefixValue). b.addr) narrowed.around)))
+  around_asked = (covers_is eid asked).1 (narrowed.to, sym (ap (λ (b : PrefixValue). b.addr) narrowed.around))
 
   has_asked : holds eid asked.addr ≡ true
   has_asked = (and_parts (nat_le eid.mask_len asked.mask_len) (holds eid asked.addr) around_asked).1
@@ -96,8 +65,8 @@ module _ (rows : List RowValue) (asked : PrefixValue) (now : ℕ) (best : RowVal
     inside_shorter : (h : RowValue) → Contains rows h → may_answer addr now h ≡ true → eid.mask_len < h.mapping.eid.mask_len → h.mapping.eid.mask_len ≤ r.eid.mask_len
     inside_shorter h held may long =
         let parts = and_parts (is_alive h now) (holds h.mapping.eid addr) may in
-        let inner = and_from (covers eid h.mapping.eid) (nat_lt eid.mask_len h.mapping.eid.mask_len) (nested eid h.mapping.eid addr has parts.1 (omega (arith, long))) ((Decides-ltb eid.mask_len h.mapping.eid.mask_len).1 long) in
-        own (are.all h held (and_from (is_alive h now) (is_inside eid h.mapping.eid) parts.0 inner)) parts.1
+        let inner = (covers_is eid h.mapping.eid).0 (nested eid h.mapping.eid addr has parts.1 (omega (arith, long))) in
+        own (are.all h held (and_from (is_alive h now) (is_inside eid h.mapping.eid) parts.0 ((inside_is eid h.mapping.eid).1 (inner, long)))) parts.1
       where
         inner_length : (k : ℕ) → k < length inside → suc k < length all
         inner_length k lt =
@@ -142,7 +111,7 @@ module _ (rows : List RowValue) (asked : PrefixValue) (now : ℕ) (best : RowVal
         may_own = and_from (is_alive h now) (holds h.mapping.eid addr) own.0.alive has_own
 
         long : eid.mask_len < h.mapping.eid.mask_len
-        long = (Decides-ltb eid.mask_len h.mapping.eid.mask_len).0 (and_parts (covers eid h.mapping.eid) (nat_lt eid.mask_len h.mapping.eid.mask_len) own.1).1
+        long = ((inside_is eid h.mapping.eid).0 own.1).1
 
         same_block : (other : RowValue) → may_answer addr now other ≡ true → other.mapping.eid.mask_len ≡ h.mapping.eid.mask_len → other.mapping.eid ≡ h.mapping.eid
         same_block other may same = sym (its_block other addr now may) ∙ ap (λ (n : ℕ). record { addr = cleared addr n; mask_len = n }) same ∙ its_block h addr now may_own
@@ -173,7 +142,7 @@ alike one false on_true on_false = on_false refl
 
 module _ (rows : List RowValue) (sites : List SiteValue) (asked : Addr) (now : ℕ) (eid : PrefixValue) (hole : IsHole rows sites asked now eid) (addr : Addr) (has : holds eid addr ≡ true) where
   asked_in : holds eid asked ≡ true
-  asked_in = is_addr (cleared asked eid.mask_len) eid.addr (sym (ap (λ (b : PrefixValue). b.addr) hole.around.1))
+  asked_in = (holds_is eid asked).1 (sym (ap (λ (b : PrefixValue). b.addr) hole.around.1))
 
   -- no row
   none_there : NoneAnswers rows addr now
@@ -205,12 +174,10 @@ module _ (rows : List RowValue) (sites : List SiteValue) (asked : Addr) (now : �
   no_site_has : is_configured sites asked ≡ false → is_configured sites addr ≡ false
   no_site_has none = not_true (is_configured sites addr) (λ known. each (Any-from_list_any (λ s. has_address s addr) sites known))
     where
-      its : (site : SiteValue) → Contains sites site → (j : ℕ) (p : SitePrefix) → j < length site.prefixes → slice_index_or site.prefixes j p ≡ p → holds p.eid addr ≡ true → (eid.mask_len < p.eid.mask_len) ⊎ (p.eid.mask_len ≤ eid.mask_len) → has_address site asked ≡ true
-      its site there j p lt at has_addr (inl long) = absurd (true≢false (sym (nested eid p.eid addr has has_addr (omega (arith, long))) ∙ (beside site p there (j, lt, at)).1 none))
-      its site there j p lt at has_addr (inr short) = list_any-from_Any (λ p. holds p.eid asked) site.prefixes (j, p, lt, at, has_wider p.eid eid asked (nested p.eid eid addr has_addr has short) asked_in)
-
       of_site : (site : SiteValue) → Contains sites site → Any (λ p. holds p.eid addr ≡ true) site.prefixes → has_address site asked ≡ true
-      of_site site there (j, p, lt, at, has_addr) = its site there j p lt at has_addr (cases_lt eid.mask_len p.eid.mask_len)
+      of_site site there (j, p, lt, at, has_addr) = on_either (cases_lt eid.mask_len p.eid.mask_len)
+          (λ long. absurd (true≢false (sym (nested eid p.eid addr has has_addr (omega (arith, long))) ∙ (beside site p there (j, lt, at)).1 none)))
+          (λ short. list_any-from_Any (λ p. holds p.eid asked) site.prefixes (j, p, lt, at, has_wider p.eid eid asked (nested p.eid eid addr has_addr has short) asked_in))
 
       each : Any (λ s. has_address s addr ≡ true) sites → ⊥
       each (i, site, lt, at, some) = true≢false (sym (list_any-from_Any (λ s. has_address s asked) sites (i, site, lt, at, of_site site (i, lt, at) (Any-from_list_any (λ p. holds p.eid addr) site.prefixes some))) ∙ none)

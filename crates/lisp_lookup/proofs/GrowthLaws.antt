@@ -1,6 +1,7 @@
 -- The limits on the routers and rows of a site: they are kept or passed, and not both.
-use Rattle.std.proofs.Common.{◌≡◌, ◌≢◌, inl, inr, ℕ, ◌≤◌, Bool, true, false, ◌&&◌, List, length, Option, Some, None, refl, sym, ap, subst, arith, ◌⊎◌, suc, ◌+◌, ◌-◌, ◌^◌, min, ◌<◌, ◌==◌, not, ◌||◌, cond, [], ◌∷◌, ◌++◌, map, reverse, take, slice_index_or, ◌∙◌, true≢false}
-use Rattle.std.proofs.lemmas.Bool.Decides.{Decides-and, Decides-eqb}
+use Rattle.std.proofs.Common.{◌↔◌, ◌≡◌, ◌≢◌, inl, inr, ℕ, ◌≤◌, Bool, true, false, ◌&&◌, List, length, Option, Some, None, refl, sym, ap, subst, arith, ◌⊎◌, suc, ◌+◌, ◌-◌, ◌^◌, min, ◌<◌, ◌==◌, not, ◌||◌, cond, [], ◌∷◌, ◌++◌, map, reverse, take, slice_index_or, ◌∙◌, true≢false}
+use Rattle.std.proofs.lemmas.Bool.{and_from, and_parts, cond_both, not-true}
+use Rattle.std.proofs.lemmas.Bool.Decides.{Decides-and, Decides-eqb, Decides-like, same_from_decides}
 use Rattle.std.proofs.lemmas.List.Elements.{All-contains, All-append, All-cons, All-contains_itself, All-map, Contains-append_cases, Contains-append_right, Contains-get_or, filter_more}
 use Rattle.std.proofs.lemmas.List.{get_or-map, length-map, reverse-append}
 use Rattle.std.proofs.lemmas.List.Folds.{Any-from_list_any, find-append, list_any-append, list_any_at}
@@ -8,16 +9,15 @@ use Rattle.std.proofs.lemmas.List.Kept.{AllPairs-cons, AllPairs-filter}
 use Rattle.std.proofs.lemmas.List.Sums.{length-filter, sum_by-append, sum_by-cons}
 use Rattle.std.proofs.lemmas.Map.Made.{IsDistinct-from_AllPairs, is_member-Decides, length-le_from_is_member, AllPairs-from_IsDistinct}
 use Rattle.std.proofs.lemmas.Map.Keys.{IsDistinct-from_sorted}
-use Rattle.std.proofs.lemmas.Map.Views.{Contains-from_any, list_any-from_Contains}
+use Rattle.std.proofs.lemmas.Map.Views.{btree_set_contains_iff, tells_apart}
+use Rattle.std.proofs.lemmas.List.Sorted.{IsPermutation-reverse, list_any-IsPermutation}
 use Rattle.std.proofs.lemmas.Cmp.{eq_by_cmp_equiv}
 use Rattle.std.specs.Bool.{Decides}
 use Rattle.std.specs.Cmp.{IsEquivalence}
 use Rattle.std.specs.List.{AllPairs, Contains, All, count_by, filter, find, list_any, position}
 use Rattle.std.specs.Option.{IsSome, is_some, option_and_then, option_or}
 use Rattle.std.specs.BTreeSet.{BTreeSet, IsOrdered, IsSubset, Updates, contains}
-use Rattle.std.specs.Ordering.{eq_by_cmp, is_eq}
-use Rattle.std.specs.declared.cmp.Ordering.{Ordering}
-use Rattle.std.specs.declared.cmp.Ordering.TheVariants.{Less, Equal, Greater}
+use Rattle.std.specs.Ordering.{eq_by_cmp}
 use Rattle.lisp_records.proofs.DatabaseLaws.{block_eq-Decides}
 use Rattle.lisp_records.proofs.RouterLaws.{router_eq-Decides}
 use Rattle.lisp_records.specs.declared.router.RouterId.{RouterId}
@@ -30,22 +30,17 @@ use Rattle.lisp_policy.proofs.Found.{at_place, nowhere}
 use Rattle.lisp_lookup.specs.Growth.{AtMost, MoreThan, StaysWithin, GrowsBeyond, LiveRows, HasRow, HasRouter, RoutersFit, RowsFit, RoutersExceed, RowsExceed, Fits, IsFull, live_rows, live_rows_with}
 use Rattle.lisp_lookup.specs.Setting.{AddsRouters, AreRouters, has_live, has_router, is_live_in, is_new, is_set_by, kept_rows, last_rows, set_rows, stays_live}
 use Rattle.lisp_lookup.specs.Table.{OneEach, if_alive, is_row_of, last_of, row_at, row_key}
+use Rattle.lisp_lookup.proofs.Apart.{on_either, any_is_found}
 use Rattle.lisp_lookup.proofs.Orders.{router_total, same_router}
 use Rattle.lisp_lookup.proofs.TableLaws.{filter_holds, filtered_holds, found_holds, found_own, has_key}
 
 -- ---- a limit is kept or passed, and not both
 
-same_tests : (a b : Bool) → (a ≡ true → b ≡ true) → (b ≡ true → a ≡ true) → a ≡ b
-same_tests true true there back = refl
-same_tests true false there back = sym (there refl)
-same_tests false true there back = back refl
-same_tests false false there back = refl
-
 -- a test that decides whether two are the same is an equivalence
 equivalence : {K : Type 0} (eq : K → K → Bool) → ((a b : K) → Decides (eq a b) (a ≡ b)) → IsEquivalence eq
 equivalence {K} eq decides = record {
   refl = λ x. (decides x x).1 refl;
-  symm = λ x y. same_tests (eq x y) (eq y x) (λ t. (decides y x).1 (sym ((decides x y).0 t))) (λ t. (decides x y).1 (sym ((decides y x).0 t)));
+  symm = λ x y. same_from_decides (eq x y) (eq y x) (decides x y) (Decides-like (eq y x) (λ e. sym e) (λ e. sym e) (decides y x));
   congr = λ x y z t. ap (λ (k : K). eq k z) ((decides x y).0 t);
 }
 
@@ -79,50 +74,18 @@ full_or_fits most_routers most_rows site before after Rows fits full = fits_or_g
 
 -- ---- rows that are the same at each router and prefix
 
-stays_alike : {K : Type 0} (most : Option ℕ) (Was Is Was2 Is2 : K → Type 0) → ((k : K) → Was k → Was2 k) → ((k : K) → Is2 k → Is k) → StaysWithin most Was Is → StaysWithin most Was2 Is2
-stays_alike None Was Is Was2 Is2 was is fits = fits
-stays_alike (Some most) Was Is Was2 Is2 was is (inl none_new) = inl (λ k now. was k (none_new k (is k now)))
-stays_alike (Some most) Was Is Was2 Is2 was is (inr (few, small, has_all)) = inr (few, small, λ k now. has_all k (is k now))
-
-grows_alike : {K : Type 0} (most : Option ℕ) (Was Is Was2 Is2 : K → Type 0) → ((k : K) → Was2 k → Was k) → ((k : K) → Is k → Is2 k) → GrowsBeyond most Was Is → GrowsBeyond most Was2 Is2
-grows_alike None Was Is Was2 Is2 was is grows = grows
-grows_alike (Some most) Was Is Was2 Is2 was is (k, now, (new, (many, large, apart, are))) = (k, is k now, (λ old. new (was k old), (many, large, apart, λ i d lt. is _ (are i d lt))))
-
 abbrev pub AlikeLive : LiveRows → LiveRows → Type 0
 AlikeLive live other = (router : RouterId) (eid : PrefixValue) → live router eid ≡ other router eid
 
-pub has_row_alike : (live other : LiveRows) (site : ℕ) → AlikeLive live other → (k : RouterId × PrefixValue) → HasRow live site k → HasRow other site k
-has_row_alike live other site alike k has = (has.0, subst IsSome (alike k.0 k.1) has.1)
+-- limits are kept and passed alike
+alike : (P : LiveRows → LiveRows → Type 0) (before after before2 after2 : LiveRows) → AlikeLive before before2 → AlikeLive after after2 → P before after → P before2 after2
+alike P before after before2 after2 was is holds = subst (λ (p : LiveRows × LiveRows). P p.0 p.1) (λ i. (λ r e. was r e i, λ r e. is r e i)) holds
 
-pub has_router_alike : (live other : LiveRows) (site : ℕ) → AlikeLive live other → (router : RouterId) → HasRouter live site router → HasRouter other site router
-has_router_alike live other site alike router (own, eid, some) = (own, eid, subst IsSome (alike router eid) some)
+pub fits_alike : (most_routers most_rows : Option ℕ) (site : ℕ) (before after before2 after2 : LiveRows) → AlikeLive before before2 → AlikeLive after after2 → Fits most_routers most_rows site before after → Fits most_routers most_rows site before2 after2
+fits_alike most_routers most_rows site = alike (Fits most_routers most_rows site)
 
-back_alike : (live other : LiveRows) → AlikeLive live other → AlikeLive other live
-back_alike live other alike router eid = sym (alike router eid)
-
-pub routers_fit_alike : (most : Option ℕ) (site : ℕ) (before after before2 after2 : LiveRows) → AlikeLive before before2 → AlikeLive after after2 → RoutersFit most site before after → RoutersFit most site before2 after2
-routers_fit_alike most site before after before2 after2 was is fits = stays_alike most (HasRouter before site) (HasRouter after site) (HasRouter before2 site) (HasRouter after2 site) (has_router_alike before before2 site was) (has_router_alike after2 after site (back_alike after after2 is)) fits
-
-pub rows_fit_alike : (most : Option ℕ) (site : ℕ) (before after before2 after2 : LiveRows) → AlikeLive before before2 → AlikeLive after after2 → RowsFit most site before after → RowsFit most site before2 after2
-rows_fit_alike most site before after before2 after2 was is fits = stays_alike most (HasRow before site) (HasRow after site) (HasRow before2 site) (HasRow after2 site) (has_row_alike before before2 site was) (has_row_alike after2 after site (back_alike after after2 is)) fits
-
-pub routers_exceed_alike : (most : Option ℕ) (site : ℕ) (before after before2 after2 : LiveRows) → AlikeLive before before2 → AlikeLive after after2 → RoutersExceed most site before after → RoutersExceed most site before2 after2
-routers_exceed_alike most site before after before2 after2 was is exceed = grows_alike most (HasRouter before site) (HasRouter after site) (HasRouter before2 site) (HasRouter after2 site) (has_router_alike before2 before site (back_alike before before2 was)) (has_router_alike after after2 site is) exceed
-
-pub rows_exceed_alike : (most : Option ℕ) (site : ℕ) (before after before2 after2 : LiveRows) → AlikeLive before before2 → AlikeLive after after2 → RowsExceed most site before after → RowsExceed most site before2 after2
-rows_exceed_alike most site before after before2 after2 was is exceed = grows_alike most (HasRow before site) (HasRow after site) (HasRow before2 site) (HasRow after2 site) (has_row_alike before2 before site (back_alike before before2 was)) (has_row_alike after after2 site is) exceed
-
--- limits are kept alike
-pub fits_alike : (most_routers most_rows : Option ℕ) (site : ℕ) (before after before2 after2 : LiveRows) → ((r : RouterId) (e : PrefixValue) → before r e ≡ before2 r e) → ((r : RouterId) (e : PrefixValue) → after r e ≡ after2 r e) → Fits most_routers most_rows site before after → Fits most_routers most_rows site before2 after2
-fits_alike most_routers most_rows site before after before2 after2 was is fits = record {
-  routers = routers_fit_alike most_routers site before after before2 after2 was is fits.routers;
-  rows = rows_fit_alike most_rows site before after before2 after2 was is fits.rows;
-}
-
--- and passed alike
-pub full_alike : (most_routers most_rows : Option ℕ) (site : ℕ) (before after before2 after2 : LiveRows) (full : Full) → ((r : RouterId) (e : PrefixValue) → before r e ≡ before2 r e) → ((r : RouterId) (e : PrefixValue) → after r e ≡ after2 r e) → IsFull most_routers most_rows site before after full → IsFull most_routers most_rows site before2 after2 full
-full_alike most_routers most_rows site before after before2 after2 Routers was is full = routers_exceed_alike most_routers site before after before2 after2 was is full
-full_alike most_routers most_rows site before after before2 after2 Rows was is full = (routers_fit_alike most_routers site before after before2 after2 was is full.0, rows_exceed_alike most_rows site before after before2 after2 was is full.1)
+pub full_alike : (most_routers most_rows : Option ℕ) (site : ℕ) (before after before2 after2 : LiveRows) (full : Full) → AlikeLive before before2 → AlikeLive after after2 → IsFull most_routers most_rows site before after full → IsFull most_routers most_rows site before2 after2 full
+full_alike most_routers most_rows site before after before2 after2 full = alike (λ was is. IsFull most_routers most_rows site was is full) before after before2 after2
 
 -- ---- a limit that was kept is kept still
 
@@ -139,94 +102,41 @@ fits_at_most most Was Is old (inr few) = few
 
 -- ---- tests
 
-both : (a b : Bool) → a ≡ true → b ≡ true → (a && b) ≡ true
-both true b e f = f
-both false b e f = absurd (true≢false (sym e))
-
-left_of : (a b : Bool) → (a && b) ≡ true → a ≡ true
-left_of true b e = refl
-left_of false b e = absurd (true≢false (sym e))
-
-right_of : (a b : Bool) → (a && b) ≡ true → b ≡ true
-right_of true b e = e
-right_of false b e = absurd (true≢false (sym e))
-
-pub not_false : (b : Bool) → not b ≡ true → b ≡ false
-not_false true e = absurd (true≢false (sym e))
-not_false false e = refl
-
-pub not_true_of : (b : Bool) → not b ≡ false → b ≡ true
-not_true_of true e = refl
-not_true_of false e = absurd (true≢false e)
+alive_or_not : (h : RowValue) (b : Bool) → is_some (cond b (Some h) None) ≡ b
+alive_or_not h b = grind arith
 
 and_not : (a b : Bool) → (a && not b) ≡ false → a ≡ true → b ≡ true
-and_not true true e t = refl
-and_not true false e t = absurd (true≢false e)
-and_not false b e t = absurd (true≢false (sym t))
+and_not a b e t = grind arith
 
 -- ---- what is found among the rows once given ones are set
-
-found_case : {X : Type 0} (x : X) (any own : Bool) (later : Option X) → any ≡ is_some later → (own || any) ≡ is_some (cond own (Some x) later)
-found_case x any true later same = refl
-found_case x any false later same = same
-
-any_is_found : {X : Type 0} (p : X → Bool) (xs : List X) → list_any p xs ≡ is_some (find p xs)
-any_is_found p [] = refl
-any_is_found p (x ∷ xs) = found_case x (list_any p xs) (p x) (find p xs) (any_is_found p xs)
-
-reverse_next : {X : Type 0} (x : X) (xs : List X) → reverse (x ∷ xs) ≡ reverse xs ++ x ∷ []
-reverse_next x xs = reverse-append (x ∷ []) xs
-
-or_turn : (a b : Bool) → (a || (b || false)) ≡ (b || a)
-or_turn true true = refl
-or_turn true false = refl
-or_turn false true = refl
-or_turn false false = refl
-
-any_reverse : {X : Type 0} (p : X → Bool) (xs : List X) → list_any p (reverse xs) ≡ list_any p xs
-any_reverse p [] = refl
-any_reverse p (x ∷ xs) = ap (list_any p) (reverse_next x xs) ∙ list_any-append p (reverse xs) (x ∷ []) ∙ or_turn (list_any p (reverse xs)) (p x) ∙ ap (λ (b : Bool). p x || b) (any_reverse p xs)
 
 -- whether one of the given rows has a row's key is whether one is found by it
 set_by_own : (router : RouterId) (eid : PrefixValue) (given : List RowValue) (h : RowValue) → is_row_of router eid h ≡ true → is_set_by given h ≡ list_any (is_row_of router eid) given
 set_by_own router eid given h own = ap (λ (k : RouterId × PrefixValue). list_any (is_row_of k.0 k.1) given) ((has_key (router, eid) h).0 own)
 
 any_is_last : (router : RouterId) (eid : PrefixValue) (given : List RowValue) → list_any (is_row_of router eid) given ≡ is_some (last_of given router eid)
-any_is_last router eid given = sym (any_reverse (is_row_of router eid) given) ∙ any_is_found (is_row_of router eid) (reverse given)
+any_is_last router eid given = list_any-IsPermutation (is_row_of router eid) given (reverse given) (IsPermutation-reverse given) ∙ any_is_found (is_row_of router eid) (reverse given)
 
-last_case : (p : RowValue → Bool) (h : RowValue) (last : List RowValue) (o : Option RowValue) (set own : Bool) → p h ≡ own → find p last ≡ o → (own ≡ true → set ≡ is_some o) → find p (cond set last (h ∷ last)) ≡ option_or o (cond own (Some h) None)
-last_case p h last None true true here later set = absurd (true≢false (set refl))
-last_case p h last (Some x) true true here later set = later
-last_case p h last None true false here later set = later
-last_case p h last (Some x) true false here later set = later
-last_case p h last None false own here later set = ap (λ (b : Bool). cond b (Some h) (find p last)) here ∙ ap (λ (o : Option RowValue). cond own (Some h) o) later
-last_case p h last (Some x) false true here later set = absurd (true≢false (sym (set refl)))
-last_case p h last (Some x) false false here later set = ap (λ (b : Bool). cond b (Some h) (find p last)) here ∙ later
+last_case : (p : RowValue → Bool) (h : RowValue) (last : List RowValue) (o : Option RowValue) (set : Bool) → find p last ≡ o → (p h ≡ true → set ≡ is_some o) → find p (cond set last (h ∷ last)) ≡ option_or o (cond (p h) (Some h) None)
+last_case p h last o set later own = grind arith
 
 -- of the given rows the last of a router and prefix is found
 find_last : (router : RouterId) (eid : PrefixValue) (given : List RowValue) → find (is_row_of router eid) (last_rows given) ≡ last_of given router eid
 find_last router eid [] = refl
-find_last router eid (h ∷ later) = last_case (is_row_of router eid) h (last_rows later) (last_of later router eid) (is_set_by later h) (is_row_of router eid h) refl (find_last router eid later) (λ own. set_by_own router eid later h own ∙ any_is_last router eid later)
-    ∙ sym (ap (find (is_row_of router eid)) (reverse_next h later) ∙ find-append (is_row_of router eid) (reverse later) (h ∷ []))
+find_last router eid (h ∷ later) = last_case (is_row_of router eid) h (last_rows later) (last_of later router eid) (is_set_by later h) (find_last router eid later) (λ own. set_by_own router eid later h own ∙ any_is_last router eid later)
+    ∙ sym (ap (find (is_row_of router eid)) (reverse-append (h ∷ []) later) ∙ find-append (is_row_of router eid) (reverse later) (h ∷ []))
 
-filter_case : {X : Type 0} (p : X → Bool) (x : X) (kept : List X) (o : Option X) (own keep b : Bool) → p x ≡ own → (own ≡ true → keep ≡ b) → find p kept ≡ cond b o None → find p (cond keep (x ∷ kept) kept) ≡ cond b (cond own (Some x) o) None
-filter_case p x kept o true true true here keeps later = ap (λ (c : Bool). cond c (Some x) (find p kept)) here
-filter_case p x kept o true true false here keeps later = absurd (true≢false (keeps refl))
-filter_case p x kept o true false true here keeps later = absurd (true≢false (sym (keeps refl)))
-filter_case p x kept o true false false here keeps later = later
-filter_case p x kept o false true b here keeps later = ap (λ (c : Bool). cond c (Some x) (find p kept)) here ∙ later
-filter_case p x kept o false false b here keeps later = later
+filter_case : {X : Type 0} (p : X → Bool) (x : X) (kept : List X) (o : Option X) (keep b : Bool) → (p x ≡ true → keep ≡ b) → find p kept ≡ cond b o None → find p (cond keep (x ∷ kept) kept) ≡ cond b (cond (p x) (Some x) o) None
+filter_case p x kept o keep b keeps later = grind arith
 
 -- a filter that keeps all that a test finds, or nothing of it
 find_filter : {X : Type 0} (p q : X → Bool) (b : Bool) → ((x : X) → p x ≡ true → q x ≡ b) → (xs : List X) → find p (filter q xs) ≡ cond b (find p xs) None
 find_filter p q true keeps [] = refl
 find_filter p q false keeps [] = refl
-find_filter p q b keeps (x ∷ xs) = filter_case p x (filter q xs) (find p xs) (p x) (q x) b refl (keeps x) (find_filter p q b keeps xs)
+find_filter p q b keeps (x ∷ xs) = filter_case p x (filter q xs) (find p xs) (q x) b (keeps x) (find_filter p q b keeps xs)
 
 or_last : {X : Type 0} (old last : Option X) → option_or (cond (not (is_some last)) old None) last ≡ option_or last old
-or_last None None = refl
-or_last (Some x) None = refl
-or_last old (Some y) = refl
+or_last old last = grind arith
 
 -- the row of a router and prefix is the last that was given, or else the one that was there
 pub row_at_set : (rows given : List RowValue) (router : RouterId) (eid : PrefixValue) → row_at (set_rows rows given) router eid ≡ option_or (last_of given router eid) (row_at rows router eid)
@@ -239,21 +149,19 @@ row_at_set rows given router eid =
     ∙ ap (λ (b : Bool). option_or (cond (not b) (find p rows) None) (last_of given router eid)) (any_is_last router eid given)
     ∙ or_last (find p rows) (last_of given router eid)
 
-pub live_rows_set : (rows given : List RowValue) (now : ℕ) → AlikeLive (live_rows (set_rows rows given) now) (live_rows_with rows given now)
-live_rows_set rows given now router eid = ap (option_and_then (if_alive now)) (row_at_set rows given router eid)
+live_rows_set : (rows given : List RowValue) (now : ℕ) → live_rows (set_rows rows given) now ≡ live_rows_with rows given now
+live_rows_set rows given now = λ i router eid. option_and_then (if_alive now) (row_at_set rows given router eid i)
 
 -- ---- one row each
 
 any_holds : (p : RowValue → Bool) (rows : List RowValue) (h : RowValue) → Contains rows h → p h ≡ true → list_any p rows ≡ true
 any_holds p rows h held own = list_any_at p rows held.0 h held.1 (ap p held.2 ∙ own)
 
-all_case : (P : RowValue → Type 0) (h : RowValue) (rows : List RowValue) (set : Bool) → P h → All P rows → All P (cond set rows (h ∷ rows))
-all_case P h rows true here all = all
-all_case P h rows false here all = All-cons P h rows here all
-
 last_all : (P : RowValue → Type 0) (given : List RowValue) → All P given → All P (last_rows given)
 last_all P [] all = all
-last_all P (h ∷ later) all = all_case P h (last_rows later) (is_set_by later h) (all 0 h (omega arith)) (last_all P later (λ k d lt. all (suc k) d (omega (arith, lt))))
+last_all P (h ∷ later) all =
+    let rest = last_all P later (λ k d lt. all (suc k) d (omega (arith, lt))) in
+    cond_both (is_set_by later h) (last_rows later) (h ∷ last_rows later) (All P) (λ set. rest) (λ unset. All-cons P h (last_rows later) (all 0 h (omega arith)) rest)
 
 last_holds : (given : List RowValue) (h : RowValue) → Contains (last_rows given) h → Contains given h
 last_holds given h held = All-contains (Contains given) (last_rows given) h (last_all (Contains given) given (All-contains_itself given)) held
@@ -262,13 +170,10 @@ last_holds given h held = All-contains (Contains given) (last_rows given) h (las
 unset_differs : (given : List RowValue) (h other : RowValue) → is_set_by given h ≡ false → Contains given other → row_key h ≢ row_key other
 unset_differs given h other unset held same = true≢false (sym (any_holds (is_row_of h.router h.mapping.eid) given other held ((has_key (row_key h) other).1 (sym same))) ∙ unset)
 
-one_each_case : (h : RowValue) (later : List RowValue) (set : Bool) → is_set_by later h ≡ set → OneEach (last_rows later) → OneEach (cond set (last_rows later) (h ∷ last_rows later))
-one_each_case h later true is one = one
-one_each_case h later false is one = AllPairs-cons (λ a b. row_key a ≢ row_key b) h (last_rows later) (last_all (λ b. row_key h ≢ row_key b) later (λ k d lt. unset_differs later h (slice_index_or later k d) is (Contains-get_or later k d lt))) one
-
 one_each_last : (given : List RowValue) → OneEach (last_rows given)
 one_each_last [] = λ i j d less within. absurd (omega (arith, within))
-one_each_last (h ∷ later) = one_each_case h later (is_set_by later h) refl (one_each_last later)
+one_each_last (h ∷ later) = cond_both (is_set_by later h) (last_rows later) (h ∷ last_rows later) OneEach (λ set. one_each_last later)
+    (λ is. AllPairs-cons (λ a b. row_key a ≢ row_key b) h (last_rows later) (last_all (λ b. row_key h ≢ row_key b) later (λ k d lt. unset_differs later h (slice_index_or later k d) is (Contains-get_or later k d lt))) (one_each_last later))
 
 apart_append : (xs ys : List RowValue) → OneEach xs → OneEach ys → ((a b : RowValue) → Contains xs a → Contains ys b → row_key a ≢ row_key b) → OneEach (xs ++ ys)
 apart_append [] ys one_x one_y apart = one_y
@@ -277,21 +182,18 @@ apart_append (x ∷ xs) ys one_x one_y apart =
     (apart_append xs ys (λ i j d less within. one_x (suc i) (suc j) d (omega (arith, less)) (omega (arith, within))) one_y (λ a b held_a held_b. apart a b (suc held_a.0, omega (arith, held_a.1), held_a.2) held_b))
 
 kept_unset : (rows given : List RowValue) (h : RowValue) → Contains (kept_rows rows given) h → Contains rows h × (is_set_by given h ≡ false)
-kept_unset rows given h held = (let was = filtered_holds (λ x. not (is_set_by given x)) rows h held in (was.0, not_false (is_set_by given h) was.1))
+kept_unset rows given h held = (let was = filtered_holds (λ x. not (is_set_by given x)) rows h held in (was.0, not-true (is_set_by given h) was.1))
 
 pub one_each_set : (rows given : List RowValue) → OneEach rows → OneEach (set_rows rows given)
 one_each_set rows given one = apart_append (kept_rows rows given) (last_rows given) (AllPairs-filter (λ a b. row_key a ≢ row_key b) (λ h. not (is_set_by given h)) rows one) (one_each_last given) (λ a b held_a held_b. unset_differs given a b (kept_unset rows given a held_a).1 (last_holds given b held_b))
 
 -- ---- the keys of a site's live rows
 
-live_case : (now : ℕ) (h : RowValue) → is_alive h now ≡ true → if_alive now h ≡ Some h
-live_case now h lives = ap (λ (b : Bool). cond b (Some h) None) lives
-
 -- a live row that is held is one of its router and prefix
 pub has_row_of : (rows : List RowValue) (site now : ℕ) (h : RowValue) → OneEach rows → Contains rows h → is_live_in site now h ≡ true → HasRow (live_rows rows now) site (row_key h)
 has_row_of rows site now h one held lives = (
-  (Decides-eqb h.router.site site).0 (left_of (h.router.site == site) (is_alive h now) lives),
-  subst IsSome (sym (ap (option_and_then (if_alive now)) (found_own rows h one held) ∙ live_case now h (right_of (h.router.site == site) (is_alive h now) lives))) refl,
+  (Decides-eqb h.router.site site).0 (and_parts (h.router.site == site) (is_alive h now) lives).0,
+  ap (λ (o : Option RowValue). is_some (option_and_then (if_alive now) o)) (found_own rows h one held) ∙ alive_or_not h (is_alive h now) ∙ (and_parts (h.router.site == site) (is_alive h now) lives).1,
 )
 
 -- and there is no other
@@ -299,16 +201,12 @@ pub row_of_has : (rows : List RowValue) (site now : ℕ) (k : RouterId × Prefix
 unfolding row_at
 row_of_has rows site now k has = by (find (is_row_of k.0 k.1) rows) refl has.1
   where
-    living : (h : RowValue) (b : Bool) → is_alive h now ≡ b → IsSome (cond b (Some h) None) → is_alive h now ≡ true
-    living h true lives some = lives
-    living h false lives some = absurd (true≢false (sym some))
-
     by : (o : Option RowValue) → find (is_row_of k.0 k.1) rows ≡ o → IsSome (option_and_then (if_alive now) o) → (h : RowValue) × (Contains rows h × ((is_live_in site now h ≡ true) × (row_key h ≡ k)))
     by None at some = absurd (true≢false (sym some))
     by (Some h) at some =
         let held = found_holds (is_row_of k.0 k.1) rows h at in
         let own : row_key h ≡ k = (has_key k h).0 held.1 in
-        (h, (held.0, (both (h.router.site == site) (is_alive h now) ((Decides-eqb h.router.site site).1 (ap (λ (x : RouterId × PrefixValue). x.0.site) own ∙ has.0)) (living h (is_alive h now) refl some), own)))
+        (h, (held.0, (and_from (h.router.site == site) (is_alive h now) ((Decides-eqb h.router.site site).1 (ap (λ (x : RouterId × PrefixValue). x.0.site) own ∙ has.0)) (sym (alive_or_not h (is_alive h now)) ∙ some), own)))
 
 abbrev live_keys : List RowValue → ℕ → ℕ → List (RouterId × PrefixValue)
 live_keys rows site now = map row_key (filter (is_live_in site now) rows)
@@ -346,18 +244,15 @@ many_rows rows site now most one many = (live_keys rows site now, omega (arith, 
 
 -- ---- how many there are once given rows are set
 
-count_case : (p : RowValue → Bool) (h : RowValue) (rows : List RowValue) (live set : Bool) → p h ≡ live → count_by p (cond (not set) (h ∷ rows) rows) ≡ cond (live && not set) 1 0 + count_by p rows
-count_case p h rows true true here = omega arith
-count_case p h rows false true here = omega arith
-count_case p h rows true false here = sum_by-cons (λ x. cond (p x) 1 0) h rows ∙ ap (λ (b : Bool). cond b 1 0 + count_by p rows) here
-count_case p h rows false false here = sum_by-cons (λ x. cond (p x) 1 0) h rows ∙ ap (λ (b : Bool). cond b 1 0 + count_by p rows) here
+count_case : (p : RowValue → Bool) (h : RowValue) (rows : List RowValue) (keep : Bool) → count_by p (cond keep (h ∷ rows) rows) ≡ cond (p h && keep) 1 0 + count_by p rows
+count_case p h rows keep = grind (arith, sum_by-cons (λ x. cond (p x) 1 0) h rows)
 
 count_kept : (rows given : List RowValue) (site now : ℕ) → count_by (stays_live given site now) rows ≡ count_by (is_live_in site now) (kept_rows rows given)
 count_kept [] given site now = refl
 count_kept (h ∷ rows) given site now =
     sum_by-cons (λ x. cond (stays_live given site now x) 1 0) h rows
     ∙ ap (λ (n : ℕ). cond (stays_live given site now h) 1 0 + n) (count_kept rows given site now)
-    ∙ sym (count_case (is_live_in site now) h (kept_rows rows given) (is_live_in site now h) (is_set_by given h) refl)
+    ∙ sym (count_case (is_live_in site now) h (kept_rows rows given) (not (is_set_by given h)))
 
 pub count_set : (rows given : List RowValue) (site now : ℕ) → count_by (is_live_in site now) (set_rows rows given) ≡ count_by (stays_live given site now) rows + count_by (is_live_in site now) (last_rows given)
 count_set rows given site now = sum_by-append (λ x. cond (is_live_in site now x) 1 0) (kept_rows rows given) (last_rows given) ∙ ap (λ (n : ℕ). n + count_by (is_live_in site now) (last_rows given)) (sym (count_kept rows given site now))
@@ -371,14 +266,16 @@ new_row : (rows given : List RowValue) (site now : ℕ) → OneEach rows → lis
 new_row rows given site now one any =
     let (place, h, lt, at, new) = Any-from_list_any (is_new rows site now) (last_rows given) any in
     let held : Contains (set_rows rows given) h = Contains-append_right (kept_rows rows given) (last_rows given) h (place, lt, at) in
-    let fresh = not_false (has_live rows now h) (right_of (is_live_in site now h) (not (has_live rows now h)) new) in
-    (row_key h, (has_row_of (set_rows rows given) site now h (one_each_set rows given one) held (left_of (is_live_in site now h) (not (has_live rows now h)) new), λ was. true≢false (sym was.1 ∙ fresh)))
+    let (lives, fresh) = and_parts (is_live_in site now h) (not (has_live rows now h)) new in
+    (row_key h, (has_row_of (set_rows rows given) site now h (one_each_set rows given one) held lives, λ was. true≢false (sym was.1 ∙ not-true (has_live rows now h) fresh)))
 
 pub none_new : (rows given : List RowValue) (site now : ℕ) → OneEach rows → list_any (is_new rows site now) (last_rows given) ≡ false → (k : RouterId × PrefixValue) → HasRow (live_rows (set_rows rows given) now) site k → HasRow (live_rows rows now) site k
 none_new rows given site now one none k has = by (row_of_has (set_rows rows given) site now k has)
   where
     by : (h : RowValue) × (Contains (set_rows rows given) h × ((is_live_in site now h ≡ true) × (row_key h ≡ k))) → HasRow (live_rows rows now) site k
-    by (h, (held, (lives, own))) = subst (HasRow (live_rows rows now) site) own (either (Contains-append_cases (kept_rows rows given) (last_rows given) h held))
+    by (h, (held, (lives, own))) = subst (HasRow (live_rows rows now) site) own (on_either (Contains-append_cases (kept_rows rows given) (last_rows given) h held)
+        (λ kept. has_row_of rows site now h one (kept_unset rows given h kept).0 lives)
+        (λ last. ((Decides-eqb h.router.site site).0 (and_parts (h.router.site == site) (is_alive h now) lives).0, old (never_new last (is_new rows site now h) refl))))
       where
         old : is_new rows site now h ≡ false → has_live rows now h ≡ true
         old never = and_not (is_live_in site now h) (has_live rows now h) never lives
@@ -387,35 +284,23 @@ none_new rows given site now one none k has = by (row_of_has (set_rows rows give
         never_new last true new = absurd (true≢false (sym (any_holds (is_new rows site now) (last_rows given) h last new) ∙ none))
         never_new last false new = new
 
-        either : Contains (kept_rows rows given) h ⊎ Contains (last_rows given) h → HasRow (live_rows rows now) site (row_key h)
-        either (inl kept) = has_row_of rows site now h one (kept_unset rows given h kept).0 lives
-        either (inr last) = ((Decides-eqb h.router.site site).0 (left_of (h.router.site == site) (is_alive h now) lives), old (never_new last (is_new rows site now h) refl))
-
-same_live : (rows : List RowValue) (now : ℕ) → AlikeLive (live_rows rows now) (live_rows rows now)
-same_live rows now router eid = refl
-
 -- ---- the limit on rows
 
 pub rows_fit_none_new : (rows given : List RowValue) (site now most : ℕ) → OneEach rows → list_any (is_new rows site now) (last_rows given) ≡ false → RowsFit (Some most) site (live_rows rows now) (live_rows_with rows given now)
-rows_fit_none_new rows given site now most one none = rows_fit_alike (Some most) site (live_rows rows now) (live_rows (set_rows rows given) now) (live_rows rows now) (live_rows_with rows given now) (same_live rows now) (live_rows_set rows given now) (inl (none_new rows given site now one none))
+rows_fit_none_new rows given site now most one none = subst (RowsFit (Some most) site (live_rows rows now)) (live_rows_set rows given now) (inl (none_new rows given site now one none))
 
 pub rows_fit_few : (rows given : List RowValue) (site now most : ℕ) → count_by (is_live_in site now) (set_rows rows given) ≤ most → RowsFit (Some most) site (live_rows rows now) (live_rows_with rows given now)
-rows_fit_few rows given site now most few = rows_fit_alike (Some most) site (live_rows rows now) (live_rows (set_rows rows given) now) (live_rows rows now) (live_rows_with rows given now) (same_live rows now) (live_rows_set rows given now) (inr (few_rows (set_rows rows given) site now most few))
+rows_fit_few rows given site now most few = subst (RowsFit (Some most) site (live_rows rows now)) (live_rows_set rows given now) (inr (few_rows (set_rows rows given) site now most few))
 
 pub rows_exceed : (rows given : List RowValue) (site now most : ℕ) → OneEach rows → list_any (is_new rows site now) (last_rows given) ≡ true → most < count_by (is_live_in site now) (set_rows rows given) → RowsExceed (Some most) site (live_rows rows now) (live_rows_with rows given now)
 rows_exceed rows given site now most one any many =
     let (k, (has, fresh)) = new_row rows given site now one any in
-    rows_exceed_alike (Some most) site (live_rows rows now) (live_rows (set_rows rows given) now) (live_rows rows now) (live_rows_with rows given now) (same_live rows now) (live_rows_set rows given now) (k, has, (fresh, many_rows (set_rows rows given) site now most (one_each_set rows given one) many))
+    subst (RowsExceed (Some most) site (live_rows rows now)) (live_rows_set rows given now) (k, has, (fresh, many_rows (set_rows rows given) site now most (one_each_set rows given one) many))
 
 -- ---- the routers of a site's live rows
 
 tie-Decides : (a b : RouterId) → Decides (eq_by_cmp router_cmp a b) (a ≡ b)
-tie-Decides a b = (λ t. same_router a b (tied (router_cmp a b) t), λ e. subst (λ (r : RouterId). eq_by_cmp router_cmp a r ≡ true) e ((eq_by_cmp_equiv router_total).refl a))
-  where
-    tied : (o : Ordering) → is_eq o ≡ true → o ≡ Equal
-    tied Less e = absurd (true≢false (sym e))
-    tied Equal e = refl
-    tied Greater e = absurd (true≢false (sym e))
+tie-Decides a b = (λ t. tells_apart same_router a b t, λ e. subst (λ (r : RouterId). eq_by_cmp router_cmp a r ≡ true) e ((eq_by_cmp_equiv router_total).refl a))
 
 router_of_row : (rows : List RowValue) (site now : ℕ) (h : RowValue) → OneEach rows → Contains rows h → is_live_in site now h ≡ true → HasRouter (live_rows rows now) site h.router
 router_of_row rows site now h one held lives = (let has = has_row_of rows site now h one held lives in (has.0, h.mapping.eid, has.1))
@@ -425,24 +310,21 @@ router_tested : (rows : List RowValue) (site now : ℕ) (router : RouterId) → 
 router_tested rows site now router (own, eid, some) = by (row_of_has rows site now (router, eid) (own, some))
   where
     by : (h : RowValue) × (Contains rows h × ((is_live_in site now h ≡ true) × (row_key h ≡ (router, eid)))) → has_router rows site now router ≡ true
-    by (h, (held, (lives, key))) = any_holds (λ x. is_live_in site now x && router_eq x.router router) rows h held (both (is_live_in site now h) (router_eq h.router router) lives ((router_eq-Decides h.router router).1 (ap (λ (k : RouterId × PrefixValue). k.0) key)))
+    by (h, (held, (lives, key))) = any_holds (λ x. is_live_in site now x && router_eq x.router router) rows h held (and_from (is_live_in site now h) (router_eq h.router router) lives ((router_eq-Decides h.router router).1 (ap (λ (k : RouterId × PrefixValue). k.0) key)))
 
 tested_router : (rows : List RowValue) (site now : ℕ) (router : RouterId) → OneEach rows → has_router rows site now router ≡ true → HasRouter (live_rows rows now) site router
 tested_router rows site now router one any =
     let (place, h, lt, at, passes) = Any-from_list_any (λ x. is_live_in site now x && router_eq x.router router) rows any in
-    let own : h.router ≡ router = (router_eq-Decides h.router router).0 (right_of (is_live_in site now h) (router_eq h.router router) passes) in
-    subst (HasRouter (live_rows rows now) site) own (router_of_row rows site now h one (place, lt, at) (left_of (is_live_in site now h) (router_eq h.router router) passes))
+    let (lives, own) = and_parts (is_live_in site now h) (router_eq h.router router) passes in
+    subst (HasRouter (live_rows rows now) site) ((router_eq-Decides h.router router).0 own) (router_of_row rows site now h one (place, lt, at) lives)
 
 -- what a set of routers has
-set_has : (routers : BTreeSet RouterId) (router : RouterId) → contains router_cmp routers router ≡ true → Contains routers.keys router
-set_has routers router has = Contains-from_any (λ a b t. (tie-Decides a b).0 t) router routers.keys has
-
-has_set : (routers : BTreeSet RouterId) (router : RouterId) → Contains routers.keys router → contains router_cmp routers router ≡ true
-has_set routers router held = list_any-from_Contains (eq_by_cmp_equiv router_total) router routers.keys held
+set_has : (routers : BTreeSet RouterId) (router : RouterId) → (contains router_cmp routers router ≡ true) ↔ Contains routers.keys router
+set_has routers router = btree_set_contains_iff router_total same_router routers router
 
 module _ (rows : List RowValue) (site now : ℕ) (routers : BTreeSet RouterId) (are : AreRouters routers site now rows) where
   routers_listed : (router : RouterId) → HasRouter (live_rows rows now) site router → Contains routers.keys router
-  routers_listed router has = set_has routers router (are router ∙ router_tested rows site now router has)
+  routers_listed router has = (set_has routers router).0 (are router ∙ router_tested rows site now router has)
 
   listed_routers : OneEach rows → (router : RouterId) → contains router_cmp routers router ≡ true → HasRouter (live_rows rows now) site router
   listed_routers one router has = tested_router rows site now router one (sym (are router) ∙ has)
@@ -451,7 +333,7 @@ module _ (rows : List RowValue) (site now : ℕ) (routers : BTreeSet RouterId) (
   few_routers most few = (routers.keys, few, routers_listed)
 
   many_routers : (most : ℕ) → OneEach rows → IsOrdered router_cmp routers → most < length routers.keys → MoreThan (HasRouter (live_rows rows now) site) most
-  many_routers most one ordered many = (routers.keys, many, AllPairs-from_IsDistinct tie-Decides routers.keys (IsDistinct-from_sorted router_cmp routers.keys ordered), λ k d lt. listed_routers one (slice_index_or routers.keys k d) (has_set routers (slice_index_or routers.keys k d) (Contains-get_or routers.keys k d lt)))
+  many_routers most one ordered many = (routers.keys, many, AllPairs-from_IsDistinct tie-Decides routers.keys (IsDistinct-from_sorted router_cmp routers.keys ordered), λ k d lt. listed_routers one (slice_index_or routers.keys k d) ((set_has routers (slice_index_or routers.keys k d)).1 (Contains-get_or routers.keys k d lt)))
 
 -- a set that isn't in another has a router that the other lacks
 lacking : (after before : BTreeSet RouterId) → (IsSubset router_cmp after before → ⊥) → (router : RouterId) × ((contains router_cmp after router ≡ true) × (contains router_cmp before router ≡ false))
@@ -464,31 +346,31 @@ lacking after before apart = by (list_any (λ router. not (contains router_cmp b
     by : (b : Bool) → list_any (λ router. not (contains router_cmp before router)) after.keys ≡ b → (router : RouterId) × ((contains router_cmp after router ≡ true) × (contains router_cmp before router ≡ false))
     by true any =
         let (place, router, lt, at, lacks) = Any-from_list_any (λ r. not (contains router_cmp before r)) after.keys any in
-        (router, (has_set after router (place, lt, at), not_false (contains router_cmp before router) lacks))
-    by false none = absurd (apart (λ router has. held router (contains router_cmp before router) refl none (set_has after router has)))
+        (router, ((set_has after router).1 (place, lt, at), not-true (contains router_cmp before router) lacks))
+    by false none = absurd (apart (λ router has. held router (contains router_cmp before router) refl none ((set_has after router).0 has)))
 
 -- nothing given changes nothing
-live_rows_as_set : (rows : List RowValue) (now : ℕ) → AlikeLive (live_rows (set_rows rows []) now) (live_rows rows now)
-live_rows_as_set rows now router eid = ap (option_and_then (if_alive now)) (row_at_set rows [] router eid)
+set_alike : (P : LiveRows → LiveRows → Type 0) (rows given : List RowValue) (now : ℕ) → P (live_rows (set_rows rows []) now) (live_rows (set_rows rows given) now) → P (live_rows rows now) (live_rows_with rows given now)
+set_alike P rows given now holds = subst (λ (p : LiveRows × LiveRows). P p.0 p.1) (λ i. (live_rows_set rows [] now i, live_rows_set rows given now i)) holds
 
 -- ---- the limit on routers
 
 pub routers_fit_none_new : (rows given : List RowValue) (site now most : ℕ) → OneEach rows → list_any (is_new rows site now) (last_rows given) ≡ false → RoutersFit (Some most) site (live_rows rows now) (live_rows_with rows given now)
-routers_fit_none_new rows given site now most one none = routers_fit_alike (Some most) site (live_rows rows now) (live_rows (set_rows rows given) now) (live_rows rows now) (live_rows_with rows given now) (same_live rows now) (live_rows_set rows given now) (inl (λ router has. (
+routers_fit_none_new rows given site now most one none = subst (RoutersFit (Some most) site (live_rows rows now)) (live_rows_set rows given now) (inl (λ router has. (
     let was = none_new rows given site now one none (router, has.1) (has.0, has.2) in
     (was.0, has.1, was.1)
     )))
 
 pub routers_fit_few : (rows given : List RowValue) (site now most : ℕ) (after : BTreeSet RouterId) → AreRouters after site now (set_rows rows given) → length after.keys ≤ most → RoutersFit (Some most) site (live_rows rows now) (live_rows_with rows given now)
-routers_fit_few rows given site now most after are few = routers_fit_alike (Some most) site (live_rows rows now) (live_rows (set_rows rows given) now) (live_rows rows now) (live_rows_with rows given now) (same_live rows now) (live_rows_set rows given now) (inr (few_routers (set_rows rows given) site now after are most few))
+routers_fit_few rows given site now most after are few = subst (RoutersFit (Some most) site (live_rows rows now)) (live_rows_set rows given now) (inr (few_routers (set_rows rows given) site now after are most few))
 
 pub routers_fit_old : (rows given : List RowValue) (site now most : ℕ) (after before : BTreeSet RouterId) → OneEach rows → AreRouters after site now (set_rows rows given) → AreRouters before site now (set_rows rows []) → IsSubset router_cmp after before → RoutersFit (Some most) site (live_rows rows now) (live_rows_with rows given now)
-routers_fit_old rows given site now most after before one are were subset = routers_fit_alike (Some most) site (live_rows (set_rows rows []) now) (live_rows (set_rows rows given) now) (live_rows rows now) (live_rows_with rows given now) (live_rows_as_set rows now) (live_rows_set rows given now) (inl (λ router has. listed_routers (set_rows rows []) site now before were (one_each_set rows [] one) router (subset router (are router ∙ router_tested (set_rows rows given) site now router has))))
+routers_fit_old rows given site now most after before one are were subset = set_alike (RoutersFit (Some most) site) rows given now (inl (λ router has. listed_routers (set_rows rows []) site now before were (one_each_set rows [] one) router (subset router (are router ∙ router_tested (set_rows rows given) site now router has))))
 
 pub routers_exceed : (rows given : List RowValue) (site now most : ℕ) (after before : BTreeSet RouterId) → OneEach rows → IsOrdered router_cmp after → AreRouters after site now (set_rows rows given) → AreRouters before site now (set_rows rows []) → most < length after.keys → (IsSubset router_cmp after before → ⊥) → RoutersExceed (Some most) site (live_rows rows now) (live_rows_with rows given now)
 routers_exceed rows given site now most after before one ordered are were many apart =
     let (router, (has, lacks)) = lacking after before apart in
-    routers_exceed_alike (Some most) site (live_rows (set_rows rows []) now) (live_rows (set_rows rows given) now) (live_rows rows now) (live_rows_with rows given now) (live_rows_as_set rows now) (live_rows_set rows given now) (
+    set_alike (RoutersExceed (Some most) site) rows given now (
       router,
       listed_routers (set_rows rows given) site now after are (one_each_set rows given one) router has,
       (
@@ -501,44 +383,31 @@ routers_exceed rows given site now most after before one ordered are were many a
 
 pub has_live_found : (rows : List RowValue) (now number : ℕ) (h found : RowValue) → Some number ≡ position (is_row_of h.router h.mapping.eid) rows → found ≡ slice_index_or rows number found → is_alive found now ≡ has_live rows now h
 unfolding row_at
-has_live_found rows now number h found at is = sym (ap (λ (o : Option RowValue). is_some (option_and_then (if_alive now) o)) (at_place (is_row_of h.router h.mapping.eid) rows number found (sym at)) ∙ ap (λ (x : RowValue). is_some (if_alive now x)) (sym is) ∙ alive_or_not (is_alive found now))
-  where
-    alive_or_not : (b : Bool) → is_some (cond b (Some found) None) ≡ b
-    alive_or_not true = refl
-    alive_or_not false = refl
+has_live_found rows now number h found at is = sym (ap (λ (o : Option RowValue). is_some (option_and_then (if_alive now) o)) (at_place (is_row_of h.router h.mapping.eid) rows number found (sym at)) ∙ ap (λ (x : RowValue). is_some (if_alive now x)) (sym is) ∙ alive_or_not found (is_alive found now))
 
 pub has_live_nowhere : (rows : List RowValue) (now : ℕ) (h : RowValue) → None ≡ position (is_row_of h.router h.mapping.eid) rows → false ≡ has_live rows now h
 unfolding row_at
 has_live_nowhere rows now h at = sym (ap (λ (o : Option RowValue). is_some (option_and_then (if_alive now) o)) (nowhere (is_row_of h.router h.mapping.eid) rows (sym at)))
 
-any_case : (p : RowValue → Bool) (h : RowValue) (rows : List RowValue) (set own : Bool) → p h ≡ own → list_any p (cond set rows (h ∷ rows)) ≡ ((own && not set) || list_any p rows)
-any_case p h rows true true here = refl
-any_case p h rows true false here = refl
-any_case p h rows false true here = ap (λ (b : Bool). b || list_any p rows) here
-any_case p h rows false false here = ap (λ (b : Bool). b || list_any p rows) here
+any_case : (p : RowValue → Bool) (h : RowValue) (rows : List RowValue) (set : Bool) → list_any p (cond set rows (h ∷ rows)) ≡ ((p h && not set) || list_any p rows)
+any_case p h rows set = grind arith
 
 -- whether a test finds a row among the last of each router and prefix, by the first of the given ones
 pub any_last : (p : RowValue → Bool) (rest later : List RowValue) (h : RowValue) → rest ≡ h ∷ later → list_any p (last_rows rest) ≡ ((p h && not (is_set_by later h)) || list_any p (last_rows later))
-any_last p rest later h split = ap (λ (rows : List RowValue). list_any p (last_rows rows)) split ∙ any_case p h (last_rows later) (is_set_by later h) (p h) refl
+any_last p rest later h split = ap (λ (rows : List RowValue). list_any p (last_rows rows)) split ∙ any_case p h (last_rows later) (is_set_by later h)
 
-count_last_case : (p : RowValue → Bool) (h : RowValue) (rows : List RowValue) (set live : Bool) → p h ≡ live → count_by p (cond set rows (h ∷ rows)) ≡ cond (live && not set) 1 0 + count_by p rows
-count_last_case p h rows true true here = omega arith
-count_last_case p h rows true false here = omega arith
-count_last_case p h rows false true here = sum_by-cons (λ x. cond (p x) 1 0) h rows ∙ ap (λ (b : Bool). cond b 1 0 + count_by p rows) here
-count_last_case p h rows false false here = sum_by-cons (λ x. cond (p x) 1 0) h rows ∙ ap (λ (b : Bool). cond b 1 0 + count_by p rows) here
+turned : {X : Type 0} (b : Bool) (x y : X) → cond b x y ≡ cond (not b) y x
+turned b x y = grind arith
 
 count_last : (site now : ℕ) (rest later : List RowValue) (h : RowValue) → rest ≡ h ∷ later → count_by (is_live_in site now) (last_rows rest) ≡ cond (stays_live later site now h) 1 0 + count_by (is_live_in site now) (last_rows later)
-count_last site now rest later h split = ap (λ (rows : List RowValue). count_by (is_live_in site now) (last_rows rows)) split ∙ count_last_case (is_live_in site now) h (last_rows later) (is_set_by later h) (is_live_in site now h) refl
+count_last site now rest later h split = ap (λ (rows : List RowValue). count_by (is_live_in site now) (last_rows rows)) split ∙ ap (count_by (is_live_in site now)) (turned (is_set_by later h) (last_rows later) (h ∷ last_rows later)) ∙ count_case (is_live_in site now) h (last_rows later) (not (is_set_by later h))
 
 -- one of the given rows was counted, or isn't to be
 abbrev pub CountsOne : Bool → ℕ → ℕ → Type 0
 CountsOne counted count next = ((counted ≡ true) × (next ≡ count + 1)) ⊎ ((counted ≡ false) × (next ≡ count))
 
 one_more : (counted : Bool) (count next rest : ℕ) → CountsOne counted count next → next + rest ≡ count + (cond counted 1 0 + rest)
-one_more true count next rest (inl (is, more)) = omega (arith, more)
-one_more true count next rest (inr (is, same)) = absurd (true≢false is)
-one_more false count next rest (inl (is, more)) = absurd (true≢false (sym is))
-one_more false count next rest (inr (is, same)) = omega (arith, same)
+one_more counted count next rest counts = grind arith
 
 pub count_last_next : (site now : ℕ) (rest later : List RowValue) (h : RowValue) (count next : ℕ) → rest ≡ h ∷ later → CountsOne (stays_live later site now h) count next → next + count_by (is_live_in site now) (last_rows later) ≡ count + count_by (is_live_in site now) (last_rows rest)
 count_last_next site now rest later h count next split counts = one_more (stays_live later site now h) count next (count_by (is_live_in site now) (last_rows later)) counts ∙ ap (λ (n : ℕ). count + n) (sym (count_last site now rest later h split))
@@ -548,51 +417,19 @@ abbrev pub AddsOne : Bool → RouterId → BTreeSet RouterId → BTreeSet Router
 AddsOne added router old new = ((added ≡ true) × Updates router_cmp old new router true) ⊎ ((added ≡ false) × (new.keys ≡ old.keys))
 
 tie_is_same : (a b : RouterId) → eq_by_cmp router_cmp a b ≡ router_eq a b
-tie_is_same a b = by (eq_by_cmp router_cmp a b) (router_eq a b) (λ t. (router_eq-Decides a b).1 ((tie-Decides a b).0 t)) (λ t. (tie-Decides a b).1 ((router_eq-Decides a b).0 t))
-  where
-    by : (x y : Bool) → (x ≡ true → y ≡ true) → (y ≡ true → x ≡ true) → x ≡ y
-    by true true there back = refl
-    by true false there back = sym (there refl)
-    by false true there back = back refl
-    by false false there back = refl
+tie_is_same a b = same_from_decides (eq_by_cmp router_cmp a b) (router_eq a b) (tie-Decides a b) (router_eq-Decides a b)
 
-cond_or : (same had : Bool) → cond same true had ≡ (had || same)
-cond_or true true = refl
-cond_or true false = refl
-cond_or false true = refl
-cond_or false false = refl
-
-and_away : (live same set : Bool) → (live && not set) ≡ true → ((live && same) && not set) ≡ same
-and_away true true false e = refl
-and_away true false set e = refl
-and_away true same true e = absurd (true≢false (sym e))
-and_away false same set e = absurd (true≢false (sym e))
-
-and_none : (live same set : Bool) → (live && not set) ≡ false → ((live && same) && not set) ≡ false
-and_none true true true e = refl
-and_none true true false e = absurd (true≢false e)
-and_none true false set e = refl
-and_none false same set e = refl
-
-or_false : (a : Bool) → a ≡ (a || false)
-or_false true = refl
-or_false false = refl
+added_case : (live same set old new : Bool) → (((live && not set) ≡ true) × (new ≡ cond same true old)) ⊎ (((live && not set) ≡ false) × (new ≡ old)) → new ≡ (old || ((live && same) && not set))
+added_case live same set old new either = grind arith
 
 -- what the set has after one row
 one_added : (given : List RowValue) (site now : ℕ) (h : RowValue) (old new : BTreeSet RouterId) (router : RouterId) → AddsOne (stays_live given site now h) h.router old new → contains router_cmp new router ≡ (contains router_cmp old router || ((is_live_in site now h && router_eq h.router router) && not (is_set_by given h)))
-one_added given site now h old new router (inl (is, updates)) =
-    updates.0 router
-    ∙ ap (λ (b : Bool). cond b true (contains router_cmp old router)) (tie_is_same h.router router)
-    ∙ cond_or (router_eq h.router router) (contains router_cmp old router)
-    ∙ ap (λ (b : Bool). contains router_cmp old router || b) (sym (and_away (is_live_in site now h) (router_eq h.router router) (is_set_by given h) is))
-one_added given site now h old new router (inr (is, same)) =
-    ap (λ (keys : List RouterId). list_any (eq_by_cmp router_cmp router) keys) same
-    ∙ or_false (contains router_cmp old router)
-    ∙ ap (λ (b : Bool). contains router_cmp old router || b) (sym (and_none (is_live_in site now h) (router_eq h.router router) (is_set_by given h) is))
+one_added given site now h old new router adds = added_case (is_live_in site now h) (router_eq h.router router) (is_set_by given h) (contains router_cmp old router) (contains router_cmp new router) (on_either adds
+    (λ (is, updates). inl (is, updates.0 router ∙ ap (λ (b : Bool). cond b true (contains router_cmp old router)) (tie_is_same h.router router)))
+    (λ (is, same). inr (is, ap (λ (keys : List RouterId). list_any (eq_by_cmp router_cmp router) keys) same)))
 
 or_assoc : (a b c : Bool) → ((a || b) || c) ≡ (a || (b || c))
-or_assoc true b c = refl
-or_assoc false b c = refl
+or_assoc a b c = grind arith
 
 pub add_last_next : (site now : ℕ) (rest later : List RowValue) (h : RowValue) (old new : BTreeSet RouterId) → rest ≡ h ∷ later → AddsOne (stays_live later site now h) h.router old new → (router : RouterId) → (contains router_cmp new router || has_router (last_rows later) site now router) ≡ (contains router_cmp old router || has_router (last_rows rest) site now router)
 add_last_next site now rest later h old new split adds router =
@@ -600,11 +437,8 @@ add_last_next site now rest later h old new split adds router =
     ∙ or_assoc (contains router_cmp old router) ((is_live_in site now h && router_eq h.router router) && not (is_set_by later h)) (has_router (last_rows later) site now router)
     ∙ ap (λ (b : Bool). contains router_cmp old router || b) (sym (any_last (λ x. is_live_in site now x && router_eq x.router router) rest later h split))
 
-any_kept : (p : RowValue → Bool) (h : RowValue) (own set : Bool) → p h ≡ own → list_any p (cond (not set) (h ∷ []) []) ≡ (own && not set)
-any_kept p h true true here = refl
-any_kept p h false true here = refl
-any_kept p h true false here = ap (λ (b : Bool). b || false) here
-any_kept p h false false here = ap (λ (b : Bool). b || false) here
+any_kept : (p : RowValue → Bool) (h : RowValue) (set : Bool) → list_any p (cond (not set) (h ∷ []) []) ≡ (p h && not set)
+any_kept p h set = grind arith
 
 pub add_kept_next : (rows given : List RowValue) (i site now : ℕ) (h : RowValue) (first old new : BTreeSet RouterId) → i < length rows → h ≡ slice_index_or rows i h → AddsRouters first old site now (kept_rows (take i rows) given) → AddsOne (stays_live given site now h) h.router old new → AddsRouters first new site now (kept_rows (take (i + 1) rows) given)
 add_kept_next rows given i site now h first old new lt at so_far adds router =
@@ -614,5 +448,5 @@ add_kept_next rows given i site now h first old new lt at so_far adds router =
     one_added given site now h old new router adds
     ∙ ap (λ (b : Bool). b || (p h && not (is_set_by given h))) (so_far router)
     ∙ or_assoc (contains router_cmp first router) (has_router (kept_rows (take i rows) given) site now router) (p h && not (is_set_by given h))
-    ∙ ap (λ (b : Bool). contains router_cmp first router || (has_router (kept_rows (take i rows) given) site now router || b)) (sym (any_kept p h (p h) (is_set_by given h) refl))
+    ∙ ap (λ (b : Bool). contains router_cmp first router || (has_router (kept_rows (take i rows) given) site now router || b)) (sym (any_kept p h (is_set_by given h)))
     ∙ ap (λ (b : Bool). contains router_cmp first router || b) (sym (list_any-append p (kept_rows (take i rows) given) (cond (not (is_set_by given h)) (h ∷ []) [])) ∙ ap (list_any p) (sym more))

@@ -1,10 +1,11 @@
 -- Numbers of rows in rising order: what is sought in them, and what an edit leaves.
-use Rattle.std.proofs.Common.{◌≡◌, ◌≢◌, ◌⊎◌, inl, inr, ℕ, zero, suc, ◌+◌, ◌-◌, ◌<◌, ◌≤◌, true, false, List, [], ◌∷◌, ◌++◌, length, slice_index, slice_index_or, Option, Some, None, Result, Ok, Err, refl, sym, ap, ◌∙◌, subst, true≢false, arith, is_some, slice_set, ◌*◌, ◌^◌}
+use Rattle.std.proofs.Common.{◌≡◌, ◌≢◌, ◌⊎◌, inl, inr, ℕ, suc, ◌+◌, ◌-◌, ◌<◌, ◌≤◌, true, false, List, [], ◌∷◌, ◌++◌, length, slice_index, slice_index_or, Option, Some, None, Result, Ok, Err, refl, sym, ap, ◌∙◌, subst, true≢false, arith, is_some, slice_set, ◌*◌, ◌^◌}
 use Rattle.std.proofs.lemmas.Bool.{cases_eq, cases_lt, cases_order}
 use Rattle.std.proofs.lemmas.List.{get_or_read, get_or_default, get_or-take, length-set, length-take-le, get_or-set_same, get_or-set_other}
 use Rattle.std.proofs.lemmas.List.Edits.{insert_end, length-insert, length-remove, get_or-insert_below, get_or-insert_at, get_or-insert_above, get_or-remove_below, get_or-remove_above}
 use Rattle.std.proofs.lemmas.List.Sorted.{IsPermutation-insert, IsPermutation-remove, Contains-permutation}
 use Rattle.std.proofs.lemmas.Map.Lookups.{exact_pairs}
+use Rattle.std.proofs.lemmas.Map.Made.{Contains-tail}
 use Rattle.std.proofs.lemmas.Nat.{pow-add}
 use Rattle.std.proofs.Math.Nat.{mul-le-mul_left}
 use Rattle.std.specs.List.{Contains, insert, remove, swap_remove}
@@ -23,6 +24,7 @@ use Rattle.lisp_lookup.specs.declared.probe.Probe.{Probe}
 use Rattle.lisp_lookup.specs.declared.probe.Probe.TheVariants.{Prefix}
 use Rattle.lisp_lookup.specs.Table.{row_key}
 use Rattle.lisp_lookup.specs.Index.{deadline, row_prefix_cmp, row_deadline_cmp, order_cmp, is_before, row_at_place, Falls, IsBound, Rises, IsIndex, Indexed, IsTakenOut, IsPutIn, IsFresh, IsRenumbered}
+use Rattle.lisp_lookup.proofs.Apart.{on_either}
 use Rattle.lisp_lookup.proofs.AnswerLaws.{less}
 use Rattle.lisp_lookup.proofs.Orders.{block_total, router_total, same_block, same_router}
 use Rattle.lisp_lookup.proofs.TableLaws.{less_from}
@@ -80,24 +82,15 @@ abbrev pub Skips : ℕ → ℕ → ℕ → Type 0
 Skips place k source = ((k < place) × (source ≡ k)) ⊎ ((place ≤ k) × (source ≡ k + 1))
 
 pub removed_from : (xs : List ℕ) (place k : ℕ) → place < length xs → (source : ℕ) × Skips place k source × (slice_index (remove xs place) k ≡ slice_index xs source)
-removed_from xs place k lt = either (cases_lt k place)
-  where
-    either : (k < place) ⊎ (place ≤ k) → (source : ℕ) × Skips place k source × (slice_index (remove xs place) k ≡ slice_index xs source)
-    either (inl below) = (k, inl (below, refl), get_or-remove_below xs place 0 k below lt)
-    either (inr above) = (k + 1, inr (above, refl), get_or-remove_above xs place 0 k above lt)
+removed_from xs place k lt = on_either (cases_lt k place)
+    (λ below. (k, inl (below, refl), get_or-remove_below xs place 0 k below lt))
+    (λ above. (k + 1, inr (above, refl), get_or-remove_above xs place 0 k above lt))
 
 abbrev pub Makes : List ℕ → ℕ → ℕ → ℕ → ℕ → Type 0
 Makes xs place n k got = ((k < place) × (got ≡ slice_index xs k)) ⊎ (((k ≡ place) × (got ≡ n)) ⊎ ((place < k) × (got ≡ slice_index xs (k - 1))))
 
 pub inserted_from : (xs : List ℕ) (place n k : ℕ) → place ≤ length xs → Makes xs place n k (slice_index (insert xs place n) k)
-inserted_from xs place n k le = either (cases_order k place)
-  where
-    either : (k ≡ place) ⊎ ((k < place) ⊎ (place < k)) → Makes xs place n k (slice_index (insert xs place n) k)
-    either (inl at) = inr (inl (at, ap (λ (j : ℕ). slice_index (insert xs place n) j) at ∙ get_or-insert_at xs place n 0 le))
-    either (inr (inl below)) = inl (below, get_or-insert_below xs place n 0 k below le)
-    either (inr (inr above)) =
-        let again : k ≡ (k - 1) + 1 = omega (arith, above) in
-        inr (inr (above, ap (λ (j : ℕ). slice_index (insert xs place n) j) again ∙ get_or-insert_above xs place n 0 (k - 1) (omega (arith, above)) le))
+inserted_from xs place n k le = grind (arith, cases_order k place, get_or-insert_at xs place n 0, get_or-insert_below xs place n 0 k, get_or-insert_above xs place n 0 (k - 1))
 
 pub prefix_total : IsTotalOrder row_prefix_cmp
 prefix_total = then_total (on_total (λ (h : RowValue). h.mapping.eid) block_total) (on_total (λ (h : RowValue). h.router) router_total)
@@ -113,26 +106,21 @@ prefix_tie a b tie =
     λ i. ((parts i).1, (parts i).0)
 
 then_tie : (first second : Ordering) → ordering_then first second ≡ Equal → second ≡ Equal
-then_tie Less second tie = absurd cc
-then_tie Equal second tie = tie
-then_tie Greater second tie = absurd cc
+then_tie first second tie = grind arith
 
 pub order_tie : (order : Order) (a b : RowValue) → order_cmp order a b ≡ Equal → row_key a ≡ row_key b
 order_tie ByPrefix a b tie = prefix_tie a b tie
 order_tie ByDeadline a b tie = prefix_tie a b (then_tie (nat_cmp (deadline a) (deadline b)) (row_prefix_cmp a b) tie)
 
 not_ge : (o : Ordering) → is_ge o ≡ false → o ≡ Less
-not_ge Less before = refl
-not_ge _ before = absurd cc
+not_ge o before = grind arith
 
-reverse_case : (o : Ordering) → o ≡ ordering_reverse o → o ≡ Equal
-reverse_case Less turned = absurd cc
-reverse_case Equal turned = refl
-reverse_case Greater turned = absurd cc
+reversed : (o : Ordering) → o ≡ ordering_reverse o → o ≡ Equal
+reversed o turned = grind arith
 
 -- what is compared with itself ties
 pub itself : {K : Type 0} (cmp : K → K → Ordering) (total : IsTotalOrder cmp) (x : K) → cmp x x ≡ Equal
-itself cmp total x = reverse_case (cmp x x) (total.antisymm x x)
+itself cmp total x = reversed (cmp x x) (total.antisymm x x)
 
 module _ (cmp : RowValue → RowValue → Ordering) (total : IsTotalOrder cmp) where
   never : (x : RowValue) → cmp x x ≢ Less
@@ -166,33 +154,10 @@ module _ (cmp : RowValue → RowValue → Ordering) (total : IsTotalOrder cmp) w
 
   module _ (rows : List RowValue) (numbers : List ℕ) (place n : ℕ) (le : place ≤ length numbers) (row : n < length rows) (below : (i : ℕ) (d : RowValue) → i < place → cmp (row_at_place rows numbers i d) (slice_index_or rows n d) ≡ Less) (above : (i : ℕ) (d : RowValue) → place ≤ i → i < length numbers → cmp (slice_index_or rows n d) (row_at_place rows numbers i d) ≡ Less) (rises : Rises cmp rows numbers) where
     within_case : (k : ℕ) (got : ℕ) → k < length numbers + 1 → Makes numbers place n k got → got < length rows
-    within_case k got lt (inl before) = subst (λ (m : ℕ). m < length rows) (sym before.1) (rises.below k (omega (arith, before.0, le)))
-    within_case k got lt (inr (inl at)) = subst (λ (m : ℕ). m < length rows) (sym at.1) row
-    within_case k got lt (inr (inr after)) = subst (λ (m : ℕ). m < length rows) (sym after.1) (rises.below (k - 1) (omega (arith, after.0, lt)))
+    within_case k got lt made = grind (arith, rises.below k, rises.below (k - 1))
 
     pair_case : (i j a b : ℕ) (d : RowValue) → i < j → j < length numbers + 1 → Makes numbers place n i a → Makes numbers place n j b → cmp (slice_index_or rows a d) (slice_index_or rows b d) ≡ Less
-    pair_case i j a b d lt within first second = ap (λ (m : ℕ). cmp (slice_index_or rows m d) (slice_index_or rows b d)) (got first) ∙ ap (λ (m : ℕ). cmp (slice_index_or rows (number first) d) (slice_index_or rows m d)) (got second) ∙ pair first second
-      where
-        number : {k m : ℕ} → Makes numbers place n k m → ℕ
-        number {k = k} (inl before) = slice_index numbers k
-        number (inr (inl at)) = n
-        number {k = k} (inr (inr after)) = slice_index numbers (k - 1)
-
-        got : {k m : ℕ} (made : Makes numbers place n k m) → m ≡ number made
-        got (inl before) = before.1
-        got (inr (inl at)) = at.1
-        got (inr (inr after)) = after.1
-
-        pair : (x : Makes numbers place n i a) (y : Makes numbers place n j b) → cmp (slice_index_or rows (number x) d) (slice_index_or rows (number y) d) ≡ Less
-        pair (inl x) (inl y) = rises.rising i j d lt (omega (arith, y.0, le))
-        pair (inl x) (inr (inl y)) = below i d x.0
-        pair (inl x) (inr (inr y)) = rises.rising i (j - 1) d (omega (arith, x.0, y.0)) (omega (arith, y.0, within))
-        pair (inr (inl x)) (inl y) = absurd (omega (arith, x.0, y.0, lt))
-        pair (inr (inl x)) (inr (inl y)) = absurd (omega (arith, x.0, y.0, lt))
-        pair (inr (inl x)) (inr (inr y)) = above (j - 1) d (omega (arith, y.0)) (omega (arith, y.0, within))
-        pair (inr (inr x)) (inl y) = absurd (omega (arith, x.0, y.0, lt))
-        pair (inr (inr x)) (inr (inl y)) = absurd (omega (arith, x.0, y.0, lt))
-        pair (inr (inr x)) (inr (inr y)) = rises.rising (i - 1) (j - 1) d (omega (arith, x.0, lt)) (omega (arith, y.0, within))
+    pair_case i j a b d lt within x y = grind (arith, rises.rising i j d, rises.rising i (j - 1) d, rises.rising (i - 1) (j - 1) d, below i d, above (j - 1) d)
 
     pub rises_insert : Rises cmp rows (insert numbers place n)
     rises_insert = record {
@@ -208,24 +173,10 @@ module _ (cmp : RowValue → RowValue → Ordering) (total : IsTotalOrder cmp) w
     module _ (rows : List RowValue) (numbers : List ℕ) (place : ℕ) (rises : Rises cmp rows numbers) (bound : IsBound probe rows numbers place) where
       -- a row that ties with what is sought is found
       pub exact : (p : ℕ) → p < length numbers → cmp (row_at_place rows numbers p x) x ≡ Equal → place ≡ p
-      exact p lt tie = decide (cases_order place p)
-        where
-          at_p : RowValue
-          at_p = row_at_place rows numbers p x
-
-          here : RowValue
-          here = row_at_place rows numbers place x
-
-          turned : cmp at_p here ≡ Greater → cmp here x ≡ Less
-          turned above = total.antisymm here x ∙ ap ordering_reverse (sym (total.congr at_p x here tie) ∙ above)
-
-          decide : (place ≡ p) ⊎ ((place < p) ⊎ (p < place)) → place ≡ p
-          decide (inl same) = same
-          decide (inr (inl sooner)) =
-              let rising = rises.rising place p x sooner lt in
-              let before = seeks here ∙ ap is_lt (turned (total.antisymm at_p here ∙ ap ordering_reverse rising)) in
-              absurd (true≢false (sym before ∙ bound.after place x (omega arith) (omega (arith, sooner, lt))))
-          decide (inr (inr later)) = absurd (true≢false (sym (bound.before p x later) ∙ seeks at_p ∙ ap is_lt tie))
+      exact p lt tie =
+          let at_p = row_at_place rows numbers p x in
+          let here = row_at_place rows numbers place x in
+          grind (arith, cases_order place p, rises.rising place p x, bound.after place x, bound.before p x, seeks here, seeks at_p, total.antisymm here x, total.antisymm at_p here, total.congr at_p x here tie)
 
       pub gap_below : (i : ℕ) (d : RowValue) → i < place → cmp (row_at_place rows numbers i d) x ≡ Less
       gap_below i d lt = less (cmp (row_at_place rows numbers i d) x) (sym (seeks (row_at_place rows numbers i d)) ∙ bound.before i d lt)
@@ -248,14 +199,10 @@ module _ (order : Order) (rows : List RowValue) (numbers : List ℕ) (number : �
       let same : row_at_place rows numbers i d ≡ row_at_place rows numbers i x = get_or_default rows (slice_index numbers i) d x (rises.below i lt) in
       fresh i x lt (ap row_key (sym same) ∙ sym (order_tie order x (row_at_place rows numbers i d) tie) ∙ ap row_key read)
 
-  remaining : (place : ℕ) (n : ℕ) → Contains (number ∷ remove numbers place) n → n ≢ number → Contains (remove numbers place) n
-  remaining place n (zero, lt, at) other = absurd (other (sym at))
-  remaining place n (suc k, lt, at) other = (k, omega (arith, lt), at)
-
   pub left_of : (place : ℕ) → place < length numbers → slice_index numbers place ≡ number → IsTakenOut order rows numbers (remove numbers place) number
   left_of place lt was = record {
     rises = rises_remove (order_cmp order) (order_total order) rows numbers place lt rises;
-    others = λ n held other. remaining place n (Contains-permutation numbers (number ∷ remove numbers place) n (IsPermutation-remove numbers place number lt (sym was ∙ get_or_default numbers place 0 number lt)) held) other;
+    others = λ n held other. Contains-tail number (remove numbers place) n (λ same. other (sym same)) (Contains-permutation numbers (number ∷ remove numbers place) n (IsPermutation-remove numbers place number lt (sym was ∙ get_or_default numbers place 0 number lt)) held);
     gone = λ k within same.
         (let from = removed_from numbers place k lt in
         let at = one_place (order_cmp order) (order_total order) rows numbers from.0 place x rises (omega (arith, from.1, within, length-remove numbers place lt)) lt (sym from.2 ∙ same ∙ sym was) in
@@ -286,14 +233,12 @@ module _ (order : Order) (rows : List RowValue) (numbers : List ℕ) (number : �
 
   -- it does so where it stands behind the last one
   pub behind_last : (k last : ℕ) (h : RowValue) → k + 1 ≡ length numbers → last ≡ slice_index_or numbers k last → h ≡ slice_index_or rows last h → is_ge (order_cmp order h x) ≡ false → (i : ℕ) (d : RowValue) → i < length numbers → order_cmp order (row_at_place rows numbers i d) x ≡ Less
-  behind_last k last h end last_read h_read before i d lt = either (cases_eq i k)
+  behind_last k last h end last_read h_read before i d lt = on_either (cases_eq i k)
+      (λ same. subst (λ (j : ℕ). order_cmp order (row_at_place rows numbers j d) x ≡ Less) (sym same) here)
+      (λ other. (order_total order).trans (row_at_place rows numbers i d) (row_at_place rows numbers k d) x (rises.rising i k d (omega (arith, lt, other, end)) (omega (arith, end))) here)
     where
       here : order_cmp order (row_at_place rows numbers k d) x ≡ Less
       here = ap (λ (a : RowValue). order_cmp order a x) (sym (row_read (order_cmp order) rows numbers k last h rises (omega (arith, end)) last_read h_read d)) ∙ not_ge (order_cmp order h x) before
-
-      either : (i ≡ k) ⊎ (i ≢ k) → order_cmp order (row_at_place rows numbers i d) x ≡ Less
-      either (inl same) = subst (λ (j : ℕ). order_cmp order (row_at_place rows numbers j d) x ≡ Less) (sym same) here
-      either (inr other) = (order_total order).trans (row_at_place rows numbers i d) (row_at_place rows numbers k d) x (rises.rising i k d (omega (arith, lt, other, end)) (omega (arith, end))) here
 
 prefix_case : (a b eid : PrefixValue) (first second : Ordering) → prefix_cmp a b ≡ first → ordering_then first second ≡ Less → is_lt (prefix_cmp b eid) ≡ true → is_lt (prefix_cmp a eid) ≡ true
 prefix_case a b eid Less second is up before = ap is_lt (block_total.trans a b eid is (less (prefix_cmp b eid) before))
@@ -368,15 +313,13 @@ module _ (rows : List RowValue) (number : ℕ) (d : RowValue) (within : number <
           let not_last : slice_index mid k ≢ last = λ same. off (one_place (order_cmp order) (order_total order) rows mid k renamed.place d left.rises lt renamed.within (same ∙ sym renamed.was)) in
           omega (arith, left.rises.below k lt, not_last)
 
-      below : (k : ℕ) → k < length new → (k ≡ renamed.place) ⊎ (k ≢ renamed.place) → slice_index new k < length left_rows
-      below k lt (inl at) = omega (arith, ap (λ (j : ℕ). slice_index new j) at, here, other, within, length_moved)
-      below k lt (inr off) = omega (arith, there k off, below_other k (omega (arith, lt, long)) off, length_moved)
+      below : (k : ℕ) → k < length new → slice_index new k < length left_rows
+      below k lt = grind (arith, cases_eq k renamed.place, here, there k, below_other k, long, length_moved, other, within)
 
-      same_row : (k : ℕ) (e : RowValue) → k < length new → (k ≡ renamed.place) ⊎ (k ≢ renamed.place) → row_at_place left_rows new k e ≡ row_at_place rows mid k e
-      same_row k e lt (inl at) = subst (λ (j : ℕ). row_at_place left_rows new j e ≡ row_at_place rows mid j e) (sym at) (ap (λ (n : ℕ). slice_index_or left_rows n e) here ∙ moved_here e (omega (arith, other, within)) ∙ ap (λ (n : ℕ). slice_index_or rows n e) (sym renamed.was))
-      same_row k e lt (inr off) =
-          let lt_mid : k < length mid = omega (arith, lt, long) in
-          ap (λ (n : ℕ). slice_index_or left_rows n e) (there k off) ∙ moved_other (slice_index mid k) e (left.gone k lt_mid) (below_other k lt_mid off)
+      same_row : (k : ℕ) (e : RowValue) → k < length new → row_at_place left_rows new k e ≡ row_at_place rows mid k e
+      same_row k e lt = on_either (cases_eq k renamed.place)
+          (λ at. subst (λ (j : ℕ). row_at_place left_rows new j e ≡ row_at_place rows mid j e) (sym at) (ap (λ (n : ℕ). slice_index_or left_rows n e) here ∙ moved_here e (omega (arith, other, within)) ∙ ap (λ (n : ℕ). slice_index_or rows n e) (sym renamed.was)))
+          (λ off. ap (λ (n : ℕ). slice_index_or left_rows n e) (there k off) ∙ moved_other (slice_index mid k) e (left.gone k (omega (arith, lt, long))) (below_other k (omega (arith, lt, long)) off))
 
       each : (n : ℕ) → n < length left_rows → (n ≡ number) ⊎ (n ≢ number) → Contains new n
       each n lt (inl at) = (renamed.place, omega (arith, long, renamed.within), get_or_default new renamed.place n 0 (omega (arith, long, renamed.within)) ∙ here ∙ sym at)
@@ -388,7 +331,7 @@ module _ (rows : List RowValue) (number : ℕ) (d : RowValue) (within : number <
 
       pub without : IsIndex (order_cmp order) left_rows new
       without = record {
-        rises = rises_same (order_cmp order) (order_total order) rows mid left_rows new long (λ k lt. below k lt (cases_eq k renamed.place)) (λ k e lt. same_row k e lt (cases_eq k renamed.place)) left.rises;
+        rises = rises_same (order_cmp order) (order_total order) rows mid left_rows new long below same_row left.rises;
         each = λ n lt. each n lt (cases_eq n number);
       }
 
@@ -417,19 +360,9 @@ cost_look start steps ticked left next all is grown cost some halves =
 module _ {A : Type 0} (probe : Probe A) (rows : List RowValue) (numbers : List ℕ) (p : ℕ) (x : RowValue) (within : p < length numbers) (falls : Falls probe rows numbers) (at_any : (d : RowValue) → x ≡ row_at_place rows numbers p d) where
   -- no row up to one that stands before what is sought does otherwise
   pub before_too : is_before probe x ≡ true → (i : ℕ) (d : RowValue) → i < p + 1 → is_before probe (row_at_place rows numbers i d) ≡ true
-  before_too holds i d le = either (cases_eq i p)
-    where
-      either : (i ≡ p) ⊎ (i ≢ p) → is_before probe (row_at_place rows numbers i d) ≡ true
-      either (inl same) = subst (λ (k : ℕ). is_before probe (row_at_place rows numbers k d) ≡ true) (sym same) (ap (is_before probe) (sym (at_any d)) ∙ holds)
-      either (inr other) = falls i p d (omega (arith, le, other)) within (ap (is_before probe) (sym (at_any d)) ∙ holds)
+  before_too holds i d le = grind (arith, cases_eq i p, at_any d, falls i p d)
 
   -- no row from one on that doesn't stand before what is sought does so
   pub after_too : is_before probe x ≡ false → (i : ℕ) (d : RowValue) → p ≤ i → i < length numbers → is_before probe (row_at_place rows numbers i d) ≡ false
-  after_too fails i d le lt = either (cases_eq i p)
-    where
-      here : is_before probe (row_at_place rows numbers p d) ≡ false
-      here = ap (is_before probe) (sym (at_any d)) ∙ fails
-
-      either : (i ≡ p) ⊎ (i ≢ p) → is_before probe (row_at_place rows numbers i d) ≡ false
-      either (inl same) = subst (λ (k : ℕ). is_before probe (row_at_place rows numbers k d) ≡ false) (sym same) here
-      either (inr other) = not_true (is_before probe (row_at_place rows numbers i d)) (λ holds. true≢false (sym (falls p i d (omega (arith, le, other)) lt holds) ∙ here))
+  after_too fails i d le lt = on_either (cases_eq i p) (λ same. grind (arith, at_any d))
+      (λ other. not_true (is_before probe (row_at_place rows numbers i d)) (λ holds. true≢false (sym (falls p i d (omega (arith, le, other)) lt holds) ∙ ap (is_before probe) (sym (at_any d)) ∙ fails)))

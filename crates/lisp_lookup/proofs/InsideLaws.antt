@@ -1,7 +1,7 @@
 -- The rows of the prefixes inside a prefix, in the order by prefix.
-use Rattle.std.proofs.Common.{◌≡◌, ◌≢◌, ◌⊎◌, inl, inr, ℕ, ◌+◌, ◌<◌, ◌≤◌, Bool, true, false, ◌&&◌, cond, nat_lt, nat_le, List, length, slice_index, slice_index_or, Option, Some, None, refl, sym, ap, ◌∙◌, subst, true≢false, arith}
-use Rattle.std.proofs.lemmas.Bool.{cases_eq, cases_lt, and_parts, and_from, leb-true, le-leb}
-use Rattle.std.proofs.lemmas.Bool.Decides.{Decides-ltb}
+use Rattle.std.proofs.Common.{◌≡◌, ◌≢◌, ◌⊎◌, inl, inr, ℕ, ◌+◌, ◌<◌, ◌≤◌, Bool, true, false, ◌&&◌, List, length, slice_index, slice_index_or, Option, Some, None, refl, sym, ap, ◌∙◌, subst, true≢false, arith}
+use Rattle.std.proofs.lemmas.Bool.{cases_eq, cases_lt, and_parts, and_from}
+use Rattle.std.proofs.lemmas.Bool.Decides.{nat_tests}
 use Rattle.std.proofs.lemmas.List.{get_or_default}
 use Rattle.std.proofs.lemmas.List.Elements.{All-contains}
 use Rattle.std.specs.List.{All, Contains}
@@ -12,7 +12,7 @@ use Rattle.std.specs.declared.cmp.Ordering.TheVariants.{Less, Equal, Greater}
 use Rattle.lisp_records.proofs.DatabaseLaws.{block_eq-Decides}
 use Rattle.lisp_records.proofs.AddressLemmas.{cleared-wider}
 use Rattle.lisp_records.specs.declared.address.Addr.{Addr}
-use Rattle.lisp_records.specs.Address.{PrefixValue, IsPrefix, IsWhole, addr_cmp, cleared, covers, holds, max_len, prefix_cmp, prefix_eq, addr_eq, prefix_around}
+use Rattle.lisp_records.specs.Address.{PrefixValue, IsPrefix, IsWhole, addr_cmp, cleared, covers, holds, max_len, prefix_cmp, prefix_eq, prefix_around}
 use Rattle.lisp_records.specs.Router.{router_cmp}
 use Rattle.lisp_records.specs.Row.{RowValue, is_alive}
 use Rattle.lisp_policy.proofs.Found.{not_true}
@@ -22,9 +22,10 @@ use Rattle.lisp_lookup.specs.Index.{row_prefix_cmp, row_at_place, IsBound, IsFir
 use Rattle.lisp_lookup.specs.Hole.{IsEmptyIn}
 use Rattle.lisp_lookup.specs.Inside.{is_inside, is_live_inside, IsWalk, NoneInside, IsNextInsideOf, HasNoRow}
 use Rattle.lisp_lookup.specs.Covering.{may_answer_for}
+use Rattle.lisp_lookup.proofs.Apart.{on_either}
 use Rattle.lisp_lookup.proofs.AnswerLaws.{less}
 use Rattle.lisp_lookup.proofs.BestLaws.{of_prefix, same_family, NoneLonger, block_of, for_address, its_block}
-use Rattle.lisp_lookup.proofs.Blocks.{addr_is, at_most_cleared, at_most_first, cleared-between, is_addr, first_in_order}
+use Rattle.lisp_lookup.proofs.Blocks.{at_most_cleared, cleared-between, covers_is, holds_is, inside_is}
 use Rattle.lisp_lookup.proofs.IndexLaws.{itself, number_at}
 use Rattle.lisp_lookup.proofs.Orders.{block_total, addr_total}
 use Rattle.lisp_lookup.proofs.TableLaws.{filtered_holds, filter_holds}
@@ -36,14 +37,9 @@ is_hit outer after now h = is_live_inside outer now h && is_lt (prefix_cmp after
 -- ---- what stands not before what
 
 module _ {K : Type 0} {R : K → K → Ordering} (total : IsTotalOrder R) where
-  not_less_case : (x y : K) (o : Ordering) → R x y ≡ o → is_lt o ≡ false → R y x ≢ Greater
-  not_less_case x y Less is low above = absurd cc
-  not_less_case x y Equal is low above = absurd (let turned : R y x ≡ Equal = total.antisymm y x ∙ ap ordering_reverse is in cc)
-  not_less_case x y Greater is low above = absurd (let turned : R y x ≡ Less = total.antisymm y x ∙ ap ordering_reverse is in cc)
-
   -- what doesn't stand before something has it before itself, or ties with it
   pub not_less : (x y : K) → is_lt (R x y) ≡ false → R y x ≢ Greater
-  not_less x y low = not_less_case x y (R x y) refl low
+  not_less x y low above = grind (arith, total.antisymm y x)
 
   -- of two, not each stands before the other
   pub not_both : (x y : K) → R x y ≡ Less → R y x ≡ Less → ⊥
@@ -56,28 +52,16 @@ pub less_is : (o : Ordering) → o ≡ Less → o ≢ Greater
 less_is o is above = absurd cc
 
 pub first_of : (one rest : Ordering) → ordering_then one rest ≢ Greater → one ≢ Greater
-first_of Less rest above is = absurd cc
-first_of Equal rest above is = absurd cc
-first_of Greater rest above is = above refl
+first_of one rest above is = grind arith
 
 by_length : (one rest : Ordering) → one ≢ Greater → rest ≡ Less → ordering_then one rest ≡ Less
-by_length Less rest low is = refl
-by_length Equal rest low is = is
-by_length Greater rest low is = absurd (low refl)
-
-lengths : (a b : ℕ) → nat_lt a b ≡ true → nat_cmp a b ≡ Less
-lengths a b is = lengths_case (nat_lt a b) _ is
-  where
-    lengths_case : (less : Bool) (rest : Ordering) → less ≡ true → cond less Less rest ≡ Less
-    lengths_case true rest is = refl
-    lengths_case false rest is = absurd (true≢false (sym is))
+by_length one rest low is = grind arith
 
 -- what lies inside a prefix stands behind it
 pub inside_behind : (outer eid : PrefixValue) → is_inside outer eid ≡ true → prefix_cmp outer eid ≡ Less
 inside_behind outer eid inside =
-    let parts = and_parts (covers outer eid) (nat_lt outer.mask_len eid.mask_len) inside in
-    let held = and_parts (nat_le outer.mask_len eid.mask_len) (holds outer eid.addr) parts.0 in
-    by_length (addr_cmp outer.addr eid.addr) (nat_cmp outer.mask_len eid.mask_len) (at_most_cleared eid.addr outer.addr outer.mask_len (addr_is (cleared eid.addr outer.mask_len) outer.addr held.1)) (lengths outer.mask_len eid.mask_len parts.1)
+    let ((le, block), lt) = (inside_is outer eid).0 inside in
+    by_length (addr_cmp outer.addr eid.addr) (nat_cmp outer.mask_len eid.mask_len) (at_most_cleared eid.addr outer.addr outer.mask_len block) (grind (arith, nat_tests))
 
 -- ---- the run
 
@@ -119,11 +103,7 @@ module _ (rows : List RowValue) (numbers : List ℕ) (sought : RowValue → Bool
 
   -- one place more was looked at
   pub one_more : (p : ℕ) (x : RowValue) → ((d : RowValue) → x ≡ row_at_place rows numbers p d) → sought x ≡ false → NoneSought p → NoneSought (p + 1)
-  one_more p x known miss none k d low lt = either (cases_eq k p)
-    where
-      either : (k ≡ p) ⊎ (k ≢ p) → sought (row_at_place rows numbers k d) ≡ false
-      either (inl at) = ap (λ (j : ℕ). sought (row_at_place rows numbers j d)) at ∙ ap sought (sym (known d)) ∙ miss
-      either (inr off) = none k d low (omega (arith, lt, off))
+  one_more p x known miss none k d low lt = grind (arith, cases_eq k p, known d, none k d)
 
   -- behind a row whose address is outside none is sought
   module _ (whole : IsWhole outer.addr) (p : ℕ) (x : RowValue) (le : first ≤ p) (within : p < length numbers) (known : (d : RowValue) → x ≡ row_at_place rows numbers p d) (x_whole : IsWhole x.mapping.eid.addr) (outside : holds outer x.mapping.eid.addr ≡ false) where
@@ -132,10 +112,9 @@ module _ (rows : List RowValue) (numbers : List ℕ) (sought : RowValue → Bool
 
     not_in : (y : RowValue) → addr_cmp x.mapping.eid.addr y.mapping.eid.addr ≢ Greater → holds outer y.mapping.eid.addr ≡ true → ⊥
     not_in y high held =
-        let block = addr_is (cleared y.mapping.eid.addr outer.mask_len) outer.addr held in
         let under = first_of (addr_cmp outer.addr x.mapping.eid.addr) (nat_cmp outer.mask_len x.mapping.eid.mask_len) behind_outer in
-        let same = cleared-between outer.addr x.mapping.eid.addr y.mapping.eid.addr outer.mask_len whole x_whole block under high in
-        true≢false (sym (is_addr (cleared x.mapping.eid.addr outer.mask_len) outer.addr same) ∙ outside)
+        let same = cleared-between outer.addr x.mapping.eid.addr y.mapping.eid.addr outer.mask_len whole x_whole ((holds_is outer y.mapping.eid.addr).0 held) under high in
+        true≢false (sym ((holds_is outer x.mapping.eid.addr).1 same) ∙ outside)
 
     stops : (k : ℕ) (d : RowValue) → p ≤ k → k < length numbers → sought (row_at_place rows numbers k d) ≡ false
     stops k d le lt = not_true (sought y) (λ is. either (cases_eq k p) (run.has y is))
@@ -153,16 +132,12 @@ module _ (rows : List RowValue) (numbers : List ℕ) (sought : RowValue → Bool
 
     -- so none is where none was before
     pub stopped : NoneSought p → (h : RowValue) → Contains rows h → sought h ≡ false
-    stopped none = none_sought (λ k d low lt. either k d low lt (cases_lt k p))
-      where
-        either : (k : ℕ) (d : RowValue) → first ≤ k → k < length numbers → (k < p) ⊎ (p ≤ k) → sought (row_at_place rows numbers k d) ≡ false
-        either k d low lt (inl sooner) = none k d low sooner
-        either k d low lt (inr later) = stops k d later lt
+    stopped none = none_sought (λ k d low lt. on_either (cases_lt k p) (λ sooner. none k d low sooner) (λ later. stops k d later lt))
 
 -- ---- the prefixes inside, behind one of them
 
 hit_has : (outer after : PrefixValue) (now : ℕ) (h : RowValue) → is_hit outer after now h ≡ true → holds outer h.mapping.eid.addr ≡ true
-hit_has outer after now h hit = (and_parts (nat_le outer.mask_len h.mapping.eid.mask_len) (holds outer h.mapping.eid.addr) (and_parts (covers outer h.mapping.eid) (nat_lt outer.mask_len h.mapping.eid.mask_len) (hit_parts outer after now h hit).1.0).0).1
+hit_has outer after now h hit = (holds_is outer h.mapping.eid.addr).1 ((inside_is outer h.mapping.eid).0 (hit_parts outer after now h hit).1.0).0.1
 
 pub inside_run : (rows : List RowValue) (numbers : List ℕ) (outer after : PrefixValue) (now first : ℕ) → IsWalk (record { rows = rows; outer = outer; moment = now; after = after }) numbers first → IsRun rows numbers (is_hit outer after now) outer first
 inside_run rows numbers outer after now first walk = record {
@@ -185,10 +160,8 @@ walk_begins rows numbers outer now first eids index bound = record {
 -- a prefix that another one is inside isn't one of a single address
 pub is_wider : (outer eid : PrefixValue) → is_inside outer eid ≡ true → IsPrefix eid → outer.mask_len < max_len outer.addr
 is_wider outer eid inside block =
-    let parts = and_parts (covers outer eid) (nat_lt outer.mask_len eid.mask_len) inside in
-    let has = (and_parts (nat_le outer.mask_len eid.mask_len) (holds outer eid.addr) parts.0).1 in
-    let same = addr_is (cleared eid.addr outer.mask_len) outer.addr has in
-    omega (arith, (Decides-ltb outer.mask_len eid.mask_len).0 parts.1, block.0, ap max_len same, same_family eid.addr outer.mask_len)
+    let ((le, same), lt) = (inside_is outer eid).0 inside in
+    omega (arith, lt, block.0, ap max_len same, same_family eid.addr outer.mask_len)
 
 -- so a walk inside one shows none
 pub walk_of_one : (rows : List RowValue) (numbers : List ℕ) (outer : PrefixValue) (now : ℕ) → All (λ h. IsPrefix h.mapping.eid) rows → IsIndex row_prefix_cmp rows numbers → max_len outer.addr ≤ outer.mask_len → IsWalk (record { rows = rows; outer = outer; moment = now; after = outer }) numbers (length numbers)
@@ -237,7 +210,7 @@ module _ (rows : List RowValue) (numbers : List ℕ) (outer after : PrefixValue)
     its = hit_parts outer after now x hit
 
     may : (h : RowValue) → h.mapping.eid ≡ x.mapping.eid → is_alive h now ≡ true → may_answer x.mapping.eid.addr now h ≡ true
-    may h own alive = and_from (is_alive h now) (holds h.mapping.eid x.mapping.eid.addr) alive (ap (λ (b : PrefixValue). holds b x.mapping.eid.addr) own ∙ is_addr (cleared x.mapping.eid.addr x.mapping.eid.mask_len) x.mapping.eid.addr block.1)
+    may h own alive = and_from (is_alive h now) (holds h.mapping.eid x.mapping.eid.addr) alive (ap (λ (b : PrefixValue). holds b x.mapping.eid.addr) own ∙ (holds_is x.mapping.eid x.mapping.eid.addr).1 block.1)
 
     in_own : (h : RowValue) → Contains rows h → h.mapping.eid ≡ x.mapping.eid → Contains (of_prefix rows x.mapping.eid) h
     in_own h held own = filter_holds (λ z. prefix_eq z.mapping.eid x.mapping.eid) rows h held ((block_eq-Decides h.mapping.eid x.mapping.eid).1 own)
@@ -287,20 +260,16 @@ abbrev pub is_live_in : PrefixValue → ℕ → RowValue → Bool
 is_live_in eid now h = is_alive h now && covers eid h.mapping.eid
 
 in_has : (eid : PrefixValue) (now : ℕ) (h : RowValue) → is_live_in eid now h ≡ true → holds eid h.mapping.eid.addr ≡ true
-in_has eid now h live = (and_parts (nat_le eid.mask_len h.mapping.eid.mask_len) (holds eid h.mapping.eid.addr) (and_parts (is_alive h now) (covers eid h.mapping.eid) live).1).1
+in_has eid now h live = (holds_is eid h.mapping.eid.addr).1 ((covers_is eid h.mapping.eid).0 (and_parts (is_alive h now) (covers eid h.mapping.eid) live).1).1
 
 -- what a prefix covers doesn't stand before it
 both_at_most : (one two : Ordering) → one ≢ Greater → two ≢ Greater → ordering_then one two ≢ Greater
-both_at_most Less two low high above = absurd cc
-both_at_most Equal two low high above = high above
-both_at_most Greater two low high above = low refl
+both_at_most one two low high above = grind arith
 
 covered_behind : (eid other : PrefixValue) → covers eid other ≡ true → prefix_cmp eid other ≢ Greater
 covered_behind eid other covered =
-    let parts = and_parts (nat_le eid.mask_len other.mask_len) (holds eid other.addr) covered in
-    let low = at_most_cleared other.addr eid.addr eid.mask_len (addr_is (cleared other.addr eid.mask_len) eid.addr parts.1) in
-    let short = first_of (nat_cmp eid.mask_len other.mask_len) Less (at_most_first eid.mask_len other.mask_len Less (leb-true eid.mask_len other.mask_len parts.0) (less_is Less refl)) in
-    both_at_most (addr_cmp eid.addr other.addr) (nat_cmp eid.mask_len other.mask_len) low short
+    let (short, block) = (covers_is eid other).0 covered in
+    both_at_most (addr_cmp eid.addr other.addr) (nat_cmp eid.mask_len other.mask_len) (at_most_cleared other.addr eid.addr eid.mask_len block) (λ above. grind (arith, nat_tests))
 
 in_before : (eid : PrefixValue) (now : ℕ) (h : RowValue) → prefix_cmp h.mapping.eid eid ≡ Less → is_live_in eid now h ≡ false
 in_before eid now h low = not_true (is_live_in eid now h) (λ live.
@@ -326,41 +295,29 @@ not_empty_in rows eid now h held live empty =
 -- ---- Which prefixes around an address have a row: one that is wider than the one that was sought, only where the row before lies in it.
 
 tied : (o : Ordering) → o ≢ Greater → ordering_reverse o ≢ Greater → o ≡ Equal
-tied Less low high = absurd (high refl)
-tied Equal low high = refl
-tied Greater low high = absurd (low refl)
+tied o low high = grind arith
 
 by_rest : (one rest : Ordering) → ordering_then one rest ≢ Greater → one ≡ Equal → rest ≢ Greater
-by_rest Less rest above is = absurd cc
-by_rest Equal rest above is = above
-by_rest Greater rest above is = absurd cc
-
-alone : (o : Ordering) → o ≢ Greater → ordering_then o Equal ≢ Greater
-alone Less low above = absurd cc
-alone Equal low above = absurd cc
-alone Greater low above = low refl
+by_rest one rest above same is = grind arith
 
 at_most_length : (a b : ℕ) → nat_cmp a b ≢ Greater → b < a → ⊥
-at_most_length a b low lt = omega (arith, lt, (first_in_order a b Equal (alone (nat_cmp a b) low)).0)
+at_most_length a b low lt = grind (arith, nat_tests)
 
 -- what is wider, around one address, has the longer one inside
 pub wider_has : (addr : Addr) (n m : ℕ) → n < m → is_inside (prefix_around addr n) (prefix_around addr m) ≡ true
-wider_has addr n m lt = and_from (covers (prefix_around addr n) (prefix_around addr m)) (nat_lt n m) (and_from (nat_le n m) (addr_eq (cleared (cleared addr m) n) (cleared addr n)) (le-leb n m (omega (arith, lt))) (is_addr (cleared (cleared addr m) n) (cleared addr n) (cleared-wider addr m n (omega (arith, lt))))) ((Decides-ltb n m).1 lt)
+wider_has addr n m lt = (inside_is (prefix_around addr n) (prefix_around addr m)).1 ((omega (arith, lt), cleared-wider addr m n (omega (arith, lt))), lt)
 
 module _ (rows : List RowValue) (numbers : List ℕ) (index : IsIndex row_prefix_cmp rows numbers) (outer longer : PrefixValue) (whole : IsWhole outer.addr) (inside : is_inside outer longer ≡ true) (place : ℕ) (bound : IsFirstOf longer rows numbers place) where
   longer_in : cleared longer.addr outer.mask_len ≡ outer.addr
-  longer_in = addr_is (cleared longer.addr outer.mask_len) outer.addr (and_parts (nat_le outer.mask_len longer.mask_len) (holds outer longer.addr) (and_parts (covers outer longer) (nat_lt outer.mask_len longer.mask_len) inside).0).1
+  longer_in = ((inside_is outer longer).0 inside).0.1
 
   -- rows of the wider prefix stand before the place
   stands_before : (k : ℕ) (d : RowValue) → k < length numbers → (row_at_place rows numbers k d).mapping.eid ≡ outer → k < place
-  stands_before k d within own = either (cases_lt k place)
+  stands_before k d within own = on_either (cases_lt k place)
+      (λ sooner. sooner) (λ later. absurd (true≢false (sym is_less ∙ bound.after k d later within)))
     where
       is_less : is_lt (prefix_cmp (row_at_place rows numbers k d).mapping.eid longer) ≡ true
       is_less = ap (λ (b : PrefixValue). is_lt (prefix_cmp b longer)) own ∙ ap is_lt (inside_behind outer longer inside)
-
-      either : (k < place) ⊎ (place ≤ k) → k < place
-      either (inl sooner) = sooner
-      either (inr later) = absurd (true≢false (sym is_less ∙ bound.after k d later within))
 
   -- what stands between the wider one and the longer one lies in the wider one
   module _ (x : PrefixValue) (block : IsPrefix x) (x_whole : IsWhole x.addr) (low : prefix_cmp outer x ≢ Greater) (high : prefix_cmp x longer ≢ Greater) where
@@ -377,11 +334,7 @@ module _ (rows : List RowValue) (numbers : List ℕ) (index : IsIndex row_prefix
         same = tied (addr_cmp outer.addr x.addr) (at_most_cleared x.addr outer.addr outer.mask_len x_in) (subst (λ (o : Ordering). o ≢ Greater) (addr_total.antisymm x.addr outer.addr) (at_most_cleared outer.addr x.addr x.mask_len its))
 
     lies_in : covers outer x ≡ true
-    lies_in = and_from (nat_le outer.mask_len x.mask_len) (addr_eq (cleared x.addr outer.mask_len) outer.addr) (either (cases_lt x.mask_len outer.mask_len)) (is_addr (cleared x.addr outer.mask_len) outer.addr x_in)
-      where
-        either : (x.mask_len < outer.mask_len) ⊎ (outer.mask_len ≤ x.mask_len) → nat_le outer.mask_len x.mask_len ≡ true
-        either (inl lt) = absurd (not_wider lt)
-        either (inr le) = le-leb outer.mask_len x.mask_len le
+    lies_in = (covers_is outer x).1 (omega (arith, not_wider), x_in)
 
   -- each row has a place
   its_place : (h : RowValue) → Contains rows h → (k : ℕ) × (k < length numbers) × (row_at_place rows numbers k h ≡ h)

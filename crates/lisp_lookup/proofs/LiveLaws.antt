@@ -1,5 +1,5 @@
 -- The records of a router's live rows: going through the rows, and what they make.
-use Rattle.std.proofs.Common.{◌≡◌, ◌≢◌, ℕ, suc, ◌+◌, ◌<◌, ◌≤◌, ◌⊎◌, inl, inr, Bool, true, false, true≢false, cond, ◌&&◌, nat_le, List, [], ◌∷◌, ◌++◌, length, map, take, take_all, drop, slice_index_or, Option, Some, None, refl, sym, ap, ◌∙◌, subst, arith, not, nat_lt, get_or}
+use Rattle.std.proofs.Common.{◌≡◌, ◌≢◌, ℕ, suc, ◌+◌, ◌<◌, ◌≤◌, ◌⊎◌, inl, inr, Bool, true, false, cond, List, [], ◌∷◌, ◌++◌, length, map, take, take_all, drop, slice_index_or, Option, Some, None, refl, sym, ap, ◌∙◌, subst, arith, nat_lt, get_or}
 use Rattle.std.proofs.Math.Seq.{take-suc}
 use Rattle.std.proofs.lemmas.List.Sorted.{ranks_by, sorted_far}
 use Rattle.std.proofs.lemmas.List.{append-nil, take-append-drop, map-append, length-append, length-map, get_or-map, drop-drop, drop_all, get_or-drop}
@@ -7,8 +7,9 @@ use Rattle.std.proofs.lemmas.List.Kept.{AllPairs-filter}
 use Rattle.std.proofs.lemmas.List.Elements.{filter-append, filter_more, filter_passes}
 use Rattle.std.proofs.lemmas.List.Sums.{sum_by-append}
 use Rattle.std.proofs.lemmas.List.Folds.{drop_split}
-use Rattle.std.proofs.lemmas.Bool.{leb-true, le-leb, ltb-false}
-use Rattle.std.proofs.lemmas.Option.{slice_get_read}
+use Rattle.std.proofs.lemmas.Bool.{and_parts, cond-false, cond-true, le-leb}
+use Rattle.std.proofs.lemmas.Bool.Decides.{nat_tests}
+use Rattle.std.proofs.lemmas.Option.{cond_some, slice_get_read}
 use Rattle.std.specs.List.{All, AllPairs, Contains, filter, position, position_or_len, slice_range}
 use Rattle.std.specs.List.Sorted.{IsPermutation, IsSortedByKey}
 use Rattle.std.specs.Ordering.{is_lt}
@@ -21,9 +22,8 @@ use Rattle.lisp_records.specs.Written.{written}
 use Rattle.lisp_records.specs.Parts.{size, fits_message}
 use Rattle.lisp_lookup.specs.Table.{is_row_of, row_key, row_at, OneEach, IsNextLive}
 use Rattle.lisp_lookup.specs.Records.{is_live_of, live_of, ByPrefix}
-use Rattle.lisp_policy.proofs.Found.{not_true}
 use Rattle.lisp_lookup.proofs.Orders.{block_total, same_block}
-use Rattle.lisp_lookup.proofs.Apart.{found}
+use Rattle.lisp_lookup.proofs.Apart.{on_either, found}
 use Rattle.lisp_lookup.proofs.TableLaws.{has_key, filtered_holds, filter_holds, less_from, differ_moved}
 
 -- the row at a place is the last of the first so many
@@ -36,6 +36,9 @@ taken rows i h within at =
 live_both : (rows more : List RowValue) (router : RouterId) (now : ℕ) → live_of (rows ++ more) router now ≡ live_of rows router now ++ live_of more router now
 live_both rows more router now = ap (map (λ (h : RowValue). h.mapping)) (filter-append (is_live_of router now) rows more) ∙ map-append (λ (h : RowValue). h.mapping) (filter (is_live_of router now) rows) (filter (is_live_of router now) more)
 
+live_one : (h : RowValue) (router : RouterId) (now : ℕ) → live_of (h ∷ []) router now ≡ cond (is_live_of router now h) (h.mapping ∷ []) []
+live_one h router now = grind arith
+
 -- how many records there are, and how many bytes they have
 pub record Counts (rows : List RowValue) (router : RouterId) (now : ℕ) (count bytes : ℕ) : Type 0 where
   pub records : count ≡ length (live_of rows router now)
@@ -46,30 +49,16 @@ module _ (rows : List RowValue) (i : ℕ) (h : RowValue) (router : RouterId) (no
   grown : live_of (take (i + 1) rows) router now ≡ live_of (take i rows) router now ++ live_of (h ∷ []) router now
   grown = ap (λ (l : List RowValue). live_of l router now) (taken rows i h within at) ∙ live_both (take i rows) (h ∷ []) router now
 
-  alone : (b : Bool) → is_live_of router now h ≡ b → live_of (h ∷ []) router now ≡ cond b (h.mapping ∷ []) []
-  alone b is = ap (λ (b : Bool). map (λ (h : RowValue). h.mapping) (cond b (h ∷ []) [])) is ∙ by b
-    where
-      by : (b : Bool) → map (λ (h : RowValue). h.mapping) (cond b (h ∷ []) []) ≡ cond b (h.mapping ∷ []) []
-      by true = refl
-      by false = refl
-
-  counts_one : is_live_of router now h ≡ true → Counts (take (i + 1) rows) router now (count + 1) (bytes + length (written h.mapping))
-  counts_one is =
-      let now_is : live_of (take (i + 1) rows) router now ≡ live_of (take i rows) router now ++ h.mapping ∷ [] = grown ∙ ap (λ (l : List MapRecordValue). live_of (take i rows) router now ++ l) (alone true is) in
-      let longer = ap length now_is ∙ length-append (live_of (take i rows) router now) (h.mapping ∷ []) in
-      let larger = ap size now_is ∙ sum_by-append (λ m. length (written m)) (live_of (take i rows) router now) (h.mapping ∷ []) in
-      record { records = omega (arith, longer, so_far.records); written = omega (arith, larger, so_far.written) }
-
-  counts_none : is_live_of router now h ≡ false → Counts (take (i + 1) rows) router now count bytes
-  counts_none is =
-      let now_is : live_of (take (i + 1) rows) router now ≡ live_of (take i rows) router now ++ [] = grown ∙ ap (λ (l : List MapRecordValue). live_of (take i rows) router now ++ l) (alone false is) in
-      let longer = ap length now_is ∙ length-append (live_of (take i rows) router now) [] in
-      let larger = ap size now_is ∙ sum_by-append (λ m. length (written m)) (live_of (take i rows) router now) [] in
-      record { records = omega (arith, longer, so_far.records); written = omega (arith, larger, so_far.written) }
+  counts_more : (extra : List MapRecordValue) (more bigger : ℕ) → live_of (h ∷ []) router now ≡ extra → more ≡ count + length extra → bigger ≡ bytes + size extra → Counts (take (i + 1) rows) router now more bigger
+  counts_more extra more bigger is more_is bigger_is =
+      let now_is : live_of (take (i + 1) rows) router now ≡ live_of (take i rows) router now ++ extra = grown ∙ ap (λ (l : List MapRecordValue). live_of (take i rows) router now ++ l) is in
+      let longer = ap length now_is ∙ length-append (live_of (take i rows) router now) extra in
+      let larger = ap size now_is ∙ sum_by-append (λ m. length (written m)) (live_of (take i rows) router now) extra in
+      record { records = omega (arith, longer, so_far.records, more_is); written = omega (arith, larger, so_far.written, bigger_is) }
 
   pub counts_next : (more bigger : ℕ) → ((is_live_of router now h ≡ true) × (more ≡ count + 1) × (bigger ≡ bytes + length (written h.mapping))) ⊎ ((is_live_of router now h ≡ false) × (more ≡ count) × (bigger ≡ bytes)) → Counts (take (i + 1) rows) router now more bigger
-  counts_next more bigger (inl (is, more_is, bigger_is)) = rw (more_is, bigger_is) (counts_one is)
-  counts_next more bigger (inr (is, more_is, bigger_is)) = rw (more_is, bigger_is) (counts_none is)
+  counts_next more bigger (inl (is, more_is, bigger_is)) = counts_more (h.mapping ∷ []) more bigger (live_one h router now ∙ cond-true (is_live_of router now h) (h.mapping ∷ []) [] is) (omega (arith, more_is)) (omega (arith, bigger_is))
+  counts_next more bigger (inr (is, more_is, bigger_is)) = counts_more [] more bigger (live_one h router now ∙ cond-false (is_live_of router now h) (h.mapping ∷ []) [] is) (omega (arith, more_is)) (omega (arith, bigger_is))
 
 -- rows of one router are of different prefixes
 apart : (rows : List RowValue) (router : RouterId) → OneEach rows → All (λ h. h.router ≡ router) rows → AllPairs (λ a b. a.eid ≢ b.eid) (map (λ h. h.mapping) rows)
@@ -83,26 +72,14 @@ apart (x ∷ xs) router one its = λ i j d before lt same. (
     let router = its i x earlier ∙ sym (its j x within) in
     one i j x before within (λ k. (router k, eid k)))
 
-first_of : (a b : Bool) → (a && b) ≡ true → a ≡ true
-first_of true b t = refl
-first_of false b t = absurd (true≢false (sym t))
-
 its_router : (rows : List RowValue) (router : RouterId) (now : ℕ) → All (λ h. h.router ≡ router) (filter (is_live_of router now) rows)
-its_router rows router now i d lt = (router_eq-Decides (slice_index_or (filter (is_live_of router now) rows) i d).router router).0 (first_of _ _ (filter_passes (is_live_of router now) rows i d lt))
+its_router rows router now i d lt = (router_eq-Decides (slice_index_or (filter (is_live_of router now) rows) i d).router router).0 (and_parts _ _ (filter_passes (is_live_of router now) rows i d lt)).0
 
 differ : (rows : List RowValue) (router : RouterId) (now : ℕ) → OneEach rows → AllPairs (λ a b. a.eid ≢ b.eid) (live_of rows router now)
 differ rows router now one = apart (filter (is_live_of router now) rows) router (AllPairs-filter (λ a b. row_key a ≢ row_key b) (is_live_of router now) rows one) (its_router rows router now)
 
-not_leb : (a b : ℕ) → b < a → nat_le a b ≡ false
-not_leb a b above = not_true (nat_le a b) (λ t. let le = leb-true a b t in omega (arith, le, above))
-
 large : (ms : List MapRecordValue) → (255 < length ms) ⊎ (16384 < size ms) → fits_message ms ≡ false
-large ms (inl many) = rw (not_leb (length ms) 255 many) refl
-large ms (inr long) = rw (not_leb (size ms) 16384 long) (either_way (nat_le (length ms) 255))
-  where
-    either_way : (b : Bool) → (b && false) ≡ false
-    either_way true = refl
-    either_way false = refl
+large ms over = grind (arith, nat_tests)
 
 fitting : (ms : List MapRecordValue) → length ms ≤ 255 → size ms ≤ 16384 → fits_message ms ≡ true
 fitting ms few small = rw (le-leb (length ms) 255 few, le-leb (size ms) 16384 small) refl
@@ -113,14 +90,12 @@ counts_all rows i router now count bytes past counts = subst (λ (l : List RowVa
 
 -- too many of the first rows are too many of all
 pub too_large : (rows : List RowValue) (k : ℕ) (router : RouterId) (now count bytes : ℕ) → Counts (take k rows) router now count bytes → (255 < count) ⊎ (16384 < bytes) → fits_message (live_of rows router now) ≡ false
-too_large rows k router now count bytes counts over = large (live_of rows router now) (all over)
+too_large rows k router now count bytes counts over = large (live_of rows router now) (on_either over
+    (λ many. inl (let longer = ap length split ∙ length-append (live_of (take k rows) router now) (live_of (drop k rows) router now) in omega (arith, many, counts.records, longer)))
+    (λ long. inr (let larger = ap size split ∙ sum_by-append (λ m. length (written m)) (live_of (take k rows) router now) (live_of (drop k rows) router now) in omega (arith, long, counts.written, larger))))
   where
     split : live_of rows router now ≡ live_of (take k rows) router now ++ live_of (drop k rows) router now
     split = ap (λ (l : List RowValue). live_of l router now) (sym (take-append-drop k rows)) ∙ live_both (take k rows) (drop k rows) router now
-
-    all : (255 < count) ⊎ (16384 < bytes) → (255 < length (live_of rows router now)) ⊎ (16384 < size (live_of rows router now))
-    all (inl many) = inl (let longer = ap length split ∙ length-append (live_of (take k rows) router now) (live_of (drop k rows) router now) in omega (arith, many, counts.records, longer))
-    all (inr long) = inr (let larger = ap size split ∙ sum_by-append (λ m. length (written m)) (live_of (take k rows) router now) (live_of (drop k rows) router now) in omega (arith, long, counts.written, larger))
 
 -- one message can carry few and short records
 pub fits : (rows : List RowValue) (router : RouterId) (now count bytes : ℕ) → Counts rows router now count bytes → count ≤ 255 → bytes ≤ 16384 → fits_message (live_of rows router now) ≡ true
@@ -142,7 +117,7 @@ unfolding row_at
 some_row rows router now some = first (filter (is_live_of router now) rows) refl
   where
     its : (x : RowValue) → is_live_of router now x ≡ true → x.router ≡ router
-    its x live = (router_eq-Decides x.router router).0 (first_of _ _ live)
+    its x live = (router_eq-Decides x.router router).0 (and_parts _ _ live).0
 
     there : (x : RowValue) → Contains rows x → x.router ≡ router → row_at rows router x.mapping.eid ≢ None
     there x c own = found (is_row_of router x.mapping.eid) rows c.0 x c.1 ((has_key (router, x.mapping.eid) (slice_index_or rows c.0 x)).1 (ap row_key c.2 ∙ ap (λ (r : RouterId). (r, x.mapping.eid)) own))
@@ -162,25 +137,18 @@ pub copies_next : (rows : List RowValue) (i : ℕ) (h : RowValue) (router : Rout
     → old ≡ live_of (take i rows) router now
     → ((is_live_of router now h ≡ true) × (new ≡ old ++ h.mapping ∷ [])) ⊎ ((is_live_of router now h ≡ false) × (new ≡ old ++ []))
     → new ≡ live_of (take (i + 1) rows) router now
-copies_next rows i h router now old new within at so_far moved = either moved ∙ sym (ap (λ (l : List RowValue). live_of l router now) (taken rows i h within at) ∙ live_both (take i rows) (h ∷ []) router now)
-  where
-    alone : (b : Bool) → is_live_of router now h ≡ b → live_of (h ∷ []) router now ≡ map (λ (h : RowValue). h.mapping) (cond b (h ∷ []) [])
-    alone b is = ap (λ (b : Bool). map (λ (h : RowValue). h.mapping) (cond b (h ∷ []) [])) is
-
-    either : ((is_live_of router now h ≡ true) × (new ≡ old ++ h.mapping ∷ [])) ⊎ ((is_live_of router now h ≡ false) × (new ≡ old ++ [])) → new ≡ live_of (take i rows) router now ++ live_of (h ∷ []) router now
-    either (inl (is, grew)) = rw (alone true is, ← so_far) grew
-    either (inr (is, stayed)) = rw (alone false is, ← so_far) stayed
+copies_next rows i h router now old new within at so_far moved = on_either moved
+    (λ (is, grew). rw (live_one h router now, is, ← so_far) grew)
+    (λ (is, stayed). rw (live_one h router now, is, ← so_far) stayed) ∙ sym (ap (λ (l : List RowValue). live_of l router now) (taken rows i h within at) ∙ live_both (take i rows) (h ∷ []) router now)
 
 -- one row more of those that pass a test
 pub rows_next : (test : RowValue → Bool) (rows : List RowValue) (i : ℕ) (h : RowValue) (old new : List RowValue) → i < length rows → h ≡ slice_index_or rows i h → old ≡ filter test (take i rows) → ((test h ≡ true) × (new ≡ old ++ h ∷ [])) ⊎ ((test h ≡ false) × (new ≡ old)) → new ≡ filter test (take (i + 1) rows)
-rows_next test rows i h old new within at so_far either = by either
+rows_next test rows i h old new within at so_far either = on_either either
+    (λ (is, new_is). new_is ∙ ap (λ (l : List RowValue). l ++ h ∷ []) so_far ∙ sym (grown true is))
+    (λ (is, new_is). new_is ∙ so_far ∙ sym (grown false is ∙ append-nil (filter test (take i rows))))
   where
     grown : (b : Bool) → test h ≡ b → filter test (take (i + 1) rows) ≡ filter test (take i rows) ++ cond b (h ∷ []) []
     grown b is = filter_more test rows i h within ∙ ap (λ (x : RowValue). filter test (take i rows) ++ cond (test x) (x ∷ []) []) (sym at) ∙ ap (λ (b : Bool). filter test (take i rows) ++ cond b (h ∷ []) []) is
-
-    by : ((test h ≡ true) × (new ≡ old ++ h ∷ [])) ⊎ ((test h ≡ false) × (new ≡ old)) → new ≡ filter test (take (i + 1) rows)
-    by (inl (is, new_is)) = new_is ∙ ap (λ (l : List RowValue). l ++ h ∷ []) so_far ∙ sym (grown true is)
-    by (inr (is, new_is)) = new_is ∙ so_far ∙ sym (grown false is ∙ append-nil (filter test (take i rows)))
 
 -- where no row passes, none that is read does
 pub none_passes : (test : RowValue → Bool) (rows : List RowValue) (i : ℕ) (h : RowValue) → i < length rows → h ≡ slice_index_or rows i h → test h ≡ true → length (filter test rows) ≡ 0 → ⊥
@@ -196,40 +164,31 @@ none_recorded rows i h router now within at is none = none_passes (is_live_of ro
 
 module _ {X : Type 0} (p : X → Bool) where
   -- none passes
+  none_next : (x : X) (xs : List X) → (length xs ≤ position_or_len p xs → filter p xs ≡ []) → length (x ∷ xs) ≤ position_or_len p (x ∷ xs) → filter p (x ∷ xs) ≡ []
+  none_next x xs rest long = grind arith
+
   none_at : (xs : List X) → length xs ≤ position_or_len p xs → filter p xs ≡ []
   none_at [] long = refl
-  none_at (x ∷ xs) long = by (p x) (none_at xs) long
-    where
-      by : (b : Bool) → (length xs ≤ position_or_len p xs → filter p xs ≡ []) → suc (length xs) ≤ cond (not b) (1 + position_or_len p xs) 0 → cond b (x ∷ filter p xs) (filter p xs) ≡ []
-      by true rest le = absurd (omega (arith, le))
-      by false rest le = rest (omega (arith, le))
+  none_at (x ∷ xs) long = none_next x xs (none_at xs) long
 
   -- one does
-  first_at : (xs : List X) (d : X) → position_or_len p xs < length xs → filter p xs ≡ get_or xs (position_or_len p xs) d ∷ filter p (drop (suc (position_or_len p xs)) xs)
-  first_at [] d lt = absurd (omega (arith, lt))
-  first_at (x ∷ xs) d lt = by (p x) (first_at xs d) lt
-    where
-      one_more : suc (position_or_len p xs) ≡ 1 + position_or_len p xs
-      one_more = omega arith
+  abbrev BeginsAt : List X → ℕ → X → Type 0
+  BeginsAt xs k d = filter p xs ≡ get_or xs k d ∷ filter p (drop (suc k) xs)
 
-      by : (b : Bool) → (position_or_len p xs < length xs → filter p xs ≡ get_or xs (position_or_len p xs) d ∷ filter p (drop (suc (position_or_len p xs)) xs)) → cond (not b) (1 + position_or_len p xs) 0 < suc (length xs)
-          → cond b (x ∷ filter p xs) (filter p xs) ≡ get_or (x ∷ xs) (cond (not b) (1 + position_or_len p xs) 0) d ∷ filter p (drop (suc (cond (not b) (1 + position_or_len p xs) 0)) (x ∷ xs))
-      by true rest below = refl
-      by false rest below = subst (λ (k : ℕ). filter p xs ≡ get_or (x ∷ xs) k d ∷ filter p (drop (suc k) (x ∷ xs))) one_more (rest (omega (arith, below)))
+  first_next : (x : X) (xs : List X) (d : X) → (position_or_len p xs < length xs → BeginsAt xs (position_or_len p xs) d) → position_or_len p (x ∷ xs) < length (x ∷ xs) → BeginsAt (x ∷ xs) (position_or_len p (x ∷ xs)) d
+  first_next x xs d rest lt = grind arith
+
+  first_at : (xs : List X) (d : X) → position_or_len p xs < length xs → BeginsAt xs (position_or_len p xs) d
+  first_at [] d lt = absurd (omega (arith, lt))
+  first_at (x ∷ xs) d lt = first_next x xs d (first_at xs d) lt
 
   pub none_at_place : (xs : List X) → position p xs ≡ None → filter p xs ≡ []
-  none_at_place xs none = by (nat_lt (position_or_len p xs) (length xs)) refl none
-    where
-      by : (b : Bool) → nat_lt (position_or_len p xs) (length xs) ≡ b → cond b (Some (position_or_len p xs)) None ≡ None → filter p xs ≡ []
-      by true e none = (let clash : ◌≡◌ {A = Option ℕ} (Some (position_or_len p xs)) None = none in absurd cc)
-      by false e none = none_at xs (ltb-false _ _ e)
+  none_at_place xs none = none_at xs (grind (arith, nat_tests))
 
-  pub first_passes : (xs : List X) (k : ℕ) (d : X) → position p xs ≡ Some k → k < length xs → filter p xs ≡ get_or xs k d ∷ filter p (drop (suc k) xs)
-  first_passes xs k d some lt = by (nat_lt (position_or_len p xs) (length xs)) some
-    where
-      by : (b : Bool) → cond b (Some (position_or_len p xs)) None ≡ Some k → filter p xs ≡ get_or xs k d ∷ filter p (drop (suc k) xs)
-      by true same = (let is : position_or_len p xs ≡ k = cc in subst (λ (n : ℕ). filter p xs ≡ get_or xs n d ∷ filter p (drop (suc n) xs)) is (first_at xs d (omega (arith, lt, is))))
-      by false none = (let clash : ◌≡◌ {A = Option ℕ} None (Some k) = none in absurd cc)
+  pub first_passes : (xs : List X) (k : ℕ) (d : X) → position p xs ≡ Some k → k < length xs → BeginsAt xs k d
+  first_passes xs k d some lt =
+      let is : position_or_len p xs ≡ k = (cond_some (nat_lt (position_or_len p xs) (length xs)) (position_or_len p xs) k some).1 in
+      subst (λ (n : ℕ). BeginsAt xs n d) is (first_at xs d (omega (arith, lt, is)))
 
 -- all from a place on, of which there are so many
 pub rest_of : {X : Type 0} (xs : List X) (at : ℕ) → at ≤ length xs → slice_range xs at (length xs) ≡ drop at xs

@@ -1,5 +1,5 @@
 -- The order of rows is total, and only rows of one router and prefix tie.
-use Rattle.std.proofs.Common.{◌≡◌, ℕ, refl, ap, subst}
+use Rattle.std.proofs.Common.{◌≡◌, ap}
 use Rattle.std.proofs.lemmas.Map.Lookups.{exact_pairs, exact_unsigned, exact_bytes}
 use Rattle.std.specs.Cmp.{IsTotalOrder, on_total, then_total, nat_cmp_total}
 use Rattle.std.specs.Cmp.Lexicographic.{slice_cmp, nat_list_cmp_total}
@@ -9,34 +9,14 @@ use Rattle.std.specs.declared.cmp.Ordering.TheVariants.{Equal}
 use Rattle.lisp_records.specs.declared.address.Addr.{Addr}
 use Rattle.lisp_records.specs.declared.address.Addr.TheVariants.{V4, V6}
 use Rattle.lisp_records.specs.declared.router.RouterId.{RouterId}
-use Rattle.lisp_records.specs.Address.{PrefixValue, octets, addr_cmp, prefix_cmp}
+use Rattle.lisp_records.specs.Address.{PrefixValue, addr_cmp, prefix_cmp}
 use Rattle.lisp_records.specs.Router.{router_cmp}
-
--- IPv4 before IPv6
-abbrev family_number : Addr → ℕ
-family_number (V4 _) = 0
-family_number (V6 _) = 1
-
-abbrev by_parts : Addr → Addr → Ordering
-by_parts a b = ordering_then (nat_cmp (family_number a) (family_number b)) (slice_cmp nat_cmp (octets a) (octets b))
-
-same_order : (a b : Addr) → by_parts a b ≡ addr_cmp a b
-same_order (V4 a) (V4 b) = refl
-same_order (V4 a) (V6 b) = refl
-same_order (V6 a) (V4 b) = refl
-same_order (V6 a) (V6 b) = refl
-
-pub addr_total : IsTotalOrder addr_cmp
-addr_total = subst (λ (R : Addr → Addr → Ordering). IsTotalOrder R) (λ i a b. same_order a b i) (then_total (on_total family_number nat_cmp_total) (on_total octets nat_list_cmp_total))
+pub use Rattle.lisp_records.proofs.RisingLaws.{addr_total, block_total}
 
 same_addr : (a b : Addr) → addr_cmp a b ≡ Equal → a ≡ b
 same_addr (V4 a) (V4 b) tie = ap V4 (exact_bytes a b tie)
-same_addr (V4 a) (V6 b) tie = absurd cc
-same_addr (V6 a) (V4 b) tie = absurd cc
 same_addr (V6 a) (V6 b) tie = ap V6 (exact_bytes a b tie)
-
-pub block_total : IsTotalOrder prefix_cmp
-block_total = then_total (on_total (λ (b : PrefixValue). b.addr) addr_total) (on_total (λ (b : PrefixValue). b.mask_len) nat_cmp_total)
+same_addr _ _ tie = absurd cc
 
 pub same_block : (a b : PrefixValue) → prefix_cmp a b ≡ Equal → a ≡ b
 same_block a b tie =

@@ -1,17 +1,18 @@
 -- What deadlines say of rows, and what is left once the dead ones are taken out.
-use Rattle.std.proofs.Common.{◌≡◌, ◌≢◌, ◌⊎◌, inl, inr, ℕ, zero, suc, ◌+◌, ◌-◌, ◌<◌, ◌≤◌, ◌==◌, ◌^◌, min, nat_lt, Bool, true, false, cond, List, [], ◌∷◌, ◌++◌, length, slice_index, slice_index_or, Option, Some, None, refl, sym, ap, ◌∙◌, subst, true≢false, arith, slice_set, IfSome, map}
-use Rattle.std.proofs.lemmas.Bool.{cases_eq, cases_order, le-leb, lt-leb}
-use Rattle.std.proofs.lemmas.Bool.Decides.{Decides-eqb, Decides-ltb, leb_tells}
+use Rattle.std.proofs.Common.{◌≡◌, ◌≢◌, ◌⊎◌, inl, inr, ℕ, zero, suc, ◌+◌, ◌-◌, ◌<◌, ◌≤◌, min, Bool, true, false, cond, List, [], ◌∷◌, ◌++◌, length, slice_index, slice_index_or, Option, Some, None, refl, sym, ap, ◌∙◌, subst, true≢false, arith, slice_set, IfSome, map}
+use Rattle.std.proofs.lemmas.Bool.{cases_eq, cases_order, lt-leb}
+use Rattle.std.proofs.lemmas.Bool.Decides.{nat_tests}
 use Rattle.std.proofs.lemmas.List.{get_or_default, get_or-append-add, length-append, get_or_append_left, get_or_push, length_push, length-set, get_or-set_same, get_or-set_other, get_or-map, length-map}
 use Rattle.std.proofs.lemmas.List.Elements.{All-nil, All-push, All-contains, Contains-append_cases, Contains-append_right}
 use Rattle.std.proofs.lemmas.List.Sorted.{length_permutation, IsPermutation-refl, IsPermutation-sym, IsPermutation-pop_more, Contains-permutation, IsPermutation-trans, IsPermutation-cons, IsPermutation-remove, sum_by-IsPermutation}
 use Rattle.std.proofs.lemmas.List.Quantifiers.{position-Some, all_pairs_remove}
 use Rattle.std.proofs.lemmas.List.Sums.{length-filter}
+use Rattle.std.proofs.lemmas.Map.Made.{Contains-tail}
 use Rattle.std.specs.List.{All, Contains, position, AllPairs, count_by, filter, remove}
 use Rattle.std.specs.List.Sorted.{IsPermutation}
 use Rattle.std.specs.Ordering.{nat_cmp, ordering_then, is_lt}
 use Rattle.std.specs.declared.cmp.Ordering.{Ordering}
-use Rattle.std.specs.declared.cmp.Ordering.TheVariants.{Less, Equal, Greater}
+use Rattle.std.specs.declared.cmp.Ordering.TheVariants.{Less, Equal}
 use Rattle.std.specs.declared.vec.Vec.{Vec}
 use Rattle.std.specs.declared.collections.VecDeque.{VecDeque}
 use Rattle.std.specs.Prelude.{nat_le}
@@ -28,33 +29,20 @@ use Rattle.lisp_lookup.specs.declared.order.Order.{Order}
 use Rattle.lisp_lookup.specs.declared.probe.Probe.{Probe}
 use Rattle.lisp_lookup.specs.Room.{spare_of}
 use Rattle.lisp_lookup.proofs.IndexLaws.{number_at, prefix_total, itself, order_total, rises_same, exact}
-use Rattle.lisp_policy.proofs.Found.{not_true, nowhere}
+use Rattle.lisp_policy.proofs.Found.{nowhere}
 use Rattle.lisp_lookup.proofs.TableLaws.{has_key, differ_moved, found_own, found_holds, filtered_holds, filter_holds, alive_of, one_each_alive, expires, either_way}
-use Rattle.lisp_lookup.proofs.Apart.{found}
-
-by_life : (accepted life now : ℕ) (none : Bool) → (life == 0) ≡ none → cond none 0 (min (accepted + life) (2 ^ 64 - 1)) ≤ now → now ≤ max_moment → nat_lt (now - accepted) life ≡ false
-by_life accepted life now true is le early = not_true (nat_lt (now - accepted) life) (λ less. (let nothing = (Decides-eqb life 0).0 is in omega (arith, nothing, (Decides-ltb (now - accepted) life).0 less)))
-by_life accepted life now false is le early = not_true (nat_lt (now - accepted) life) (λ less. omega (arith, le, early, (Decides-ltb (now - accepted) life).0 less))
+use Rattle.lisp_lookup.proofs.Apart.{on_either, found}
 
 -- a row whose deadline has come is dead
 pub dead : (h : RowValue) (now : ℕ) → deadline h ≤ now → now ≤ max_moment → is_alive h now ≡ false
-dead h now le early = by_life h.accepted h.life now (h.life == 0) refl le early
-
-until : (accepted life now : ℕ) (none : Bool) → (life == 0) ≡ none → now < cond none 0 (min (accepted + life) (2 ^ 64 - 1)) → nat_lt (now - accepted) life ≡ true
-until accepted life now true is lt = absurd (omega (arith, lt))
-until accepted life now false is lt = (Decides-ltb (now - accepted) life).1 (let some : life ≢ 0 = λ nothing. true≢false (sym ((Decides-eqb life 0).1 nothing) ∙ is) in omega (arith, lt, some))
+dead h now le early = grind (arith, nat_tests)
 
 -- a row whose deadline hasn't come is alive
 pub alive : (h : RowValue) (now : ℕ) → now < deadline h → is_alive h now ≡ true
-alive h now lt = until h.accepted h.life now (h.life == 0) refl lt
-
-number_case : (a b : ℕ) (less same : Bool) (second : Ordering) → nat_lt a b ≡ less → (a == b) ≡ same → ordering_then (cond less Less (cond same Equal Greater)) second ≡ Less → a ≤ b
-number_case a b true same second is tie below = omega (arith, (Decides-ltb a b).0 is)
-number_case a b false true second is tie below = omega (arith, (Decides-eqb a b).0 tie)
-number_case a b false false second is tie below = absurd cc
+alive h now lt = grind (arith, nat_tests)
 
 number_le : (a b : ℕ) (second : Ordering) → ordering_then (nat_cmp a b) second ≡ Less → a ≤ b
-number_le a b second = number_case a b (nat_lt a b) (a == b) second refl refl
+number_le a b second below = grind (arith, nat_tests)
 
 module _ (rows : List RowValue) (numbers : List ℕ) (index : IsIndex row_deadline_cmp rows numbers) (number : ℕ) (some : 0 < length numbers) (first : number ≡ slice_index_or numbers 0 number) where
   named : slice_index numbers 0 ≡ number
@@ -65,14 +53,11 @@ module _ (rows : List RowValue) (numbers : List ℕ) (index : IsIndex row_deadli
   sooner n d lt =
       let (k, lt_k, at) = index.each n lt in
       let is : slice_index numbers k ≡ n = number_at numbers k n lt_k at in
-      either k lt_k is (cases_eq k 0)
-    where
-      either : (k : ℕ) → k < length numbers → slice_index numbers k ≡ n → (k ≡ 0) ⊎ (k ≢ 0) → deadline (slice_index_or rows number d) ≤ deadline (slice_index_or rows n d)
-      either k lt_k is (inl at) = (let same : number ≡ n = sym named ∙ ap (λ (j : ℕ). slice_index numbers j) (sym at) ∙ is in omega (arith, ap (λ (m : ℕ). deadline (slice_index_or rows m d)) same))
-      either k lt_k is (inr off) =
-          let rising = index.rises.rising 0 k d (omega (arith, off)) lt_k in
-          let le = number_le (deadline (row_at_place rows numbers 0 d)) (deadline (row_at_place rows numbers k d)) (row_prefix_cmp (row_at_place rows numbers 0 d) (row_at_place rows numbers k d)) rising in
-          omega (arith, le, ap (λ (m : ℕ). deadline (slice_index_or rows m d)) named, ap (λ (m : ℕ). deadline (slice_index_or rows m d)) is)
+      on_either (cases_eq k 0) (λ same. omega (arith, ap (λ (m : ℕ). deadline (slice_index_or rows m d)) (sym named ∙ ap (λ (j : ℕ). slice_index numbers j) (sym same) ∙ is)))
+      (λ off.
+      (let rising = index.rises.rising 0 k d (omega (arith, off)) lt_k in
+      let le = number_le (deadline (row_at_place rows numbers 0 d)) (deadline (row_at_place rows numbers k d)) (row_prefix_cmp (row_at_place rows numbers 0 d) (row_at_place rows numbers k d)) rising in
+      omega (arith, le, ap (λ (m : ℕ). deadline (slice_index_or rows m d)) named, ap (λ (m : ℕ). deadline (slice_index_or rows m d)) is)))
 
   -- where the first by deadline is alive, each row is
   pub all_alive : (now : ℕ) (x : RowValue) → x ≡ slice_index_or rows number x → now < deadline x → All (λ h. is_alive h now ≡ true) rows
@@ -111,10 +96,10 @@ own_row : (rows : List RowValue) (router : RouterId) (eid : PrefixValue) (h : Ro
 own_row rows router eid h one held own = subst (λ (k : RouterId × PrefixValue). row_at rows k.0 k.1 ≡ Some h) ((has_key (router, eid) h).0 own) (found_own rows h one held)
 
 -- equal rows in another order are found alike
-module _ (xs ys : List RowValue) (one_x : OneEach xs) (one_y : OneEach ys) (there : (h : RowValue) → Contains xs h → Contains ys h) (back : (h : RowValue) → Contains ys h → Contains xs h) (router : RouterId) (eid : PrefixValue) where
+module _ (xs ys : List RowValue) (one_x : OneEach xs) (one_y : OneEach ys) (router : RouterId) (eid : PrefixValue) (there : (h : RowValue) → Contains xs h → is_row_of router eid h ≡ true → Contains ys h) (back : (h : RowValue) → Contains ys h → is_row_of router eid h ≡ true → Contains xs h) where
   by_case : (x y : Option RowValue) → row_at xs router eid ≡ x → row_at ys router eid ≡ y → row_at xs router eid ≡ row_at ys router eid
-  by_case (Some h) y e f = (let at = row_found xs router eid h e in e ∙ sym (own_row ys router eid h one_y (there h at.0) at.1))
-  by_case None (Some h) e f = (let at = row_found ys router eid h f in own_row xs router eid h one_x (back h at.0) at.1 ∙ sym f)
+  by_case (Some h) y e f = (let at = row_found xs router eid h e in e ∙ sym (own_row ys router eid h one_y (there h at.0 at.1) at.1))
+  by_case None (Some h) e f = (let at = row_found ys router eid h f in own_row xs router eid h one_x (back h at.0 at.1) at.1 ∙ sym f)
   by_case None None e f = e ∙ sym f
 
   pub found_alike : row_at xs router eid ≡ row_at ys router eid
@@ -122,20 +107,17 @@ module _ (xs ys : List RowValue) (one_x : OneEach xs) (one_y : OneEach ys) (ther
 
 -- dead rows were taken out, and the rest is alive
 pub expired : (old gone new : List RowValue) (now : ℕ) → OneEach old → OneEach new → IsPermutation old (gone ++ new) → All (λ h. is_alive h now ≡ false) gone → All (λ h. is_alive h now ≡ true) new → Expires old new now
-expired old gone new now one_old one_new moved dead_gone alive_new router eid = found_alike new (alive_of old now) one_new (one_each_alive old now one_old) there back router eid ∙ expires old now one_old router eid
+expired old gone new now one_old one_new moved dead_gone alive_new router eid = found_alike new (alive_of old now) one_new (one_each_alive old now one_old) router eid there back ∙ expires old now one_old router eid
   where
-    there : (h : RowValue) → Contains new h → Contains (alive_of old now) h
-    there h held = filter_holds (λ h. is_alive h now) old h (Contains-permutation (gone ++ new) old h (IsPermutation-sym old (gone ++ new) moved) (Contains-append_right gone new h held)) (All-contains (λ h. is_alive h now ≡ true) new h alive_new held)
+    there : (h : RowValue) → Contains new h → is_row_of router eid h ≡ true → Contains (alive_of old now) h
+    there h held own = filter_holds (λ h. is_alive h now) old h (Contains-permutation (gone ++ new) old h (IsPermutation-sym old (gone ++ new) moved) (Contains-append_right gone new h held)) (All-contains (λ h. is_alive h now ≡ true) new h alive_new held)
 
-    back : (h : RowValue) → Contains (alive_of old now) h → Contains new h
-    back h held = either (Contains-append_cases gone new h (Contains-permutation old (gone ++ new) h moved was.0))
+    back : (h : RowValue) → Contains (alive_of old now) h → is_row_of router eid h ≡ true → Contains new h
+    back h held own = on_either (Contains-append_cases gone new h (Contains-permutation old (gone ++ new) h moved was.0))
+        (λ dropped. absurd (true≢false (sym was.1 ∙ All-contains (λ h. is_alive h now ≡ false) gone h dead_gone dropped))) (λ stays. stays)
       where
         was : Contains old h × (is_alive h now ≡ true)
         was = filtered_holds (λ h. is_alive h now) old h held
-
-        either : Contains gone h ⊎ Contains new h → Contains new h
-        either (inl dropped) = absurd (true≢false (sym was.1 ∙ All-contains (λ h. is_alive h now ≡ false) gone h dead_gone dropped))
-        either (inr stays) = stays
 
 -- rows that were taken out so far, each of them dead
 pub record Dropped (old new : List RowValue) (now : ℕ) : Type 0 where
@@ -165,8 +147,8 @@ dropped_all old new now one so_far rest = expired old so_far.gone new now one (o
 
 -- one row was taken out, which was dead
 module _ (old new : List RowValue) (now : ℕ) (h : RowValue) (one : OneEach old) (moved : IsPermutation old (h ∷ new)) (is : is_alive h now ≡ false) where
-  one_new : OneEach new
-  one_new = one_left old new now one (record { gone = h ∷ []; moved = moved; all_dead = All-push (λ x. is_alive x now ≡ false) [] h (All-nil (λ x. is_alive x now ≡ false)) is })
+  pub one_each_left : OneEach new
+  one_each_left = one_left old new now one (record { gone = h ∷ []; moved = moved; all_dead = All-push (λ x. is_alive x now ≡ false) [] h (All-nil (λ x. is_alive x now ≡ false)) is })
 
   was_there : (x : RowValue) → Contains (h ∷ new) x → Contains old x
   was_there x = Contains-permutation (h ∷ new) old x (IsPermutation-sym old (h ∷ new) moved)
@@ -181,20 +163,10 @@ module _ (old new : List RowValue) (now : ℕ) (h : RowValue) (one : OneEach old
 
   module _ (router : RouterId) (eid : PrefixValue) (other : (router, eid) ≢ row_key h) where
     stays : (x : RowValue) → Contains old x → is_row_of router eid x ≡ true → Contains new x
-    stays x held own = either (Contains-append_cases (h ∷ []) new x (Contains-permutation old (h ∷ new) x moved held))
-      where
-        either : Contains (h ∷ []) x ⊎ Contains new x → Contains new x
-        either (inl (k, lt, at)) = absurd (other (sym ((has_key (router, eid) x).0 own) ∙ ap row_key (single k lt at)))
-          where
-            single : (k : ℕ) → k < length (h ∷ []) → slice_index_or (h ∷ []) k x ≡ x → x ≡ h
-            single zero lt at = sym at
-            single (suc k) lt at = absurd (omega (arith, lt))
-        either (inr left) = left
+    stays x held own = Contains-tail h new x (λ same. other (sym ((has_key (router, eid) x).0 own) ∙ ap row_key (sym same))) (Contains-permutation old (h ∷ new) x moved held)
 
-    by_row : (was left : Option RowValue) → row_at old router eid ≡ was → row_at new router eid ≡ left → row_at new router eid ≡ row_at old router eid
-    by_row (Some x) left e f = (let at = row_found old router eid x e in own_row new router eid x one_new (stays x at.0 at.1) at.1 ∙ sym e)
-    by_row None (Some x) e f = (let at = row_found new router eid x f in f ∙ sym (own_row old router eid x one (was_there x (Contains-append_right (h ∷ []) new x at.0)) at.1))
-    by_row None None e f = f ∙ sym e
+    others : row_at new router eid ≡ row_at old router eid
+    others = found_alike new old one_each_left one router eid (λ x held own. was_there x (Contains-append_right (h ∷ []) new x held)) stays
 
   pub drops_dead : DropsDead old new now (row_key h)
   drops_dead = record {
@@ -203,11 +175,8 @@ module _ (old new : List RowValue) (now : ℕ) (h : RowValue) (one : OneEach old
     dead = is;
     gone = taken (row_at new h.router h.mapping.eid) refl;
     fewer = omega (arith, length_permutation old (h ∷ new) moved);
-    others = λ router eid other. by_row router eid other (row_at old router eid) (row_at new router eid) refl refl;
+    others = others;
   }
-
-  pub one_each_left : OneEach new
-  one_each_left = one_new
 
 -- ---- What setting a row does to the orders of rows.
 
@@ -228,12 +197,9 @@ module _ (order : Order) (rows : List RowValue) (old mid : List ℕ) (number : �
   pub index_over : (new : List ℕ) → IsIndex (order_cmp order) rows old → IsPutIn order over mid new number → IsIndex (order_cmp order) over new
   index_over new index entered = record {
     rises = entered.rises;
-    each = λ n lt. each n (omega (arith, lt, length-set rows number row)) (cases_eq n number);
+    each = λ n lt. on_either (cases_eq n number) (λ at. subst (Contains new) (sym at) entered.here)
+        (λ off. entered.others n (left.others n (index.each n (omega (arith, lt, length-set rows number row))) off));
   }
-    where
-      each : (n : ℕ) → n < length rows → (n ≡ number) ⊎ (n ≢ number) → Contains new n
-      each n lt (inl at) = subst (Contains new) (sym at) entered.here
-      each n lt (inr off) = entered.others n (left.others n (index.each n lt) off)
 
 -- the order by prefix doesn't change where a row of the same router and prefix is set
 pub prefixes_over : (rows : List RowValue) (numbers : List ℕ) (number : ℕ) (row : RowValue) → number < length rows → row_key (slice_index_or rows number row) ≡ row_key row → IsIndex row_prefix_cmp rows numbers → IsIndex row_prefix_cmp (slice_set rows number row) numbers
@@ -268,12 +234,9 @@ module _ (order : Order) (rows : List RowValue) (numbers : List ℕ) (row : RowV
   pub index_more : (new : List ℕ) → IsPutIn order more numbers new (length rows) → IsIndex (order_cmp order) more new
   index_more new entered = record {
     rises = entered.rises;
-    each = λ n lt. each n (omega (arith, lt, length_push rows row)) (cases_eq n (length rows));
+    each = λ n lt. on_either (cases_eq n (length rows)) (λ at. subst (Contains new) (sym at) entered.here)
+        (λ off. entered.others n (index.each n (omega (arith, lt, length_push rows row, off))));
   }
-    where
-      each : (n : ℕ) → n < length rows + 1 → (n ≡ length rows) ⊎ (n ≢ length rows) → Contains new n
-      each n lt (inl at) = subst (Contains new) (sym at) entered.here
-      each n lt (inr off) = entered.others n (index.each n (omega (arith, lt, off)))
 
 -- a number whose row is of a router and a prefix is that of their row
 module _ (rows : List RowValue) (numbers : List ℕ) (row : RowValue) (index : IsIndex row_prefix_cmp rows numbers) where
@@ -339,18 +302,10 @@ same_members {X} (x ∷ xs) ys apart_x apart_y there back = IsPermutation-trans 
     apart_rest = differ_moved (λ (y : X). y) ys (x ∷ rest) moved apart_y
 
     there_rest : (z : X) → Contains xs z → Contains rest z
-    there_rest z (k, lt, is) = tail (Contains-permutation ys (x ∷ rest) z moved (there z (suc k, omega (arith, lt), is)))
-      where
-        tail : Contains (x ∷ rest) z → Contains rest z
-        tail (zero, lt_0, same) = absurd (apart_x 0 (suc k) z (omega arith) (omega (arith, lt)) (same ∙ sym is))
-        tail (suc m, lt_m, same) = (m, omega (arith, lt_m), same)
+    there_rest z (k, lt, is) = Contains-tail x rest z (λ same. apart_x 0 (suc k) z (omega arith) (omega (arith, lt)) (same ∙ sym is)) (Contains-permutation ys (x ∷ rest) z moved (there z (suc k, omega (arith, lt), is)))
 
     back_rest : (z : X) → Contains rest z → Contains xs z
-    back_rest z (k, lt, is) = tail (back z (Contains-permutation (x ∷ rest) ys z (IsPermutation-sym ys (x ∷ rest) moved) (suc k, omega (arith, lt), is)))
-      where
-        tail : Contains (x ∷ xs) z → Contains xs z
-        tail (zero, lt_0, same) = absurd (apart_rest 0 (suc k) z (omega arith) (omega (arith, lt)) (same ∙ sym is))
-        tail (suc m, lt_m, same) = (m, omega (arith, lt_m), same)
+    back_rest z (k, lt, is) = Contains-tail x xs z (λ same. apart_rest 0 (suc k) z (omega arith) (omega (arith, lt)) (same ∙ sym is)) (back z (Contains-permutation (x ∷ rest) ys z (IsPermutation-sym ys (x ∷ rest) moved) (suc k, omega (arith, lt), is)))
 
 -- a test that passes before a place and not after it
 passes_split : {X : Type 0} (p : X → Bool) (xs : List X) (k : ℕ) → k ≤ length xs → ((i : ℕ) (d : X) → i < k → p (slice_index_or xs i d) ≡ true) → ((i : ℕ) (d : X) → k ≤ i → i < length xs → p (slice_index_or xs i d) ≡ false) → length (filter p xs) ≡ k
@@ -424,11 +379,8 @@ long_index (d ∷ rows) numbers index = long_numbers (d ∷ rows) numbers d inde
 -- ---- Room for rows: the least of three.
 
 -- room in all is room in each
-each_numbers : (rows rows_len prefixes prefixes_len deadlines deadlines_len spare : ℕ) → min (rows - rows_len) (min (prefixes - prefixes_len) (deadlines - deadlines_len)) ≡ spare → 0 < spare → (rows_len < rows) × (prefixes_len < prefixes) × (deadlines_len < deadlines)
-each_numbers rows rows_len prefixes prefixes_len deadlines deadlines_len spare is some = (omega (arith, is, some), omega (arith, is, some), omega (arith, is, some))
-
 pub room_each : {X Y Z : Type 0} (rows : Vec X Z) (prefixes deadlines : VecDeque Y Z) (spare : ℕ) → spare_of rows prefixes deadlines ≡ spare → 0 < spare → (vec_len rows < vec_capacity rows) × (deque_len prefixes < deque_capacity prefixes) × (deque_len deadlines < deque_capacity deadlines)
-room_each rows prefixes deadlines spare is some = each_numbers (vec_capacity rows) (vec_len rows) (deque_capacity prefixes) (deque_len prefixes) (deque_capacity deadlines) (deque_len deadlines) spare is some
+room_each rows prefixes deadlines spare is some = (omega (arith, is, some), omega (arith, is, some), omega (arith, is, some))
 
 -- room in each is room in all
 pub room_all : (more rows rows_len prefixes prefixes_len deadlines deadlines_len : ℕ) → rows_len + more ≤ rows → prefixes_len + more ≤ prefixes → deadlines_len + more ≤ deadlines → more ≤ min (rows - rows_len) (min (prefixes - prefixes_len) (deadlines - deadlines_len))
@@ -444,11 +396,7 @@ room_read a b c d e f rows rows_len prefixes prefixes_len deadlines deadlines_le
 
 -- what fits the first two fits all where it fits the third
 pub fits_last : (more rows prefixes deadlines spare : ℕ) → min rows (min prefixes deadlines) ≡ spare → (more ≤ rows) × (more ≤ prefixes) → nat_le more deadlines ≡ nat_le more spare
-fits_last more rows prefixes deadlines spare is fits = either (leb_tells more deadlines)
-  where
-    either : ((nat_le more deadlines ≡ true) × (more ≤ deadlines)) ⊎ ((nat_le more deadlines ≡ false) × (deadlines < more)) → nat_le more deadlines ≡ nat_le more spare
-    either (inl (test, le)) = test ∙ sym (le-leb more spare (omega (arith, is, fits, le)))
-    either (inr (test, over)) = test ∙ sym (lt-leb more spare (omega (arith, is, over)))
+fits_last more rows prefixes deadlines spare is fits = grind (arith, nat_tests)
 
 -- what doesn't fit the first doesn't fit all, nor what fits the first and not the second
 pub fits_not_first : (more rows prefixes deadlines spare : ℕ) → min rows (min prefixes deadlines) ≡ spare → rows < more → nat_le more rows ≡ nat_le more spare

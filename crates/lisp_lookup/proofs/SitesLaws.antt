@@ -1,6 +1,6 @@
 -- How wide a prefix around an address is: tests that hold of it and of all longer ones.
-use Rattle.std.proofs.Common.{◌≡◌, ◌≢◌, ◌⊎◌, inl, inr, ℕ, ◌+◌, ◌<◌, ◌≤◌, Bool, true, false, nat_le, max, List, length, slice_index_or, sym, ap, ◌∙◌, subst, true≢false, arith, ◌↔◌, Option, Some, None, IfSome, refl}
-use Rattle.std.proofs.lemmas.Bool.{cases_eq, and_from, and_parts, le-leb, leb-true}
+use Rattle.std.proofs.Common.{◌≡◌, ◌≢◌, ◌⊎◌, inl, inr, ℕ, ◌+◌, ◌<◌, ◌≤◌, Bool, true, false, max, List, length, slice_index_or, sym, ap, ◌∙◌, subst, true≢false, arith, ◌↔◌, Option, Some, None, IfSome, refl}
+use Rattle.std.proofs.lemmas.Bool.{cases_eq, and_from}
 use Rattle.std.proofs.lemmas.List.{get_or_read}
 use Rattle.std.proofs.lemmas.List.Elements.{All-contains}
 use Rattle.std.specs.List.{All, Contains}
@@ -9,33 +9,23 @@ use Rattle.lisp_policy.specs.Site.{SiteValue}
 use Rattle.lisp_policy.specs.declared.site.SitePrefix.{SitePrefix}
 use Rattle.lisp_policy.proofs.Found.{not_true}
 use Rattle.lisp_records.specs.declared.address.Addr.{Addr}
-use Rattle.lisp_records.specs.Address.{PrefixValue, IsPrefix, addr_eq, cleared, covers, holds, max_len, prefix_around}
+use Rattle.lisp_records.specs.Address.{PrefixValue, IsPrefix, cleared, covers, holds, max_len, prefix_around}
 use Rattle.lisp_records.specs.Row.{RowValue, is_alive}
 use Rattle.lisp_records.proofs.AddressLemmas.{cleared-wider}
 use Rattle.lisp_lookup.specs.Hole.{IsWidest, KeepsBeside, IsEmptyIn, IsHole, IsHoleOf, KeepsSites}
 use Rattle.lisp_lookup.specs.Answer.{IsBestOf, NoneAnswers}
 use Rattle.lisp_lookup.proofs.BestLaws.{same_family}
-use Rattle.lisp_lookup.proofs.Blocks.{addr_is, is_addr}
-
--- what lies in a prefix lies in a wider one
-pub in_wider : (addr : Addr) (other : PrefixValue) (n m : ℕ) → m ≤ n → covers (prefix_around addr n) other ≡ true → covers (prefix_around addr m) other ≡ true
-in_wider addr other n m le covered =
-    let parts = and_parts (nat_le n other.mask_len) (addr_eq (cleared other.addr n) (cleared addr n)) covered in
-    let same = addr_is (cleared other.addr n) (cleared addr n) parts.1 in
-    let wider = sym (cleared-wider other.addr n m le) ∙ ap (λ (a : Addr). cleared a m) same ∙ cleared-wider addr n m le in
-    let long = leb-true n other.mask_len parts.0 in
-    and_from (nat_le m other.mask_len) (addr_eq (cleared other.addr m) (cleared addr m)) (le-leb m other.mask_len (omega (arith, long, le))) (is_addr (cleared other.addr m) (cleared addr m) wider)
+use Rattle.lisp_lookup.proofs.Blocks.{covers_is, holds_is}
+pub use Rattle.lisp_lookup.proofs.Blocks.{in_wider}
 
 -- what lies in the prefix of one address has it
 pub in_longest : (addr : Addr) (other : PrefixValue) → IsPrefix other → covers (prefix_around addr (max_len addr)) other ≡ true → holds other addr ≡ true
 in_longest addr other block covered =
-    let parts = and_parts (nat_le (max_len addr) other.mask_len) (addr_eq (cleared other.addr (max_len addr)) (cleared addr (max_len addr))) covered in
-    let same = addr_is (cleared other.addr (max_len addr)) (cleared addr (max_len addr)) parts.1 in
-    let long = leb-true (max_len addr) other.mask_len parts.0 in
+    let (long, same) = (covers_is (prefix_around addr (max_len addr)) other).0 covered in
     let family : max_len other.addr ≡ max_len addr = sym (same_family other.addr (max_len addr)) ∙ ap max_len same ∙ same_family addr (max_len addr) in
     let full : max_len addr ≡ other.mask_len = omega (arith, long, block.0, family) in
     let own : cleared addr other.mask_len ≡ other.addr = ap (cleared addr) (sym full) ∙ sym same ∙ ap (cleared other.addr) full ∙ block.1 in
-    is_addr (cleared addr other.mask_len) other.addr own
+    (holds_is other addr).1 own
 
 -- ---- another prefix doesn't lie in it
 
@@ -49,9 +39,9 @@ without addr other length was stop n within = (λ out. omega (arith, λ (lt : n 
 
 beside_has : (of_site : PrefixValue) (addr : Addr) (configured : Bool) → configured ≡ true → holds of_site addr ≡ true → IsWidest (KeepsBeside of_site addr configured) addr of_site.mask_len
 beside_has of_site addr configured is has n within = (
-  λ keeps. leb-true of_site.mask_len n (and_parts (nat_le of_site.mask_len n) (addr_eq (cleared (cleared addr n) of_site.mask_len) of_site.addr) (keeps.0 has)).0,
+  λ keeps. ((covers_is of_site (prefix_around addr n)).0 (keeps.0 has)).0,
   λ le. (
-    λ _. and_from (nat_le of_site.mask_len n) (addr_eq (cleared (cleared addr n) of_site.mask_len) of_site.addr) (le-leb of_site.mask_len n le) (is_addr (cleared (cleared addr n) of_site.mask_len) of_site.addr (cleared-wider addr n of_site.mask_len le ∙ addr_is (cleared addr of_site.mask_len) of_site.addr has)),
+    λ _. (covers_is of_site (prefix_around addr n)).1 (le, cleared-wider addr n of_site.mask_len le ∙ (holds_is of_site addr).0 has),
     λ none. absurd (true≢false (sym is ∙ none)),
   ),
 )
@@ -119,9 +109,8 @@ module _ (rows : List RowValue) (addr : Addr) (now : ℕ) where
   -- nor does one lie over a prefix around it
   pub bare : NoneAnswers rows addr now → (n : ℕ) (h : RowValue) → Contains rows h → is_alive h now ≡ true → covers h.mapping.eid (prefix_around addr n) ≡ false
   bare none n h held alive = not_true (covers h.mapping.eid (prefix_around addr n)) (λ is.
-      (let parts = and_parts (nat_le h.mapping.eid.mask_len n) (addr_eq (cleared (cleared addr n) h.mapping.eid.mask_len) h.mapping.eid.addr) is in
-      let short = leb-true h.mapping.eid.mask_len n parts.0 in
-      let has = is_addr (cleared addr h.mapping.eid.mask_len) h.mapping.eid.addr (sym (cleared-wider addr n h.mapping.eid.mask_len short) ∙ addr_is (cleared (cleared addr n) h.mapping.eid.mask_len) h.mapping.eid.addr parts.1) in
+      (let (short, block) = (covers_is h.mapping.eid (prefix_around addr n)).0 is in
+      let has = (holds_is h.mapping.eid addr).1 (sym (cleared-wider addr n h.mapping.eid.mask_len short) ∙ block) in
       true≢false (sym (and_from (is_alive h now) (holds h.mapping.eid addr) alive has) ∙ none h held)))
 
 -- the middle of two lengths was looked at

@@ -1,9 +1,9 @@
 -- Setting, dropping and listing rows.
-use Rattle.std.proofs.Common.{◌≡◌, ◌≢◌, ◌⊎◌, inl, inr, not, ℕ, suc, ◌-◌, ◌<◌, Bool, true, false, cond, nat_lt, List, [], ◌∷◌, ◌++◌, length, slice_set, slice_index_or, Option, Some, None, IfSome, refl, sym, ap, ◌∙◌, subst, true≢false, arith}
-use Rattle.std.proofs.lemmas.Bool.{cases_eq, ltb-true, ltb-false}
+use Rattle.std.proofs.Common.{◌≡◌, ◌≢◌, not, ℕ, ◌-◌, ◌<◌, Bool, true, false, cond, nat_lt, List, [], ◌∷◌, ◌++◌, length, slice_set, slice_index_or, Option, Some, None, IfSome, refl, sym, ap, ◌∙◌, subst, true≢false, arith}
+use Rattle.std.proofs.lemmas.Bool.{cases_eq, ltb-true, ltb-false, not-true}
 use Rattle.std.proofs.lemmas.Bool.Decides.{Decides-and, Decides-ltb}
 use Rattle.std.proofs.lemmas.Option.{slice_get_read, slice_get_past}
-use Rattle.std.proofs.lemmas.List.Edits.{Swapped, swapped_from_swap, length-swap}
+use Rattle.std.proofs.lemmas.List.Edits.{swapped_from_swap, length-swap}
 use Rattle.std.proofs.lemmas.List.{reverse-append}
 use Rattle.std.proofs.lemmas.List.Elements.{All-contains, All-filter, All-contains_itself, Contains-append_cases, filter_passes}
 use Rattle.std.proofs.lemmas.List.Kept.{AllPairs-filter}
@@ -14,14 +14,15 @@ use Rattle.std.specs.List.{AllPairs, Contains, find, filter, position, swap, sli
 use Rattle.std.specs.List.Sorted.{IsPermutation, IsSortedByKey}
 use Rattle.std.specs.Ordering.{is_lt, ordering_reverse}
 use Rattle.std.specs.declared.cmp.Ordering.{Ordering}
-use Rattle.std.specs.declared.cmp.Ordering.TheVariants.{Less, Equal, Greater}
+use Rattle.std.specs.declared.cmp.Ordering.TheVariants.{Less, Equal}
 use Rattle.lisp_records.proofs.DatabaseLaws.{block_eq-Decides}
+use Rattle.lisp_records.proofs.Elements.{found}
 use Rattle.lisp_records.proofs.RouterLaws.{router_eq-Decides}
 use Rattle.lisp_records.specs.declared.router.RouterId.{RouterId}
 use Rattle.lisp_records.specs.Address.{PrefixValue}
 use Rattle.lisp_records.specs.Row.{RowValue, is_alive}
 use Rattle.lisp_lookup.specs.Table.{is_row_of, row_key, row_at, last_of, OneEach, Sets, Expires, if_alive, row_cmp, IsHeld}
-use Rattle.lisp_lookup.proofs.Apart.{own_found}
+use Rattle.lisp_lookup.proofs.Apart.{on_either, own_found}
 use Rattle.lisp_policy.proofs.Found.{put_set, put_push}
 use Rattle.lisp_lookup.proofs.Orders.{key_cmp, key_total, same_key}
 
@@ -45,8 +46,7 @@ sets_push rows y at = λ router eid. put_push row_key has has_key rows y at (rou
 
 -- nothing was set
 or_chain : (b : Bool) (y : RowValue) (last old : Option RowValue) → option_or (cond b (Some y) None) (option_or last old) ≡ option_or (cond b (Some y) last) old
-or_chain true y last old = refl
-or_chain false y last old = refl
+or_chain b y last old = grind arith
 
 -- one row more was set
 pub sets_more : (old mid new given : List RowValue) (y : RowValue) → Sets old mid given → Sets mid new (y ∷ []) → Sets old new (given ++ y ∷ [])
@@ -58,15 +58,6 @@ sets_more old mid new given y first second router eid =
 
 pub some_inj : {X : Type 0} (x y : X) → ◌≡◌ {A = Option X} (Some x) (Some y) → x ≡ y
 some_inj x y e = cc
-
--- where a swap of two places took the element of a third from
-abbrev From : ℕ → ℕ → ℕ → ℕ → Type 0
-From a b place source = ((place ≡ a) × (source ≡ b)) ⊎ (((place ≡ b) × (source ≡ a)) ⊎ ((place ≢ a) × (place ≢ b) × (source ≡ place)))
-
-source_of : {X : Type 0} (f g : ℕ → X) (a b place : ℕ) → Swapped f g a b → (place ≡ a) ⊎ (place ≢ a) → (place ≡ b) ⊎ (place ≢ b) → (source : ℕ) × From a b place source × (g place ≡ f source)
-source_of f g a b place swapped (inl at) other = (b, inl (at, refl), ap g at ∙ swapped.0)
-source_of f g a b place swapped (inr off) (inl at) = (a, inr (inl (at, refl)), ap g at ∙ swapped.1)
-source_of f g a b place swapped (inr off) (inr aside) = (place, inr (inr (off, aside, refl)), swapped.2 place off aside)
 
 -- what differs by key does so in any order
 module _ {X K : Type 0} (key : X → K) where
@@ -83,10 +74,7 @@ module _ {X K : Type 0} (key : X → K) where
   differ_swap xs a b within_a within_b one i j d less lt same =
       let size = length-swap xs a b in
       let swapped = swapped_from_swap xs (swap xs a b) a b d within_a within_b refl in
-      let x = source_of _ _ a b i swapped (cases_eq i a) (cases_eq i b) in
-      let y = source_of _ _ a b j swapped (cases_eq j a) (cases_eq j b) in
-      let alike = either_way xs one x.0 y.0 d (omega (arith, x.1, size)) (omega (arith, y.1, size)) (ap key (sym x.2) ∙ same ∙ ap key y.2) in
-      omega (arith, x.1, y.1)
+      grind (arith, either_way xs one, swapped.0, swapped.1, swapped.2 i, swapped.2 j, size, cases_eq i a, cases_eq i b, cases_eq j a, cases_eq j b)
 
   pub differ_moved : (xs moved : List X) → IsPermutation xs moved → Differ xs → Differ moved
   differ_moved xs moved permuted one = IsPermutation-keeps xs Differ one differ_swap moved permuted
@@ -96,28 +84,17 @@ pub found_own : (rows : List RowValue) (h : RowValue) → OneEach rows → Conta
 unfolding row_at
 found_own rows h one held = own_found row_key has has_key rows h one held
 
-holds_case : {X : Type 0} (p : X → Bool) (x : X) (xs : List X) (h : X) (b : Bool) → p x ≡ b → cond b (Some x) (find p xs) ≡ Some h → (find p xs ≡ Some h → Contains xs h × (p h ≡ true)) → Contains (x ∷ xs) h × (p h ≡ true)
-holds_case p x xs h true t e later = (let same : x ≡ h = some_inj x h e in ((0, omega arith, same), ap p (sym same) ∙ t))
-holds_case p x xs h false t e later = (let rest = later e in ((suc rest.0.0, omega (arith, rest.0.1), rest.0.2), rest.1))
-
 pub found_holds : {X : Type 0} (p : X → Bool) (rows : List X) (h : X) → find p rows ≡ Some h → Contains rows h × (p h ≡ true)
-found_holds {X = X} p [] h e = absurd (let clash : ◌≡◌ {A = Option X} None (Some h) = e in cc)
-found_holds p (x ∷ xs) h e = holds_case p x xs h (p x) refl e (found_holds p xs h)
+found_holds p rows h = found p rows h
 
 -- a filter holds what passes
-pub filtered_holds : (p : RowValue → Bool) (rows : List RowValue) (h : RowValue) → Contains (filter p rows) h → Contains rows h × (p h ≡ true)
+pub filtered_holds : {X : Type 0} (p : X → Bool) (rows : List X) (h : X) → Contains (filter p rows) h → Contains rows h × (p h ≡ true)
 filtered_holds p rows h c = (All-contains (Contains rows) (filter p rows) h (All-filter p (Contains rows) rows (All-contains_itself rows)) c, All-contains (λ x. p x ≡ true) (filter p rows) h (filter_passes p rows) c)
 
-not_not : (b : Bool) → not b ≡ true → b ≡ false
-not_not true e = absurd cc
-not_not false e = refl
-
-pub filter_holds : (p : RowValue → Bool) (rows : List RowValue) (h : RowValue) → Contains rows h → p h ≡ true → Contains (filter p rows) h
-filter_holds p rows h c passes = either (Contains-append_cases (filter p rows) (filter (λ x. not (p x)) rows) h (Contains-permutation rows (filter p rows ++ filter (λ x. not (p x)) rows) h (IsPermutation-filter_both p (λ x. not (p x)) (λ x. refl) rows) c))
-  where
-    either : Contains (filter p rows) h ⊎ Contains (filter (λ x. not (p x)) rows) h → Contains (filter p rows) h
-    either (inl passing) = passing
-    either (inr fails) = absurd (true≢false (sym passes ∙ not_not (p h) (All-contains (λ x. not (p x) ≡ true) (filter (λ x. not (p x)) rows) h (filter_passes (λ x. not (p x)) rows) fails)))
+pub filter_holds : {X : Type 0} (p : X → Bool) (rows : List X) (h : X) → Contains rows h → p h ≡ true → Contains (filter p rows) h
+filter_holds p rows h c passes = on_either (Contains-append_cases (filter p rows) (filter (λ x. not (p x)) rows) h (Contains-permutation rows (filter p rows ++ filter (λ x. not (p x)) rows) h (IsPermutation-filter_both p (λ x. not (p x)) (λ x. refl) rows) c))
+    (λ passing. passing)
+    (λ fails. absurd (true≢false (sym passes ∙ not-true (p h) (All-contains (λ x. not (p x) ≡ true) (filter (λ x. not (p x)) rows) h (filter_passes (λ x. not (p x)) rows) fails))))
 
 -- the rows that are alive
 abbrev pub alive_of : List RowValue → ℕ → List RowValue
@@ -159,9 +136,7 @@ expires rows now one router eid = old_case (row_at rows router eid) refl (row_at
 
 -- the order of keys, where the other way round it isn't less, and the keys differ
 pub less_from : (o : Ordering) → is_lt (ordering_reverse o) ≡ false → o ≢ Equal → o ≡ Less
-less_from Less up differ = refl
-less_from Equal up differ = absurd (differ refl)
-less_from Greater up differ = absurd cc
+less_from o up differ = grind arith
 
 rises : (held : List RowValue) → OneEach held → IsSortedByKey row_key key_cmp held → AllPairs (λ a b. row_cmp a b ≡ Less) held
 rises held one sorted i j d before lt =

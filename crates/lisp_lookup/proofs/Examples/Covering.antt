@@ -113,7 +113,7 @@ ipv6_elsewhere h has = fails (may_answer_for (alone (ipv6 185 1)) 0) (everything
 
 -- ---- The longer prefixes inside a prefix.
 
-abbrev sixteen : PrefixValue
+abbrev pub sixteen : PrefixValue
 sixteen = block 10 1 0 0 16
 
 -- a prefix isn't inside itself, nor inside a longer one, nor inside one beside it
@@ -139,10 +139,10 @@ one_row a i j d less within = absurd (omega (arith, less, within))
 pub rise : (a b : RowValue) → Rises a b → AllPairs Rises (a ∷ b ∷ [])
 rise a b is = AllPairs-cons Rises a (b ∷ []) (All-cons (Rises a) b [] is (All-nil (Rises a))) (one_row b)
 
-first_best : IsBestOfOwn four 0 in_first
+pub first_best : IsBestOfOwn four 0 in_first
 first_best = record { held = (2, omega arith, refl); alive = refl; most = best_of_own four 0 in_first refl refl }
 
-second_best : IsBestOfOwn four 0 in_second
+pub second_best : IsBestOfOwn four 0 in_second
 second_best = record { held = (3, omega arith, refl); alive = refl; most = best_of_own four 0 in_second refl refl }
 
 pub two_inside : AreInside four sixteen 0 (in_first ∷ in_second ∷ [])
@@ -244,15 +244,15 @@ dead_inside best = no best.alive
 -- ---- The records of a Map-Reply.
 
 -- the record of a row in a reply: neither A nor L is set
-abbrev replied : ℕ → PrefixValue → ℕ → MapRecordValue
+abbrev pub replied : ℕ → PrefixValue → ℕ → MapRecordValue
 replied version eid ttl = record { ttl = ttl; act = 0; authoritative = false; version = version; eid = eid; locators = record locator { local = false } ∷ [] }
 
 -- that of a row whose router didn't ask for proxy replies: ACT 2, no locators
-abbrev asked_again : PrefixValue → ℕ → MapRecordValue
+abbrev pub asked_again : PrefixValue → ℕ → MapRecordValue
 asked_again eid ttl = record { ttl = ttl; act = 2; authoritative = false; version = 0; eid = eid; locators = [] }
 
 -- RFC 9301 section 5.5: for 10.1.5.5 there are three records, all with the least TTL, which the second one has
-abbrev three : List MapRecordValue
+abbrev pub three : List MapRecordValue
 three = replied 2 (block 10 1 0 0 16) 30 ∷ replied 3 (block 10 1 1 0 24) 30 ∷ replied 4 (block 10 1 2 0 24) 30 ∷ []
 
 least_of_three : IsLeastTtl (in_sixteen ∷ in_first ∷ in_second ∷ []) 30
@@ -263,18 +263,18 @@ least_of_three = record {
   least = each (λ (h : RowValue). 30 ≤ h.mapping.ttl) (in_sixteen ∷ in_first ∷ in_second ∷ []) (omega arith, (omega arith, (omega arith, tt)));
 }
 
-three_records : AreRecords four (block 10 1 0 0 16) 0 in_sixteen three
+pub three_records : AreRecords four (block 10 1 0 0 16) 0 in_sixteen three
 three_records = record { inside = in_first ∷ in_second ∷ []; are = two_inside; ttl = 30; least = least_of_three; is = refl }
 
 its_own_ttl : IsLeastTtl (in_sixteen ∷ in_first ∷ in_second ∷ []) 1440 → ⊥
 its_own_ttl least = absurd (omega (arith, least.least in_first (1, omega arith, refl)))
 
 -- they are the reply's, since they fit a message; the prefix reaches from that of the row to the one that was asked for
-narrowed : IsNarrowed (block 10 1 5 5 32) in_sixteen (block 10 1 0 0 16)
+pub narrowed : IsNarrowed (block 10 1 5 5 32) in_sixteen (block 10 1 0 0 16)
 unfolding masked
 narrowed = record { around = refl; from = omega arith; to = omega arith }
 
-reply : RepliesWith four (block 10 1 5 5 32) 0 three
+pub reply : RepliesWith four (block 10 1 5 5 32) 0 three
 unfolding masked written
 reply = record {
   best = in_sixteen;
@@ -310,10 +310,13 @@ narrow_record : AreRecords four (block 10 1 5 0 24) 0 in_sixteen (replied 2 (blo
 narrow_record = record { inside = []; are = none_inside; ttl = 1440; least = record { its = in_sixteen; held = (0, omega arith, refl); is = refl; least = each (λ (h : RowValue). 1440 ≤ h.mapping.ttl) (in_sixteen ∷ []) (omega arith, tt) }; is = refl }
 
 -- of a router that didn't ask for proxy replies the record has no locators, and ACT 2
-abbrev mixed : List RowValue
+abbrev pub mixed : List RowValue
 mixed = in_sixteen ∷ silent in_first ∷ in_second ∷ []
 
-mixed_inside : AreInside mixed (block 10 1 0 0 16) 0 (silent in_first ∷ in_second ∷ [])
+abbrev pub mixed_three : List MapRecordValue
+mixed_three = replied 2 sixteen 30 ∷ asked_again (block 10 1 1 0 24) 30 ∷ replied 4 (block 10 1 2 0 24) 30 ∷ []
+
+pub mixed_inside : AreInside mixed (block 10 1 0 0 16) 0 (silent in_first ∷ in_second ∷ [])
 unfolding masked
 mixed_inside = record {
   rising = rise (silent in_first) in_second refl;
@@ -330,7 +333,7 @@ mixed_inside = record {
     Listed : RowValue → Type 0
     Listed h = is_live_inside (block 10 1 0 0 16) 0 h ≡ true → (own : RowValue) × Contains (silent in_first ∷ in_second ∷ []) own × (own.mapping.eid ≡ h.mapping.eid)
 
-mixed_records : AreRecords mixed (block 10 1 0 0 16) 0 in_sixteen (replied 2 (block 10 1 0 0 16) 30 ∷ asked_again (block 10 1 1 0 24) 30 ∷ replied 4 (block 10 1 2 0 24) 30 ∷ [])
+pub mixed_records : AreRecords mixed sixteen 0 in_sixteen mixed_three
 mixed_records = record { inside = silent in_first ∷ in_second ∷ []; are = mixed_inside; ttl = 30; least = mixed_least; is = refl }
   where
     mixed_least : IsLeastTtl (in_sixteen ∷ silent in_first ∷ in_second ∷ []) 30

@@ -14,11 +14,11 @@ use Rattle.lisp_lookup.specs.Replies.{HoleIsAnswered}
 use Rattle.lisp_lookup.proofs.Examples.Rows.{all_below, below, block, dead, everything, fails, fails_below, gaps, in_first, ipv4, ipv6, ipv6_row, no, none_of, row}
 
 -- a site that has a prefix
-abbrev site : PrefixValue → List SiteValue
+abbrev pub site : PrefixValue → List SiteValue
 site eid = single 1 1 [] eid true
 
 -- beside no site, and beside one
-no_site : (addr : Addr) (eid : PrefixValue) → KeepsSites [] addr eid
+pub no_site : (addr : Addr) (eid : PrefixValue) → KeepsSites [] addr eid
 no_site addr eid = All-nil (λ (s : SiteValue). All (λ (p : SitePrefix). KeepsBeside p.eid addr false eid) s.prefixes)
 
 one_site : (of_site : PrefixValue) (addr : Addr) (eid : PrefixValue) → KeepsBeside of_site addr (is_configured (site of_site) addr) eid → KeepsSites (site of_site) addr eid
@@ -45,7 +45,7 @@ pub in_none : {P : Type 0} → (h : RowValue) → Contains [] h → P
 in_none h (k, lt, is) = absurd (omega (arith, lt))
 
 -- between 10.0.0.0/24 and 10.0.2.0/24
-between_alike : IsAlike gaps [] (ipv4 10 0 1 1) 0 (block 10 0 1 0 24)
+pub between_alike : IsAlike gaps [] (ipv4 10 0 1 1) 0 (block 10 0 1 0 24)
 unfolding masked
 between_alike = record {
   empty = none_of (λ h. is_alive h 0) (λ h. covers (block 10 0 1 0 24) h.mapping.eid) gaps refl;

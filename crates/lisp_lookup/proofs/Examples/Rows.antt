@@ -1,6 +1,6 @@
 -- Rows of the examples, and what holds of each element of a short list by a test.
-use Rattle.std.proofs.Common.{Bool, List, [], inl, inr, ap, arith, false, true, refl, suc, subst, sym, zero, ℕ, not, is_gt, true≢false, Greater, Less, Equal, Ordering, ◌&&◌, ◌<◌, ◌||◌, ◌∙◌, ◌∷◌, ◌≡◌, ◌≢◌, ◌⊎◌}
-use Rattle.std.proofs.lemmas.Bool.{and_from, and_parts}
+use Rattle.std.proofs.Common.{Bool, List, [], ap, arith, false, true, refl, suc, subst, sym, zero, ℕ, not, is_gt, true≢false, Greater, Ordering, ◌&&◌, ◌<◌, ◌||◌, ◌∙◌, ◌∷◌, ◌≡◌, ◌≢◌}
+use Rattle.std.proofs.lemmas.Bool.{cases_eq, and_from, and_parts, not-true}
 use Rattle.std.specs.List.{AllByRecursion, Contains, list_all}
 use Rattle.lisp_records.specs.Address.{PrefixValue, prefix_eq}
 use Rattle.lisp_records.specs.Record.{MapRecordValue}
@@ -10,6 +10,7 @@ use Rattle.lisp_records.specs.declared.address.Addr.TheVariants.{V4, V6}
 use Rattle.lisp_records.specs.declared.locator.Locator.{Locator}
 use Rattle.lisp_records.specs.declared.router.RouterId.{RouterId}
 use Rattle.lisp_lookup.specs.Answer.{rank_cmp}
+use Rattle.lisp_lookup.proofs.Apart.{on_either}
 
 -- ---- addresses, prefixes, routers and rows
 
@@ -79,10 +80,6 @@ ipv6_row = row 2 (record { addr = ipv6 184 0; mask_len = 32 }) 60
 
 -- ---- each element of a list
 
-fail : (test : Bool) → not test ≡ true → test ≡ false
-fail true is = absurd (true≢false (sym is))
-fail false is = refl
-
 module _ {X : Type 0} where
   pub at_head : (x : X) (xs : List X) → Contains (x ∷ xs) x
   at_head x xs = (0, omega arith, refl)
@@ -98,7 +95,7 @@ module _ {X : Type 0} where
   passes test (first ∷ xs) all x (suc k, lt, is) = passes test xs (and_parts (test first) (list_all test xs) all).1 x (k, omega (arith, lt), is)
 
   pub fails : (test : X → Bool) (xs : List X) → list_all (λ x. not (test x)) xs ≡ true → (x : X) → Contains xs x → test x ≡ false
-  fails test xs all x has = fail (test x) (passes (λ (y : X). not (test y)) xs all x has)
+  fails test xs all x has = not-true (test x) (passes (λ (y : X). not (test y)) xs all x has)
 
 -- a test doesn't hold that computes to false
 pub no : {P : Type 0} → false ≡ true → P
@@ -109,36 +106,22 @@ pub none_of : (may test : RowValue → Bool) (rows : List RowValue) → list_all
 none_of may test rows all h has is = by (may h) (test h) (passes (λ (x : RowValue). not (may x) || not (test x)) rows all h has) is
   where
     by : (m t : Bool) → (not m || not t) ≡ true → m ≡ true → t ≡ false
-    by false t both is = no is
-    by true true both is = no both
-    by true false both is = refl
+    by m t both is = grind arith
 
 -- each number below one passes a test
 unfoldable pub all_below : ℕ → (ℕ → Bool) → Bool
 all_below zero test = true
 all_below (suc n) test = test n && all_below n test
 
-last_or_below : (k n : ℕ) → k < suc n → (k ≡ n) ⊎ (k < n)
-last_or_below zero zero lt = inl refl
-last_or_below zero (suc n) lt = inr (omega arith)
-last_or_below (suc k) zero lt = absurd (omega (arith, lt))
-last_or_below (suc k) (suc n) lt = next (last_or_below k n (omega (arith, lt)))
-  where
-    next : (k ≡ n) ⊎ (k < n) → (suc k ≡ suc n) ⊎ (suc k < suc n)
-    next (inl is) = inl (ap suc is)
-    next (inr less) = inr (omega (arith, less))
-
 pub below : (n : ℕ) (test : ℕ → Bool) → all_below n test ≡ true → (k : ℕ) → k < n → test k ≡ true
 unfolding all_below
 below zero test all k lt = absurd (omega (arith, lt))
-below (suc n) test all k lt = by (λ less. below n test (and_parts (test n) (all_below n test) all).1 k less) (last_or_below k n lt)
-  where
-    by : (k < n → test k ≡ true) → (k ≡ n) ⊎ (k < n) → test k ≡ true
-    by earlier (inl is) = subst (λ (m : ℕ). test m ≡ true) (sym is) (and_parts (test n) (all_below n test) all).0
-    by earlier (inr less) = earlier less
+below (suc n) test all k lt =
+    let (here, rest) = and_parts (test n) (all_below n test) all in
+    on_either (cases_eq k n) (λ is. subst (λ (m : ℕ). test m ≡ true) (sym is) here) (λ other. below n test rest k (omega (arith, lt, other)))
 
 pub fails_below : (n : ℕ) (test : ℕ → Bool) → all_below n (λ k. not (test k)) ≡ true → (k : ℕ) → k < n → test k ≡ false
-fails_below n test all k lt = fail (test k) (below n (λ (j : ℕ). not (test j)) all k lt)
+fails_below n test all k lt = not-true (test k) (below n (λ (j : ℕ). not (test j)) all k lt)
 
 -- no row of a list that passes a test stands above one
 abbrev pub is_at_most : (RowValue → Bool) → RowValue → RowValue → Bool
@@ -148,10 +131,7 @@ pub none_above : (may : RowValue → Bool) (h : RowValue) (rows : List RowValue)
 none_above may h rows all other has is = by (may other) (rank_cmp other h) (passes (is_at_most may h) rows all other has) is
   where
     by : (m : Bool) (o : Ordering) → (not m || not (is_gt o)) ≡ true → m ≡ true → o ≢ Greater
-    by false o test is above = no is
-    by true Greater test is above = no test
-    by true Less test is above = absurd cc
-    by true Equal test is above = absurd cc
+    by m o test is above = grind arith
 
 -- nor one that is alive and of its own prefix
 pub best_of_own : (rows : List RowValue) (now : ℕ) (h : RowValue) → prefix_eq h.mapping.eid h.mapping.eid ≡ true → list_all (is_at_most (λ other. is_alive other now && prefix_eq other.mapping.eid h.mapping.eid) h) rows ≡ true → (other : RowValue) → Contains rows other → is_alive other now ≡ true → other.mapping.eid ≡ h.mapping.eid → rank_cmp other h ≢ Greater

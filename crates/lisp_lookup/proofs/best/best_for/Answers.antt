@@ -1,7 +1,5 @@
 use Rattle.std.proofs.Common.{◌≡◌, ◌-◌, ℕ, true, refl, sym, subst, arith}
 use Rattle.lisp_records.specs.Address.{PrefixValue, prefix_around}
-use Rattle.lisp_policy.proofs.Found.{not_true}
-use Rattle.lisp_lookup.specs.Covering.{may_answer_for}
 use Rattle.lisp_lookup.specs.Index.{IsFirstOf}
 use Rattle.lisp_lookup.specs.Inside.{is_inside, HasNoRow}
 use Rattle.lisp_lookup.proofs.BestLaws.{for_length, found_longest, missed_longest}
@@ -39,6 +37,3 @@ loop-shorter-preserved g c =
             sought = (m, omega (arith, longer), within, subst (λ (n : ℕ). IsFirstOf (prefix_around c.addr-addr.result m) c.args.rows.now c.args.by_prefix.now.items n) (sym w.first-is) bound);
           })
     ]
-
-pub returns : goal.returns
-returns g c = λ h held. not_true (may_answer_for c.args.asked.now c.args.now h) (λ may. omega (arith, c.loop-shorter-test.false, c.loop-shorter.invariant.shorter h held may))

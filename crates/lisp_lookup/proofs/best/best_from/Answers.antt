@@ -3,15 +3,9 @@ use Rattle.std.specs.Option.{option_map}
 use Rattle.lisp_lookup.specs.Index.{row_prefix_cmp}
 use Rattle.lisp_lookup.proofs.AnswerLaws.{best_next}
 use Rattle.lisp_lookup.proofs.BestLaws.{Seen, best_seen, behind, seen_more, seen_last, seen_splits, same_more, other_block, within_end, past_end}
-use Rattle.lisp_lookup.proofs.IndexLaws.{below_most, number_within, row_read}
+use Rattle.lisp_lookup.proofs.IndexLaws.{row_read}
 use Rattle.lisp_lookup.proofs.best.best_from.Goals.{then-may_answer, else-may_answer}
 use Rattle.lisp_lookup.proofs.best.best_from.Goals as goal
-
-pub bounds-rows-index : goal.bounds-rows-index
-bounds-rows-index g c = number_within row_prefix_cmp c.args.rows.now c.args.by_prefix.now.items c.loop-place.place c.index.result.now c.requires.index.rises (omega (arith, c.loop-place-test.true, c.args.by_prefix.now.ok.0)) c.index.ensures
-
-pub offset_bounds-rows-index : goal.offset_bounds-rows-index
-offset_bounds-rows-index g c = below_most c.index.result.now (length c.args.rows.now) (number_within row_prefix_cmp c.args.rows.now c.args.by_prefix.now.items c.loop-place.place c.index.result.now c.requires.index.rises (omega (arith, c.loop-place-test.true, c.args.by_prefix.now.ok.0)) c.index.ensures)
 
 pub returns-then-not-is_of : goal.returns-then-not-is_of
 returns-then-not-is_of g c =
@@ -46,6 +40,3 @@ returns g c =
     best_seen c.args.rows.now c.args.by_prefix.now.items c.args.prefix.now c.args.first c.requires.index c.requires.first c.loop-place.place all c.loop-place.invariant.same
     (λ k d low lt. past_end k c.loop-place.place c.len-place-end.result (length c.args.by_prefix.now.items) long c.loop-place-test.false low lt)
     c.args.addr.now c.args.now (option_map (λ row. row.now) c.loop-place.best) c.loop-place.invariant.best
-
-pub index-requires : goal.index-requires
-index-requires g c = omega (arith, c.loop-place-test.true, c.len-place-end.ensures)

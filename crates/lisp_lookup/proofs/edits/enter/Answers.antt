@@ -5,7 +5,7 @@ use Rattle.std.specs.VecDeque.{deque_len}
 use Rattle.std.specs.declared.cmp.Ordering.TheVariants.{Less}
 use Rattle.lisp_records.specs.Row.{RowValue}
 use Rattle.lisp_lookup.specs.Index.{order_cmp, row_at_place, IsPutIn}
-use Rattle.lisp_lookup.proofs.IndexLaws.{order_total, falls, number_within, entered_at, entered_last, behind_last, made}
+use Rattle.lisp_lookup.proofs.IndexLaws.{order_total, falls, entered_at, entered_last, behind_last, made}
 use Rattle.lisp_lookup.proofs.edits.enter.Goals.{in_default-via-in-Some+else-is_ge, in_default-via-in_default}
 use Rattle.lisp_lookup.proofs.edits.enter.Goals as goal
 
@@ -25,27 +25,3 @@ returns-in_default-clause-entered g c =
       | in_default-via-in_default w ↦ λ i d lt. absurd (false≢true (w.in_default.ensures.variant.1 (omega (arith, lt, c.args.numbers.now.ok.0))))
     ] in
     subst (λ (new : List ℕ). IsPutIn c.args.order c.args.rows.now c.args.numbers.now.items new c.args.number) (sym c.push_back_reserved.ensures.items) (entered_last c.args.order c.args.rows.now c.args.numbers.now.items c.args.number c.index-rows-number.result c.requires.rises below c.requires.row c.index-rows-number.is)
-
-pub place-place-requires-clause-below : goal.place-place-requires-clause-below
-place-place-requires-clause-below g c = c.requires.rises.below
-
-pub bounds-rows-number : goal.bounds-rows-number
-bounds-rows-number g c = c.requires.row
-
-pub bounds-rows-last : goal.bounds-rows-last
-bounds-rows-last g c = number_within (order_cmp c.args.order) c.args.rows.now c.args.numbers.now.items (deque_len c.args.numbers.now - 1) c.in-Some.last.now c.requires.rises (omega (arith, c.in-Some.ensures.variant.0 refl, c.args.numbers.now.ok.0)) c.in-Some.ensures.lookup
-
-pub insert-requires : goal.insert-requires
-insert-requires g c = omega (arith, c.place-place.ensures.bound.within, c.args.numbers.now.ok.0)
-
-pub push_back_reserved-requires : goal.push_back_reserved-requires
-push_back_reserved-requires g c = c.requires.room
-
-pub returns-in_default-clause-room : goal.returns-in_default-clause-room
-returns-in_default-clause-room g c = omega (arith, c.push_back_reserved.ensures.len, c.push_back_reserved.ensures.capacity)
-
-pub offset_bounds-rows-number : goal.offset_bounds-rows-number
-offset_bounds-rows-number g c = omega (arith, c.requires.row)
-
-pub offset_bounds-rows-last : goal.offset_bounds-rows-last
-offset_bounds-rows-last g c = omega (arith, number_within (order_cmp c.args.order) c.args.rows.now c.args.numbers.now.items (deque_len c.args.numbers.now - 1) c.in-Some.last.now c.requires.rises (omega (arith, c.in-Some.ensures.variant.0 refl, c.args.numbers.now.ok.0)) c.in-Some.ensures.lookup)

@@ -1,4 +1,4 @@
-use Rattle.std.proofs.Common.{List, ℕ, ◌<◌, length, length-drop, refl, sym, ap, ◌∙◌, subst, arith}
+use Rattle.std.proofs.Common.{List, ℕ, ◌<◌, length, refl, sym, ◌∙◌, subst, arith}
 use Rattle.std.proofs.lemmas.List.{get_or_read}
 use Rattle.lisp_lookup.specs.Index.{IsTakenOut}
 use Rattle.lisp_lookup.proofs.IndexLaws.{left_at, taken}
@@ -12,21 +12,3 @@ returns-in-Some-clause-left g c =
 pub returns-in_default-clause-left : goal.returns-in_default-clause-left
 returns-in_default-clause-left g c =
     subst (λ (new : List ℕ). IsTakenOut c.args.order c.args.rows.now c.args.numbers.now.items new c.args.number) (sym (taken c.remove.result c.remove.ensures.items (c.remove.ensures.variant.1 (omega (arith, c.place_of-place.ensures.within, c.args.numbers.now.ok.0))))) (left_at c.args.order c.args.rows.now c.args.numbers.now.items c.args.number c.place_of-place.result c.requires.rises c.requires.row c.place_of-place.ensures.within c.place_of-place.ensures.here)
-
-pub returns-in_default-clause-len : goal.returns-in_default-clause-len
-returns-in_default-clause-len g c = taken c.remove.result c.remove.ensures.len (c.remove.ensures.variant.1 (omega (arith, c.place_of-place.ensures.within, c.args.numbers.now.ok.0)))
-
-pub place_of-place-requires-clause-rises : goal.place_of-place-requires-clause-rises
-place_of-place-requires-clause-rises g c = c.requires.rises
-
-pub returns-in-Some-clause-len : goal.returns-in-Some-clause-len
-returns-in-Some-clause-len g c = (let some = c.in-Some.ensures.variant.0 refl in let rest = ap length c.pop_front.ensures.rest in omega (arith, some, rest, length-drop 1 c.args.numbers.now.items, c.args.numbers.now.ok.0, c.pop_front.new.self.ok.0))
-
-pub returns-in-Some-clause-capacity : goal.returns-in-Some-clause-capacity
-returns-in-Some-clause-capacity g c = c.pop_front.ensures.capacity
-
-pub returns-in_default-clause-capacity : goal.returns-in_default-clause-capacity
-returns-in_default-clause-capacity g c = c.remove.ensures.capacity
-
-pub place_of-place-requires-clause-row : goal.place_of-place-requires-clause-row
-place_of-place-requires-clause-row g c = c.requires.row

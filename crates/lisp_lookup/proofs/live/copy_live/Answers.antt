@@ -1,10 +1,7 @@
-use Rattle.std.proofs.Common.{inl, inr, sym, ap, ◌∙◌, [], ◌∷◌, ◌++◌, arith}
-use Rattle.std.proofs.lemmas.List.{append-nil, take_all}
-use Rattle.std.proofs.lemmas.Result.{IfOk-from_err}
+use Rattle.std.proofs.Common.{inl, inr, sym, ap, ◌∙◌, [], ◌∷◌, ◌++◌}
+use Rattle.std.proofs.lemmas.List.{append-nil}
 use Rattle.lisp_records.specs.Record.{MapRecordValue}
 use Rattle.lisp_records.specs.Row.{RowValue}
-use Rattle.lisp_records.proofs.Grown.{on_err}
-use Rattle.lisp_lookup.specs.Records.{live_of}
 use Rattle.lisp_lookup.proofs.LiveLaws.{copies_next, none_recorded}
 use Rattle.lisp_lookup.proofs.live.copy_live.Goals.{then-is_live_of+in_ok-copy+in_ok-try_push, else-is_live_of}
 use Rattle.lisp_lookup.proofs.live.copy_live.Goals as goal
@@ -14,27 +11,6 @@ loop-row-preserved g c = copies_next c.args.rows.now c.loop-row.row-index c.row-
   | then-is_live_of+in_ok-copy+in_ok-try_push w ↦ inl (sym c.is_live_of.ensures ∙ w.if-is_live_of.true, ap (λ v. v.items) w.records-is ∙ w.in_ok-try_push.ensures.items ∙ ap (λ (m : MapRecordValue). c.loop-row.records.items ++ m ∷ []) (w.in_ok-copy.ensures.equal ∙ ap (λ (h : RowValue). h.mapping) c.row.view_is))
   | else-is_live_of w ↦ inr (sym c.is_live_of.ensures ∙ w.if-is_live_of.false, ap (λ v. v.items) w.records-is ∙ sym (append-nil c.loop-row.records.items))
 ])
-
-pub returns-in_err-copy-clause-records : goal.returns-in_err-copy-clause-records
-returns-in_err-copy-clause-records g c = IfOk-from_err c.from_residual.result _ c.from_residual.ensures.0
-
-pub returns-in_err-copy-clause-memory : goal.returns-in_err-copy-clause-memory
-returns-in_err-copy-clause-memory g c = on_err c.from_residual.result c.in_err-copy.ensures.memory
-
-pub returns-in_err-try_push-clause-records : goal.returns-in_err-try_push-clause-records
-returns-in_err-try_push-clause-records g c = IfOk-from_err c.from_residual-in_err-try_push.result _ c.from_residual-in_err-try_push.ensures.0
-
-pub returns-in_err-try_push-clause-memory : goal.returns-in_err-try_push-clause-memory
-returns-in_err-try_push-clause-memory g c = on_err c.from_residual-in_err-try_push.result c.in_err-try_push.ensures.refused
-
-pub returns-clause-records : goal.returns-clause-records
-returns-clause-records g c = c.loop-row.invariant ∙ ap (λ rows. live_of rows c.args.router.now c.args.now) (take_all c.loop-row.row-index c.args.rows.now c.loop-row-test.false)
-
-pub bounds-rows-row-index : goal.bounds-rows-row-index
-bounds-rows-row-index g c = c.loop-row-test.true
-
-pub offset_bounds-rows-row-index : goal.offset_bounds-rows-row-index
-offset_bounds-rows-row-index g c = omega (arith, c.loop-row-test.true)
 
 pub returns-in_err-copy-clause-none_alive : goal.returns-in_err-copy-clause-none_alive
 returns-in_err-copy-clause-none_alive g c = λ none. absurd (none_recorded c.args.rows.now c.loop-row.row-index c.row-item.result c.args.router.now c.args.now c.loop-row-test.true c.row-item.is (sym c.is_live_of.ensures ∙ c.if-is_live_of.true) none)

@@ -1,6 +1,6 @@
-use Rattle.std.proofs.Common.{inl, inr, sym, ap, ◌+◌, ◌∙◌, length, arith}
+use Rattle.std.proofs.Common.{inl, inr, sym, ap, ◌+◌, ◌∙◌, length}
 use Rattle.lisp_records.specs.{Row.RowValue, Written.written}
-use Rattle.lisp_lookup.proofs.LiveLaws.{counts_next, counts_all, too_large, fits}
+use Rattle.lisp_lookup.proofs.LiveLaws.{counts_next, too_large}
 use Rattle.lisp_lookup.proofs.live.count_live.Goals.{then-is_live_of, else-is_live_of, then-count-gt-MAX_RECORDS-via-then-count-gt-MAX_RECORDS, then-count-gt-MAX_RECORDS-via-else-count-gt-MAX_RECORDS+then-size-gt-MAX_SIZE}
 use Rattle.lisp_lookup.proofs.live.count_live.Goals as goal
 
@@ -24,18 +24,3 @@ returns-then-count-gt-MAX_RECORDS-clause-too_large g c = λ none. too_large c.ar
       | then-count-gt-MAX_RECORDS-via-then-count-gt-MAX_RECORDS w ↦ inl w.if-count-gt-MAX_RECORDS.true
       | then-count-gt-MAX_RECORDS-via-else-count-gt-MAX_RECORDS+then-size-gt-MAX_SIZE w ↦ inr w.if-size-gt-MAX_SIZE.true
     ])
-
-pub returns-clause-fits : goal.returns-clause-fits
-returns-clause-fits g c = fits c.args.rows.now c.args.router.now c.args.now c.loop-row.count c.loop-row.size (counts_all c.args.rows.now c.loop-row.row-index c.args.router.now c.args.now c.loop-row.count c.loop-row.size c.loop-row-test.false c.loop-row.invariant.counts) c.loop-row.invariant.few c.loop-row.invariant.small
-
-pub returns-clause-count : goal.returns-clause-count
-returns-clause-count g c = (counts_all c.args.rows.now c.loop-row.row-index c.args.router.now c.args.now c.loop-row.count c.loop-row.size c.loop-row-test.false c.loop-row.invariant.counts).records
-
-pub overflow_add-size : goal.overflow_add-size
-overflow_add-size g c = record { fits = omega (arith, c.loop-row.invariant.small, c.written_len-size.ensures.small) }
-
-pub overflow_add-count : goal.overflow_add-count
-overflow_add-count g c = record { fits = omega (arith, c.loop-row.invariant.few) }
-
-pub offset_bounds-rows-row-index : goal.offset_bounds-rows-row-index
-offset_bounds-rows-row-index g c = omega (arith, c.loop-row-test.true)

@@ -1,9 +1,7 @@
-use Rattle.std.proofs.Common.{◌++◌, length, ◌∷◌, [], inl, inr, sym, ap, ◌∙◌, arith}
+use Rattle.std.proofs.Common.{◌++◌, length, ◌∷◌, [], inl, inr, sym, ap, ◌∙◌}
 use Rattle.std.proofs.lemmas.List.{take_all}
-use Rattle.std.proofs.lemmas.Result.{IfOk-from_err}
 use Rattle.std.specs.List.{filter}
 use Rattle.lisp_records.specs.Row.{RowValue, is_alive}
-use Rattle.lisp_records.proofs.Grown.{on_err}
 use Rattle.lisp_lookup.proofs.LiveLaws.{rows_next, none_passes}
 use Rattle.lisp_lookup.proofs.table.live_rows.Goals.{then-alive+in_ok-copy+in_ok-try_push, else-alive}
 use Rattle.lisp_lookup.proofs.table.live_rows.Goals as goal
@@ -14,29 +12,11 @@ loop-row-preserved g c = rows_next (λ h. is_alive h c.args.now) c.args.rows.now
   | else-alive w ↦ inr (sym c.alive.ensures.test ∙ w.if-alive.false, ap (λ v. v.items) w.live-is)
 ])
 
-pub returns-in_err-copy-clause-live : goal.returns-in_err-copy-clause-live
-returns-in_err-copy-clause-live g c = IfOk-from_err c.from_residual.result _ c.from_residual.ensures.0
-
-pub returns-in_err-copy-clause-memory : goal.returns-in_err-copy-clause-memory
-returns-in_err-copy-clause-memory g c = on_err c.from_residual.result c.in_err-copy.ensures.memory
-
-pub returns-in_err-try_push-clause-live : goal.returns-in_err-try_push-clause-live
-returns-in_err-try_push-clause-live g c = IfOk-from_err c.from_residual-in_err-try_push.result _ c.from_residual-in_err-try_push.ensures.0
-
-pub returns-in_err-try_push-clause-memory : goal.returns-in_err-try_push-clause-memory
-returns-in_err-try_push-clause-memory g c = on_err c.from_residual-in_err-try_push.result c.in_err-try_push.ensures.refused
-
-pub returns-clause-live : goal.returns-clause-live
-returns-clause-live g c = c.loop-row.invariant ∙ ap (filter (λ h. is_alive h c.args.now)) (take_all c.loop-row.row-index c.args.rows.now c.loop-row-test.false)
-
-pub bounds-rows-row-index : goal.bounds-rows-row-index
-bounds-rows-row-index g c = c.loop-row-test.true
-
-pub offset_bounds-rows-row-index : goal.offset_bounds-rows-row-index
-offset_bounds-rows-row-index g c = omega (arith, c.loop-row-test.true)
-
 pub returns-in_err-copy-clause-none_alive : goal.returns-in_err-copy-clause-none_alive
 returns-in_err-copy-clause-none_alive g c = λ none. absurd (none_passes (λ h. is_alive h c.args.now) c.args.rows.now c.loop-row.row-index c.row-item.result c.loop-row-test.true c.row-item.is (sym c.alive.ensures.test ∙ c.if-alive.true) (ap length none))
 
 pub returns-in_err-try_push-clause-none_alive : goal.returns-in_err-try_push-clause-none_alive
 returns-in_err-try_push-clause-none_alive g c = λ none. absurd (none_passes (λ h. is_alive h c.args.now) c.args.rows.now c.loop-row.row-index c.row-item.result c.loop-row-test.true c.row-item.is (sym c.alive.ensures.test ∙ c.if-alive.true) (ap length none))
+
+pub returns-clause-live : goal.returns-clause-live
+returns-clause-live g c = c.loop-row.invariant ∙ ap (filter (λ h. is_alive h c.args.now)) (take_all c.loop-row.row-index c.args.rows.now c.loop-row-test.false)

@@ -6,7 +6,7 @@ use Rattle.lisp_lookup.specs.declared.order.Order.TheVariants.{ByPrefix, ByDeadl
 use Rattle.lisp_lookup.specs.Room.{vec_room, deque_room}
 use Rattle.lisp_lookup.specs.Table.{TableState}
 use Rattle.lisp_lookup.specs.Index.{row_prefix_cmp, row_deadline_cmp, own_number, Rises, IsIndex, IsFresh, IsPutIn}
-use Rattle.lisp_lookup.proofs.PutLaws.{rises_more, fresh_more, index_more, room_each, room_less}
+use Rattle.lisp_lookup.proofs.PutLaws.{rises_more, fresh_more, index_more, room_less}
 use Rattle.lisp_lookup.proofs.table.Table.add.Goals as goal
 
 pub enter-requires-clause-rises : goal.enter-requires-clause-rises
@@ -35,24 +35,6 @@ invariant_of-self g c =
       by_prefix = subst (λ (rows : List RowValue). IsIndex row_prefix_cmp rows c.enter.new.numbers.items) (sym c.push_reserved.ensures.items) (index_more ByPrefix c.self.inside.items.items c.self.inside.by_prefix.items c.args.row c.self.invariant.by_prefix c.enter.new.numbers.items places);
       by_deadline = subst (λ (rows : List RowValue). IsIndex row_deadline_cmp rows c.enter-2.new.numbers.items) (sym c.push_reserved.ensures.items) (index_more ByDeadline c.self.inside.items.items c.self.inside.by_deadline.items c.args.row c.self.invariant.by_deadline c.enter-2.new.numbers.items deadlines);
     }
-
-pub push_reserved-requires : goal.push_reserved-requires
-push_reserved-requires g c = (room_each c.self.inside.items c.self.inside.by_prefix c.self.inside.by_deadline c.args.self.now.spare (ap (λ (s : TableState). s.spare) c.self.view_is) c.requires.room).0
-
-pub enter-requires-clause-row : goal.enter-requires-clause-row
-enter-requires-clause-row g c = omega (arith, c.len-number.ensures, c.deref.ensures.len, c.push_reserved.ensures.len)
-
-pub enter-requires-clause-room : goal.enter-requires-clause-room
-enter-requires-clause-room g c = (room_each c.self.inside.items c.self.inside.by_prefix c.self.inside.by_deadline c.args.self.now.spare (ap (λ (s : TableState). s.spare) c.self.view_is) c.requires.room).1
-
-pub enter-requires-2-clause-row : goal.enter-requires-2-clause-row
-enter-requires-2-clause-row g c = omega (arith, c.len-number.ensures, c.deref-2.ensures.len, c.push_reserved.ensures.len)
-
-pub enter-requires-2-clause-room : goal.enter-requires-2-clause-room
-enter-requires-2-clause-room g c = (room_each c.self.inside.items c.self.inside.by_prefix c.self.inside.by_deadline c.args.self.now.spare (ap (λ (s : TableState). s.spare) c.self.view_is) c.requires.room).2
-
-pub returns-clause-rows : goal.returns-clause-rows
-returns-clause-rows g c = rw (← c.self.view_is) c.push_reserved.ensures.items
 
 pub returns-clause-room : goal.returns-clause-room
 returns-clause-room g c = room_less (vec_room c.self.inside.items) (deque_room c.self.inside.by_prefix) (deque_room c.self.inside.by_deadline) c.args.self.now.spare (vec_room c.push_reserved.new.self) (deque_room c.enter.new.numbers) (deque_room c.enter-2.new.numbers) (ap (λ (s : TableState). s.spare) c.self.view_is) (omega (arith, c.push_reserved.ensures.len, c.push_reserved.ensures.capacity)) c.enter.ensures.room c.enter-2.ensures.room

@@ -28,9 +28,3 @@ returns-clause-expires g c = dropped_all c.args.self.now.rows c.loop-number.self
 
 pub returns-clause-one_each : goal.returns-clause-one_each
 returns-clause-one_each g c = one_left c.args.self.now.rows c.loop-number.self.rows c.args.now c.loop-number.invariant.apart c.loop-number.invariant.dropped
-
-pub first_dead-requires : goal.first_dead-requires
-first_dead-requires g c = c.requires
-
-pub remove-requires : goal.remove-requires
-remove-requires g c = c.in-Some.ensures.dead.0

@@ -10,9 +10,6 @@ use Rattle.lisp_lookup.proofs.table.Table.find.Goals as goal
 pub find-requires : goal.find-requires
 find-requires g c = record { falls = rw c.new-rows.ensures (rw c.deref.ensures.value (falls_prefix c.args.prefix.now c.self.inside.items.items c.self.inside.by_prefix.items c.self.invariant.by_prefix.rises)) }
 
-pub new-rows-requires : goal.new-rows-requires
-new-rows-requires g c = record { below = rw c.deref.ensures.value c.self.invariant.by_prefix.rises.below }
-
 pub returns-clause-lesser : goal.returns-clause-lesser
 returns-clause-lesser g c =
     let order = subst (λ (r : CountedRowsValue). IsBound (Prefix c.args.prefix.now) r.rows r.numbers c.find.result) c.new-rows.ensures c.find.ensures.bound in
@@ -23,6 +20,3 @@ pub returns-clause-cost : goal.returns-clause-cost
 returns-clause-cost g c =
     let numbers = ap (λ (r : CountedRowsValue). length r.numbers) c.new-rows.ensures in
     rw (← c.self.view_is) (omega (arith, c.find.ensures.cost, numbers, long_index c.self.inside.items.items c.self.inside.by_prefix.items c.self.invariant.by_prefix))
-
-pub returns-clause-grows : goal.returns-clause-grows
-returns-clause-grows g c = c.find.ensures.rises

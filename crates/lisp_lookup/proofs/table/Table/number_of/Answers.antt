@@ -6,14 +6,8 @@ use Rattle.lisp_lookup.proofs.IndexLaws.{prefix_total, falls}
 use Rattle.lisp_lookup.proofs.PutLaws.{settled}
 use Rattle.lisp_lookup.proofs.table.Table.number_of.Goals as goal
 
-pub number_at-requires : goal.number_at-requires
-number_at-requires g c = record { index = subst (λ (rows : List RowValue). IsIndex row_prefix_cmp rows c.self.inside.by_prefix.items) (sym c.deref-rows.ensures.value) c.self.invariant.by_prefix }
-
 pub place-place-requires-clause-falls : goal.place-place-requires-clause-falls
 place-place-requires-clause-falls g c = falls row_prefix_cmp prefix_total c.args.row.now c.deref-rows.result.now c.self.inside.by_prefix.items (subst (λ (rows : List RowValue). IsIndex row_prefix_cmp rows c.self.inside.by_prefix.items) (sym c.deref-rows.ensures.value) c.self.invariant.by_prefix).rises
-
-pub place-place-requires-clause-below : goal.place-place-requires-clause-below
-place-place-requires-clause-below g c = (subst (λ (rows : List RowValue). IsIndex row_prefix_cmp rows c.self.inside.by_prefix.items) (sym c.deref-rows.ensures.value) c.self.invariant.by_prefix).rises.below
 
 pub returns : goal.returns
 returns g c =

@@ -56,15 +56,3 @@ returns-in-Some-clause-room g c = room_less (vec_room c.self.inside.items) (dequ
 
 pub returns-in-None-clause-row : goal.returns-in-None-clause-row
 returns-in-None-clause-row g c = subst (λ (rows : List RowValue). Sets c.args.self.now.rows rows (c.args.row ∷ [])) (sym {A = List RowValue} c.add.ensures.rows) (sets_push c.args.self.now.rows c.args.row (sym c.in-None.ensures))
-
-pub returns-in-None-clause-room : goal.returns-in-None-clause-room
-returns-in-None-clause-room g c = c.add.ensures.room
-
-pub add-requires-clause-block : goal.add-requires-clause-block
-add-requires-clause-block g c = c.known.ensures
-
-pub add-requires-clause-none : goal.add-requires-clause-none
-add-requires-clause-none g c = sym c.in-None.ensures
-
-pub add-requires-clause-room : goal.add-requires-clause-room
-add-requires-clause-room g c = c.requires

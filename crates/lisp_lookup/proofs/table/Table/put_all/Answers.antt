@@ -14,9 +14,6 @@ loop-row-preserved g c = record {
   room = (let rest = ap length c.in-Some.ensures.steps.0 in omega (arith, rest, c.loop-row.invariant.room, c.put.ensures.room));
 }
 
-pub put-requires : goal.put-requires
-put-requires g c = (let rest = ap length c.in-Some.ensures.steps.0 in omega (arith, rest, c.loop-row.invariant.room))
-
 pub returns-clause-one_each : goal.returns-clause-one_each
 returns-clause-one_each g c = rw (← c.self.view_is) (one_each c.self.inside.items.items c.self.inside.by_prefix.items c.self.invariant.by_prefix)
 

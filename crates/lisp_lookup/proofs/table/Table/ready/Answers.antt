@@ -1,4 +1,4 @@
-use Rattle.std.proofs.Common.{◌-◌, length, ap, ◌∙◌, arith}
+use Rattle.std.proofs.Common.{◌-◌, length, ap, ◌∙◌}
 use Rattle.lisp_lookup.specs.Table.{TableState}
 use Rattle.lisp_lookup.proofs.PutLaws.{room_read, fits_last, fits_not_first, fits_not_second}
 use Rattle.lisp_lookup.proofs.table.Table.ready.Goals.{then-rows-capacity, else-rows-capacity}
@@ -12,12 +12,3 @@ returns-else-rows-prefixes g c = elim c.if-rows-capacity.branch [
   | then-rows-capacity w ↦ w.t-12-is ∙ fits_not_second (length c.args.rows.now) (c.capacity-3.result - c.len-3.result) (c.capacity.result - c.len.result) (c.capacity-2.result - c.len-2.result) c.args.self.now.spare (room_read _ _ _ _ _ _ _ _ _ _ _ _ _ c.capacity-3.ensures c.len-3.ensures c.capacity.ensures c.len.ensures c.capacity-2.ensures c.len-2.ensures (ap (λ (s : TableState). s.spare) c.self.view_is)) w.if-rows-capacity.true c.if-rows-prefixes.either
   | else-rows-capacity w ↦ w.t-12-is ∙ fits_not_first (length c.args.rows.now) (c.capacity-3.result - c.len-3.result) (c.capacity.result - c.len.result) (c.capacity-2.result - c.len-2.result) c.args.self.now.spare (room_read _ _ _ _ _ _ _ _ _ _ _ _ _ c.capacity-3.ensures c.len-3.ensures c.capacity.ensures c.len.ensures c.capacity-2.ensures c.len-2.ensures (ap (λ (s : TableState). s.spare) c.self.view_is)) w.if-rows-capacity.false
 ]
-
-pub overflow_sub-capacity : goal.overflow_sub-capacity
-overflow_sub-capacity g c = omega (arith, c.len-3.ensures, c.capacity-3.ensures, c.self.inside.items.ok.1)
-
-pub overflow_sub-deadlines : goal.overflow_sub-deadlines
-overflow_sub-deadlines g c = omega (arith, c.len-2.ensures, c.capacity-2.ensures, c.self.inside.by_deadline.ok.1)
-
-pub overflow_sub-prefixes : goal.overflow_sub-prefixes
-overflow_sub-prefixes g c = omega (arith, c.len.ensures, c.capacity.ensures, c.self.inside.by_prefix.ok.1)

@@ -1,4 +1,4 @@
-use Rattle.std.proofs.Common.{◌∷◌, List, sym, ap, ◌∙◌, subst, ◌<◌, length, arith}
+use Rattle.std.proofs.Common.{◌∷◌, List, sym, ap, ◌∙◌, subst, ◌<◌, length}
 use Rattle.std.proofs.lemmas.List.Elements.{All-tail}
 use Rattle.std.proofs.lemmas.List.Sorted.{IsPermutation-swap_remove, All-permutation}
 use Rattle.std.specs.List.{All, swap_remove}
@@ -25,18 +25,3 @@ returns g c =
       was = c.swap_remove.ensures.value;
       moved = subst (λ (rows : List RowValue). IsPermutation c.self.inside.items.items (c.swap_remove.result ∷ rows)) (sym c.swap_remove.ensures.items) (IsPermutation-swap_remove c.self.inside.items.items c.args.number c.swap_remove.result within c.swap_remove.ensures.value);
     })
-
-pub forget-requires-clause-index : goal.forget-requires-clause-index
-forget-requires-clause-index g c = subst (λ (rows : List RowValue). IsIndex row_prefix_cmp rows c.self.inside.by_prefix.items) (sym c.deref.ensures.value) c.self.invariant.by_prefix
-
-pub forget-requires-clause-within : goal.forget-requires-clause-within
-forget-requires-clause-within g c = subst (λ (rows : List RowValue). c.args.number < length rows) (ap (λ (s : TableState). s.rows) (sym c.self.view_is) ∙ sym c.deref.ensures.value) c.requires
-
-pub forget-requires-2-clause-index : goal.forget-requires-2-clause-index
-forget-requires-2-clause-index g c = subst (λ (rows : List RowValue). IsIndex row_deadline_cmp rows c.self.inside.by_deadline.items) (sym c.deref-2.ensures.value) c.self.invariant.by_deadline
-
-pub forget-requires-2-clause-within : goal.forget-requires-2-clause-within
-forget-requires-2-clause-within g c = subst (λ (rows : List RowValue). c.args.number < length rows) (ap (λ (s : TableState). s.rows) (sym c.self.view_is) ∙ sym c.deref-2.ensures.value) c.requires
-
-pub swap_remove-requires : goal.swap_remove-requires
-swap_remove-requires g c = (let within = subst (λ (s : TableState). c.args.number < length s.rows) (sym c.self.view_is) c.requires in omega (arith, within, c.self.inside.items.ok.0))
