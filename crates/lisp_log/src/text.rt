@@ -25,7 +25,7 @@ use std::alloc::{AllocError, Allocator};
 pub const OVER_BUDGET: u16 = 135;
 
 /// What of the system's failed, where a line says so.
-#[derive(Clone, Copy, Debug, PartialEq, Eq)]
+#[derive(Clone, Copy)]
 pub enum Device {
     /// The store of nonces.
     Store,
