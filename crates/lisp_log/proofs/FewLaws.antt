@@ -5,7 +5,8 @@ use Rattle.std.specs.List.{All, AllPairs, Contains}
 use Rattle.std.proofs.lemmas.Bool.{true≢false}
 use Rattle.std.proofs.lemmas.List.{length-append, length_push}
 use Rattle.std.proofs.lemmas.List.Elements.{All-contains}
-use Rattle.std.proofs.lemmas.List.Sums.{sum_by-cons, sum_by-le, sum_by-le-sum_by, count_by-le-length, get_or-le-sum_by}
+use Rattle.std.proofs.lemmas.List.Filters.{length-filter_both}
+use Rattle.std.proofs.lemmas.List.Sums.{sum_by-cons, sum_by-le, sum_by-le-sum_by, count_by-le-length, get_or-le-sum_by, length-filter}
 use Rattle.lisp_log.specs.declared.repeats.Repeat.{Repeat}
 use Rattle.lisp_log.specs.declared.repeats.Repeated.{Repeated}
 use Rattle.lisp_log.specs.declared.repeats.Source.{Source}
@@ -46,15 +47,7 @@ either {X} p q (x ∷ xs) =
 
 -- and those that don't
 parts : {X : Type 0} (p : X → Bool) (xs : List X) → length xs ≡ count_by p xs + count_by (λ x. not (p x)) xs
-parts p [] = refl
-parts {X} p (x ∷ xs) =
-    let first = sum_by-cons (λ (y : X). cond (p y) 1 0) x xs in
-    let second = sum_by-cons (λ (y : X). cond (not (p y)) 1 0) x xs in
-    omega (arith, first, second, one (p x), parts p xs)
-  where
-    one : (b : Bool) → ◌≡◌ {A = ℕ} 1 (cond b 1 0 + cond (not b) 1 0)
-    one true = refl
-    one false = refl
+parts {X} p xs = sym (length-filter_both p (λ (x : X). not (p x)) (λ x. refl) xs) ∙ (λ i. length-filter p xs i + length-filter (λ (x : X). not (p x)) xs i)
 
 -- ---- entries for all others
 

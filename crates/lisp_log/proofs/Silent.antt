@@ -1,6 +1,6 @@
 -- How many Map-Servers are silent.
-use Rattle.std.proofs.Common.{◌≡◌, ℕ, ◌+◌, ◌-◌, ◌<◌, Bool, true, false, ◌&&◌, cond, List, get_or, refl, sym, ap, ◌∙◌, subst, arith}
-use Rattle.std.specs.Prelude.{nat_le, count_by}
+use Rattle.std.proofs.Common.{◌≡◌, ℕ, ◌+◌, ◌-◌, ◌<◌, Bool, true, false, ◌&&◌, cond, List, Option, Some, get_or, refl, sym, ap, ◌∙◌, subst, arith}
+use Rattle.std.specs.Prelude.{nat_le, count_by, slice_get, slice_set}
 use Rattle.std.proofs.lemmas.Bool.{le-leb, lt-leb, true≢false}
 use Rattle.std.proofs.lemmas.List.Sums.{sum_by-set}
 use Rattle.std.proofs.lemmas.Option.{slice_get_within, get_or_from_slice_get}
@@ -21,18 +21,17 @@ pub and_not : (a b : Bool) → b ≡ false → (a && b) ≡ false
 and_not true b is = is
 and_not false b is = refl
 
--- one of them is no more what it was
-pub counts : (new old : ℕ) (was is_yet : Bool) → new + cond was 1 0 ≡ old + cond is_yet 1 0 → was ≡ true → is_yet ≡ false → new < old
-counts new old true false is one none = omega arith
-counts new old false is_yet is one none = absurd (true≢false (sym one))
-counts new old true true is one none = absurd (true≢false none)
+-- where one that passes a test is changed into one that does not, fewer pass
+pub fewer_pass : {X : Type 0} (p : X → Bool) (old new : List X) (place : ℕ) (one after : X) → slice_get old place ≡ Some one → new ≡ slice_set old place after → p one ≡ true → p after ≡ false → count_by p new < count_by p old
+fewer_pass {X} p old new place one after there is was is_not =
+    let changed = sum_by-set (λ (x : X). cond (p x) 1 0) old place after one (slice_get_within old place one there) in
+    let before : p (get_or old place one) ≡ true = ap p (get_or_from_slice_get old place one one there) ∙ was in
+    let counted : ◌≡◌ {A = ℕ} (cond (p (get_or old place one)) 1 0) 1 = ap (λ (b : Bool). cond b 1 0) before in
+    let none : ◌≡◌ {A = ℕ} (cond (p after) 1 0) 0 = ap (λ (b : Bool). cond b 1 0) is_not in
+    subst (λ (xs : List X). count_by p xs < count_by p old) (sym is) (omega (arith, changed, counted, none))
 
 -- one that was told is silent no more
 pub fewer : (old new : List Silence) (now : ℕ) (told : ℕ × ℕ) → TellsSilence old new now told → count_silent now new < count_silent now old
-fewer old new now told t =
-    let after : Silence = record t.one { next_line = now + again } in
-    let was : is_silent now t.one ≡ true = and_both (nat_le patience (now - t.one.acknowledged)) (nat_le t.one.next_line now) (le-leb patience (now - t.one.acknowledged) t.silent.0) (le-leb t.one.next_line now t.silent.1) in
-    let is_not : is_silent now after ≡ false = and_not (nat_le patience (now - t.one.acknowledged)) (nat_le (now + again) now) (lt-leb (now + again) now (omega arith)) in
-    let changed = sum_by-set (λ (s : Silence). cond (is_silent now s) 1 0) old t.place after t.one (slice_get_within old t.place t.one t.there) in
-    let before : is_silent now (get_or old t.place t.one) ≡ true = ap (λ (s : Silence). is_silent now s) (get_or_from_slice_get old t.place t.one t.one t.there) ∙ was in
-    subst (λ (ss : List Silence). count_silent now ss < count_silent now old) (sym t.left) (counts _ _ (is_silent now (get_or old t.place t.one)) (is_silent now after) changed before is_not)
+fewer old new now told t = fewer_pass (is_silent now) old new t.place t.one (record t.one { next_line = now + again }) t.there t.left
+    (and_both (nat_le patience (now - t.one.acknowledged)) (nat_le t.one.next_line now) (le-leb patience (now - t.one.acknowledged) t.silent.0) (le-leb t.one.next_line now t.silent.1))
+    (and_not (nat_le patience (now - t.one.acknowledged)) (nat_le (now + again) now) (lt-leb (now + again) now (omega arith)))

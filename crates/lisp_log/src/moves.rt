@@ -16,7 +16,7 @@ use std::marker::Model;
 const MINUTE_MS: u64 = 60_000;
 
 /// Where a router was heard last.
-#[derive(Clone, Copy, Debug, PartialEq, Eq)]
+#[derive(Clone, Copy)]
 pub struct Whereabouts {
     /// The source address of the last Map-Register that was accepted of it.
     pub from: Addr,

@@ -16,7 +16,7 @@ const MOST_ADDRESSES: usize = 64;
 const MOST_ENTRIES: usize = 144;
 
 /// What repeats in a second: refusals, or what is said of EID-Prefixes that Map-Requests ask for.
-#[derive(Clone, Copy, Debug, PartialEq, Eq)]
+#[derive(Clone, Copy, PartialEq, Eq)]
 pub enum Repeated {
     /// Refusals with the number that operators see.
     Refused(u16),
@@ -32,7 +32,7 @@ pub enum Repeated {
 
 /// The address that lines name: of a refused datagram where it came from, of an answer to a Map-Request where it went, or the Map-Request
 /// itself.
-#[derive(Clone, Copy, Debug, PartialEq, Eq)]
+#[derive(Clone, Copy, PartialEq, Eq)]
 pub enum Source {
     /// An address that is told apart.
     Address(Addr),
@@ -41,7 +41,7 @@ pub enum Source {
 }
 
 /// What repeats with one source.
-#[derive(Clone, Copy, Debug, PartialEq, Eq)]
+#[derive(Clone, Copy)]
 pub struct Repeat {
     /// What it is.
     pub what: Repeated,

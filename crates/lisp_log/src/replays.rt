@@ -15,7 +15,7 @@ const MOST_RUNS: usize = 64;
 
 /// A run of Map-Registers from one address that a Map-Server refuses as replays: what a router sends
 /// that has lost its nonces.
-#[derive(Clone, Copy, Debug, PartialEq, Eq)]
+#[derive(Clone, Copy)]
 pub struct Replay {
     /// The source address.
     pub from: Addr,

@@ -16,7 +16,7 @@ pub(crate) const PATIENCE_MS: u64 = 180_000;
 pub(crate) const AGAIN_MS: u64 = 600_000;
 
 /// How long a Map-Server that a router registers with hasn't acknowledged.
-#[derive(Clone, Copy, Debug, PartialEq, Eq)]
+#[derive(Clone, Copy)]
 pub struct Silence {
     /// The Map-Server's number.
     pub server: usize,

@@ -4,7 +4,6 @@ ghost use Rattle.std.specs.Prelude.{◌≡◌, ◌++◌, OnErr};
 ghost use Rattle.std.specs.Option.{option_copied};
 ghost use Rattle.lisp_lines.specs.Front.{Adds, GivesText};
 ghost use Rattle.lisp_log.specs.Text.{device_of, device_of_line, device_of_refusal, cause_words, caused_words, heard_words, expired_words, asked_words, replies_words, refused_words, failed_words, told_words, told_text, repeated_words, source_text, repeat_text, silent_text, run_words, replay_text, moved_text, started_text};
-ghost use Rattle.lisp_mapping.specs.declared.outcome.Outcome.TheVariants.{Replied, Negative};
 
 use crate::repeats::{Repeat, Repeated, Source};
 use crate::replays::Replay;
@@ -25,7 +24,7 @@ use std::alloc::{AllocError, Allocator};
 pub const OVER_BUDGET: u16 = 135;
 
 /// What of the system's failed, where a line says so.
-#[derive(Clone, Copy, Debug, PartialEq, Eq)]
+#[derive(Clone, Copy)]
 pub enum Device {
     /// The store of nonces.
     Store,
@@ -181,44 +180,20 @@ fn asked_words<A: Memory + Copy>(
     ensures memory { OnErr result A.may_refuse }
 {
     match outcome {
-        Outcome::Replied(records) => replied_words(alloc, name, eid, to, *records),
-        Outcome::Negative(hole) => negative_words(alloc, name, eid, to, hole),
+        Outcome::Replied(records) => {
+            let mut text = replies_words(alloc, "replied", name, eid, to)?;
+            text.try_write(format_args!(" records {records}"))?;
+            Ok(text)
+        }
+        Outcome::Negative(hole) => {
+            let mut text = replies_words(alloc, "negative", name, eid, to)?;
+            let hole = prefix_to_text(alloc, hole)?;
+            text.try_write(format_args!(" prefix {hole}"))?;
+            Ok(text)
+        }
         Outcome::Forwarded(router) => replies_words(alloc, "forwarded", name, eid, router),
         Outcome::Silent => replies_words(alloc, "unanswered", name, eid, to),
     }
-}
-
-// A Map-Reply of so many records.
-fn replied_words<A: Memory + Copy>(
-    alloc: A,
-    name: &str,
-    eid: &Prefix,
-    to: &Addr,
-    records: usize,
-) -> Result<String<A>, AllocError>
-    ensures text { GivesText result (asked_words name.now eid.now to.now (Replied records)) }
-    ensures memory { OnErr result A.may_refuse }
-{
-    let mut text = replies_words(alloc, "replied", name, eid, to)?;
-    text.try_write(format_args!(" records {records}"))?;
-    Ok(text)
-}
-
-// A negative Map-Reply: nobody is in this prefix.
-fn negative_words<A: Memory + Copy>(
-    alloc: A,
-    name: &str,
-    eid: &Prefix,
-    to: &Addr,
-    hole: &Prefix,
-) -> Result<String<A>, AllocError>
-    ensures text { GivesText result (asked_words name.now eid.now to.now (Negative hole.now)) }
-    ensures memory { OnErr result A.may_refuse }
-{
-    let mut text = replies_words(alloc, "negative", name, eid, to)?;
-    let hole = prefix_to_text(alloc, hole)?;
-    text.try_write(format_args!(" prefix {hole}"))?;
-    Ok(text)
 }
 
 // The first word, the node's name, an EID-Prefix, and the address that something goes to.

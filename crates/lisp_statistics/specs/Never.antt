@@ -19,11 +19,8 @@ abbrev pub is_never : ℕ → List RouterId → RouterEntryValue → Bool
 is_never number heard r = registers_with number r && not (is_among heard r.me)
 
 -- its line; of any other router there is none
-abbrev pub never_line : List ℕ → List ℕ
-never_line name = codes "router " ++ name ++ codes " never\n"
-
 abbrev pub never_words : ℕ → List RouterId → RouterEntryValue → List ℕ
-never_words number heard r = if is_never number heard r then never_line r.name else []
+never_words number heard r = if is_never number heard r then codes "router " ++ r.name ++ codes " never\n" else []
 
 -- the lines of all of them, in the order of the configuration, and how many they are
 abbrev pub never_text : ConfigValue → ℕ → List RouterId → List ℕ

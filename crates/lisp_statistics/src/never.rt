@@ -4,7 +4,7 @@ ghost use Rattle.std.specs.Prelude.{◌≡◌, OnErr};
 ghost use Rattle.std.specs.List.{flat_map};
 ghost use Rattle.std.specs.Map.{keys_of};
 ghost use Rattle.lisp_lines.specs.Front.{Adds};
-ghost use Rattle.lisp_statistics.specs.Never.{is_among, is_never, never_count, never_line, never_text, never_words, registers_with};
+ghost use Rattle.lisp_statistics.specs.Never.{is_among, is_never, never_count, never_text, never_words, registers_with};
 
 use crate::hearing::Hearing;
 use lisp_memory::{FallibleString, Memory};
@@ -71,18 +71,11 @@ fn put_if_never<A: Memory, B: Memory + Copy, E: Allocator>(
     ensures memory { OnErr result A.may_refuse }
 {
     if is_never(router, number, heard) {
-        put_never_line(text, router.name.as_str())
+        let name = router.name.as_str();
+        text.try_write(format_args!("router {name} never\n"))
     } else {
         Ok(())
     }
-}
-
-// Appends the line of a router with a name. Out of memory, it may leave a part of it.
-fn put_never_line<A: Memory>(text: &mut String<A>, name: &str) -> Result<(), AllocError>
-    ensures text { Adds result text.old text.new (never_line name.now) }
-    ensures memory { OnErr result A.may_refuse }
-{
-    text.try_write(format_args!("router {name} never\n"))
 }
 
 // Whether a router registers with the Map-Server with a number, and isn't among those that it heard.

@@ -30,22 +30,8 @@ pub(crate) fn put_replays<A: Memory + Copy>(
     ensures memory { OnErr result A.may_refuse }
 {
     for run in runs {
-        put_replay(alloc, text, name, run, now)?;
+        let line = replay_text(alloc, name, run, now)?;
+        text.try_write(line.as_str())?;
     }
     Ok(())
-}
-
-// Appends the line of a run. Out of memory, it leaves all as it was.
-fn put_replay<A: Memory + Copy>(
-    alloc: A,
-    text: &mut String<A>,
-    name: &str,
-    run: &Replay,
-    now: u64,
-) -> Result<(), AllocError>
-    ensures text { Adds result text.old text.new (run_text name.now now run.now) }
-    ensures memory { OnErr result A.may_refuse }
-{
-    let line = replay_text(alloc, name, run, now)?;
-    text.try_write(line.as_str())
 }

@@ -7,7 +7,7 @@ ghost use Rattle.lisp_lines.specs.Front.{Adds, GivesText};
 ghost use Rattle.lisp_lines.specs.Walk.{up_to_most};
 ghost use Rattle.lisp_records.specs.Router.{router_cmp};
 ghost use Rattle.lisp_records.specs.Row.{RowValue};
-ghost use Rattle.lisp_statistics.specs.Routers.{CountsRows, rows_in, AddsRow, routers_text, routers_counted_text, routers_head, routers_lines, router_text, unheard_text, counted_text, hearing_words};
+ghost use Rattle.lisp_statistics.specs.Routers.{CountsRows, rows_in, AddsRow, routers_text, routers_counted_text, routers_head, routers_lines, unheard_text, counted_text, hearing_words};
 
 use crate::gathering::Gathering;
 use crate::hearing::Hearing;
@@ -116,6 +116,7 @@ fn put_routers<A: Memory + Copy, B: Memory + Copy, C: Memory + Copy, E: Allocato
 }
 
 /// Appends the line of a router at a moment, in ms, with its rows by these counts. Out of memory, it may leave a part of it.
+#[tactic(auto, using(crate::proofs::Counting::steps))]
 pub(crate) fn put_counted<A: Memory + Copy, C: Memory + Copy, E: Allocator>(
     alloc: A,
     text: &mut String<A>,
@@ -129,8 +130,13 @@ pub(crate) fn put_counted<A: Memory + Copy, C: Memory + Copy, E: Allocator>(
         (counted_text config.now now counts.now (router.now, hearing.now)) }
     ensures memory { OnErr result A.may_refuse }
 {
+    let from = addr_to_text(alloc, &hearing.from)?;
+    text.try_write("router ")?;
+    put_router_word(text, config, Wording::Node, router)?;
+    text.try_write(format_args!(" from {from}"))?;
+    put_hearing(text, hearing, now)?;
     let rows = rows_in(counts, router);
-    put_router(alloc, text, config, router, hearing, now, rows)
+    text.try_write(format_args!(" rows {rows}\n"))
 }
 
 // The line before the others of a Map-Server: how many they are.
@@ -139,29 +145,6 @@ fn routers_head<A: Memory>(alloc: A, server: &str, following: u64) -> Result<Str
     ensures memory { OnErr result A.may_refuse }
 {
     String::try_format(alloc, format_args!("routers {server} {following}\n"))
-}
-
-// Appends the line of a router. Out of memory, it may leave a part of it.
-#[tactic(auto, using(crate::proofs::Counting::steps))]
-fn put_router<A: Memory + Copy, E: Allocator>(
-    alloc: A,
-    text: &mut String<A>,
-    config: &Config<E>,
-    router: &RouterId,
-    hearing: &Hearing,
-    now: u64,
-    rows: u64,
-) -> Result<(), AllocError>
-    ensures text { Adds result text.old text.new
-        (router_text config.now now router.now hearing.now rows) }
-    ensures memory { OnErr result A.may_refuse }
-{
-    let from = addr_to_text(alloc, &hearing.from)?;
-    text.try_write("router ")?;
-    put_router_word(text, config, Wording::Node, router)?;
-    text.try_write(format_args!(" from {from}"))?;
-    put_hearing(text, hearing, now)?;
-    text.try_write(format_args!(" rows {rows}\n"))
 }
 
 // Appends under which key and nonce a router was heard, and how long before a moment. Out of memory, it may leave a part of it.
