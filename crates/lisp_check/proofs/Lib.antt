@@ -3,5 +3,4 @@ pub mod Exact
 pub mod Decided
 pub mod Repeats
 pub mod SecretWarnings
-pub mod Walk
 pub mod Among

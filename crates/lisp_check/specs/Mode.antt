@@ -1,6 +1,6 @@
 -- What a place of a TOML text is in, by the bytes before it. 34 and 39 are the two quotes, 92 is the backslash, 35 begins a comment, and
 -- 10 ends a line.
-use Rattle.std.specs.Prelude.{ℕ, ◌==◌, ◌&&◌, ◌||◌, Bool, true, false, List, [], ◌∷◌, if◌then◌else◌}
+use Rattle.std.specs.Prelude.{ℕ, ◌==◌, ◌&&◌, ◌||◌, Bool, true, false, if◌then◌else◌}
 use Rattle.lisp_check.specs.declared.mode.Mode.{Mode}
 use Rattle.lisp_check.specs.declared.mode.Mode.TheVariants.{Start, Line, Comment, Opened, OpenedTwice, Text, TextEscape, Long, LongOnce, LongTwice, LongEscape, Closed}
 
@@ -44,8 +44,3 @@ step (LongOnce quote) b = in_long quote b (LongTwice quote)
 step (LongTwice quote) b = in_long quote b (Closed quote)
 step LongEscape b = Long 34
 step (Closed quote) b = if b == quote then Closed quote else in_line b
-
--- behind bytes
-abbrev pub walked : Mode → List ℕ → Mode
-walked mode [] = mode
-walked mode (b ∷ bs) = walked (step mode b) bs

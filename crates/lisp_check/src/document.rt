@@ -69,11 +69,8 @@ pub fn read_document(alloc: Global, text: &str) -> Result<Document, AllocError>
 
 /// The elements of an array; none where there is no such array.
 pub(crate) fn elements<'a>(table: &'a Value, key: &str) -> &'a [Value] {
-    match table.get(key) {
-        Some(value) => match value.as_array() {
-            Some(values) => values,
-            None => &[],
-        },
+    match table.get(key).and_then(Value::as_array) {
+        Some(values) => values,
         None => &[],
     }
 }

@@ -111,15 +111,10 @@ fn is_site_id(document: &Value, placed: &PlacedFault) -> bool {
 }
 
 fn is_key_id(document: &Value, placed: &PlacedFault) -> bool {
-    match faulty_value(document, placed) {
-        Some(value) => matches!(value.as_integer(), Some(0..=255)),
-        None => false,
-    }
+    let number = faulty_value(document, placed).and_then(Value::as_integer);
+    matches!(number, Some(0..=255))
 }
 
 fn is_server(document: &Value, placed: &PlacedFault) -> bool {
-    match faulty_text(document, placed) {
-        Some(text) => is_name(text),
-        None => false,
-    }
+    faulty_text(document, placed).map(is_name).unwrap_or(false)
 }

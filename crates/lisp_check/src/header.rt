@@ -15,18 +15,20 @@ pub struct Header {
 }
 
 /// The headers of a text: each stands at the start of a line, after blanks at most, and in no string of several lines.
+#[tactic(auto, using(crate::proofs::Each::steps))]
 pub fn headers(alloc: Global, text: &str) -> Result<Vec<Header>, AllocError>
     ensures headers { IfOk result (λ headers. headers.items ≡ headers_in text.now) }
 {
     let mut headers = Vec::new(alloc);
     let mut mode = Mode::Start;
-    let mut line = 1;
-    let bytes = text.as_bytes();
-    for offset in 0..bytes.len() {
-        let byte = bytes[offset];
-        add_header(&mut headers, Header { line, offset }, mode, byte)?;
-        line += line_feeds(byte);
-        mode = mode.step(byte);
+    let (mut line, mut offset) = (1, 0);
+    let mut rest = text.as_bytes();
+    while let [byte, others @ ..] = rest {
+        add_header(&mut headers, Header { line, offset }, mode, *byte)?;
+        line += line_feeds(*byte);
+        offset += 1;
+        mode = mode.step(*byte);
+        rest = others;
     }
     Ok(headers)
 }

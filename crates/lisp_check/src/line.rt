@@ -41,10 +41,7 @@ pub(crate) fn table_line(document: &Document, place: Place, key: &str) -> Option
 
 // The array of a place's innermost entry.
 fn innermost(place: Place) -> Option<Field> {
-    match place.part {
-        Some(part) => Some(part.array),
-        None => Some(place.entry?.array),
-    }
+    Some(place.part.or(place.entry)?.array)
 }
 
 // Whether a header's name is that of a table in an entry of the array, or of what is in that table.

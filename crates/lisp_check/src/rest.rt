@@ -50,10 +50,7 @@ impl Rest {
         let entry = self.numbered(None, entry);
         Place {
             entry: Some(entry),
-            part: match place.part {
-                Some(part) => Some(self.numbered(Some(entry), part)),
-                None => None,
-            },
+            part: place.part.map(|part| self.numbered(Some(entry), part)),
         }
     }
 

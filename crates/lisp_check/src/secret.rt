@@ -186,14 +186,8 @@ fn first_like(firsts: &BTreeMap<&[u8], KeyPlace>, secret: &KeySecret) -> Option<
 fn unless_own(place: KeyPlace, first: Option<KeyPlace>) -> Option<KeyPlace>
     ensures { result ≡ unless_own place first }
 {
-    match first {
-        Some(first) => if is_place(place, first) {
-            None
-        } else {
-            Some(first)
-        },
-        None => None,
-    }
+    let first = first?;
+    (!is_place(place, first)).then_some(first)
 }
 
 fn is_place(place: KeyPlace, other: KeyPlace) -> bool

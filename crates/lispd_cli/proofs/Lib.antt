@@ -1,5 +1,3 @@
-mod Orders
-mod Said
 mod Warned
 mod Numbers
 mod Taken

@@ -1,44 +1,36 @@
 -- What is warned of, one more at a time; bytes that are written one behind the other.
-use Rattle.std.proofs.Common.{◌≡◌, ℕ, ◌+◌, ◌<◌, List, [], ◌∷◌, ◌++◌, length, take, get_or, Option, Some, None, sym, refl, ap, ◌∙◌, arith, append-nil, append_assoc, length-append, subst}
+use Rattle.std.proofs.Common.{◌≡◌, ◌≤◌, ℕ, suc, length, get_or, List, [], ◌∷◌, ◌++◌, Option, Some, None, sym, refl, ap, subst, ◌∙◌, append-nil, append_assoc}
 use Rattle.std.specs.Prelude.{IfSome}
 use Rattle.std.specs.List.{flat_map}
 use Rattle.std.specs.Io.KnownBytes.{Appends}
-use Rattle.std.proofs.lemmas.List.{flat_map_more, take_more}
 use Rattle.lisp_check.specs.declared.warning.Warning.{Warning}
 use Rattle.lisp_check.specs.Line.{IsHeaderLine}
 use Rattle.lispd_cli.specs.declared.findings.Finding.{Finding}
 use Rattle.lispd_cli.specs.declared.findings.What.TheVariants.{Config}
-use Rattle.lispd_cli.specs.Check.{AddedLines, AddedPlaced, ArePlaced, IsPlaced, warning_line}
+use Rattle.lispd_cli.proofs.Numbers.{others, parted}
+use Rattle.lispd_cli.specs.Check.{AddedLines, AddedPlaced, warning_line}
 
--- one more with its line
-more_placed : (text : List ℕ) (warnings : List Warning) (found : List Finding) (w : Warning) (one : Finding) → ArePlaced text warnings found → IsPlaced text w one → ArePlaced text (warnings ++ w ∷ []) (found ++ one ∷ [])
-more_placed text [] [] w one are is = (is, tt)
-more_placed text [] (x ∷ found) w one are is = absurd are
-more_placed text (v ∷ warnings) [] w one are is = absurd are
-more_placed text (v ∷ warnings) (x ∷ found) w one (first, others) is = (first, more_placed text warnings found w one others is)
+-- none, and one before others
+pub placed_none : (text : List ℕ) (all : List Finding) (ws : List Warning) → ws ≡ [] → AddedPlaced text all all ws
+placed_none text all ws none = subst (λ (l : List Warning). AddedPlaced text all all l) (sym none) ([], tt, sym (append-nil all))
 
-pub placed_none : (text : List ℕ) (all : List Finding) → AddedPlaced text all all []
-placed_none text all = ([], tt, sym (append-nil all))
-
-pub placed_more : (text : List ℕ) (ws : List Warning) (before all next : List Finding) (i : ℕ) (d : Warning) (line : Option ℕ) → i < length ws → AddedPlaced text before all (take i ws) → IfSome line (IsHeaderLine text)
-    → next ≡ all ++ record { line = line; what = Config (get_or ws i d) } ∷ [] → AddedPlaced text before next (take (i + 1) ws)
-placed_more text ws before all next i d line within (so, are, so_far) header pushed =
-    let one : Finding = record { line = line; what = Config (get_or ws i d) } in (
-      so ++ one ∷ [],
-      subst (λ (l : List Warning). ArePlaced text l (so ++ one ∷ [])) (sym (take_more ws i d within)) (more_placed text (take i ws) so (get_or ws i d) one are (header, refl)),
-      pushed ∙ ap (λ (l : List Finding). l ++ one ∷ []) so_far ∙ append_assoc before so (one ∷ []),
+pub placed_more : (text : List ℕ) (ws : List Warning) (d : Warning) (all next new : List Finding) (line : Option ℕ) → 1 ≤ length ws → IfSome line (IsHeaderLine text)
+    → next ≡ all ++ record { line = line; what = Config (get_or ws 0 d) } ∷ [] → AddedPlaced text next new (others ws) → AddedPlaced text all new ws
+placed_more text ws d all next new line some header pushed (placed, are, so) =
+    let one : Finding = record { line = line; what = Config (get_or ws 0 d) } in
+    subst (λ (l : List Warning). AddedPlaced text all new l) (sym (parted ws d some)) (
+      one ∷ placed,
+      ((header, refl), are),
+      so ∙ ap (λ (l : List Finding). l ++ placed) pushed ∙ append_assoc all (one ∷ []) placed,
     )
 
--- no line, and one more
-pub lines_none : (path old : List ℕ) → AddedLines path old old 0
-lines_none path old = ([], refl, sym (append-nil old))
+-- no line, and one before others
+pub lines_none : (path old : List ℕ) (count : ℕ) → 0 ≡ count → AddedLines path old old count
+lines_none path old count is = ([], is, sym (append-nil old))
 
-pub lines_more : (path old new next w : List ℕ) (count : ℕ) → AddedLines path old new count → next ≡ new ++ warning_line path w → AddedLines path old next (count + 1)
-lines_more path old new next w count (words, many, so_far) more = (
-  words ++ w ∷ [],
-  omega (arith, length-append words (w ∷ []), many),
-  more ∙ ap (λ (t : List ℕ). t ++ warning_line path w) so_far ∙ append_assoc old (flat_map (warning_line path) words) (warning_line path w) ∙ ap (λ (t : List ℕ). old ++ t) (flat_map_more (warning_line path) [] words w),
-)
+pub lines_more : (path old next new w : List ℕ) (count all : ℕ) → next ≡ old ++ warning_line path w → AddedLines path next new count → all ≡ suc count → AddedLines path old new all
+lines_more path old next new w count all more (words, many, so) is =
+    (w ∷ words, ap suc many ∙ sym is, so ∙ ap (λ (t : List ℕ). t ++ flat_map (warning_line path) words) more ∙ append_assoc old (warning_line path w) (flat_map (warning_line path) words))
 
 -- bytes, and then others
 pub appends_both : (a b c : Option (List ℕ)) (one other : List ℕ) → Appends a b one → Appends b c other → Appends a c (one ++ other)

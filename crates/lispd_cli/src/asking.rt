@@ -28,7 +28,7 @@ const PATIENCE: u64 = 10;
 const NOT_ALLOWED: u16 = 55;
 
 /// Whether a node is asked, or told what to do.
-#[derive(Clone, Copy, Debug, PartialEq, Eq)]
+#[derive(Clone, Copy, PartialEq)]
 pub enum Errand {
     /// It is asked.
     Ask,
@@ -48,10 +48,7 @@ pub fn ask_node<R: Input + Eprint + Files + Net + AllocGlobal, W: Write>(
     words: &ArgMatches<'_>,
     writer: &mut W,
 ) -> Result<(), Failure> {
-    let question = match question(rt.alloc(), words) {
-        Ok(question) => question,
-        Err(error) => return Err(Failure::from(ProgramFault::from(error))),
-    };
+    let question = question(rt.alloc(), words).map_err(ProgramFault::from)?;
     if errand == Errand::Tell && first_word(question.as_str()) == RELOAD {
         return reload_sites(rt, words, writer);
     }
@@ -129,7 +126,12 @@ fn check_change<R: Eprint + Files + Net + AllocGlobal>(
     let records = behind_word(order);
     let question = String::try_format(rt.alloc(), format_args!("disallowed {records}"))?;
     let answer = answer(rt, path, question.as_str())?;
-    let Some(lines) = whole(answer.as_str()) else {
+    check_allowed(rt, answer.as_str())
+}
+
+// Refuses what a node answers to `disallowed` where it says so of some records.
+fn check_allowed<R: Eprint>(rt: &R, answer: &str) -> Result<(), ProgramFault> {
+    let Some(lines) = whole(answer) else {
         return Err(ProgramFault::Unanswered);
     };
     if disallows(lines) {
@@ -169,6 +171,7 @@ fn question(alloc: Global, words: &ArgMatches<'_>) -> Result<String, AllocError>
 }
 
 // Whether a node is asked the question, or told it: by its first word.
+#[tactic(auto, using(crate::proofs::Numbers::apart))]
 fn errand_of(question: &str) -> Errand
     ensures { result ≡ errand_of question.now }
 {
@@ -184,10 +187,7 @@ pub(crate) fn answer<R: Files + Net + AllocGlobal>(
     path: &str,
     question: &str,
 ) -> Result<String, ProgramFault> {
-    match read_answer(rt, path, question) {
-        Ok(answer) => Ok(answer),
-        Err(_) => Err(ProgramFault::Unanswered),
-    }
+    read_answer(rt, path, question).map_err(|_| ProgramFault::Unanswered)
 }
 
 fn read_answer<R: Files + Net + AllocGlobal>(

@@ -36,11 +36,10 @@ pub(crate) fn read_capture<R: Input + Files + AllocGlobal, W: Write>(
     writer: &mut W,
 ) -> Result<(), Failure> {
     let path = word(words, FILE);
-    match wanted_by(words) {
-        Ok(Wanted::Lines(None)) => read_bare(rt, path, writer),
-        Ok(Wanted::Lines(Some(config))) => read_with(rt, path, config, false, writer),
-        Ok(Wanted::Schedule(config)) => read_with(rt, path, config, true, writer),
-        Err(fault) => Err(Failure::from(fault)),
+    match wanted_by(words)? {
+        Wanted::Lines(None) => read_bare(rt, path, writer),
+        Wanted::Lines(Some(config)) => read_with(rt, path, config, false, writer),
+        Wanted::Schedule(config) => read_with(rt, path, config, true, writer),
     }
 }
 
@@ -167,9 +166,8 @@ fn print_lines<A: Memory + Copy, B: Allocator, W: Write>(
         (PrintsLines W.contents writer.old writer.new sites.now bytes.now) }
     ensures fault { IfErr result (IsUntold A.may_refuse bytes.now writer.old writer.new) }
 {
-    let mut transcript = Transcript::open(alloc, bytes)?;
-    write_lines(alloc, sites, &mut transcript, writer)?;
-    Ok(())
+    let mut transcript = Transcript::open(alloc, bytes).map_err(ReadingFault::Capture)?;
+    write_lines(alloc, sites, &mut transcript, writer).map_err(ReadingFault::Output)
 }
 
 // Prints the capture that a file's bytes are as a schedule for a configuration: its text, a line `---`, and the script. Faults as those of
@@ -186,10 +184,9 @@ fn print_schedule<A: Memory + Copy, B: Allocator, W: Write>(
         (PrintsSchedule W.contents writer.old writer.new text.now config.now bytes.now) }
     ensures fault { IfErr result (IsUntold A.may_refuse bytes.now writer.old writer.new) }
 {
-    let mut schedule = Schedule::open(alloc, bytes)?;
-    print_front(text, writer)?;
-    write_schedule(alloc, config, &mut schedule, writer)?;
-    Ok(())
+    let mut schedule = Schedule::open(alloc, bytes).map_err(ReadingFault::Capture)?;
+    print_front(text, writer).map_err(ReadingFault::Output)?;
+    write_schedule(alloc, config, &mut schedule, writer).map_err(ReadingFault::Output)
 }
 
 // Prints what stands before the script of a schedule: a configuration, and a line `---`.

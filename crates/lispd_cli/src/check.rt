@@ -114,10 +114,8 @@ pub(crate) fn print_findings<W: Write>(
 fn print<W: Write>(text: &str, writer: &mut W) -> Result<(), InputFault>
     ensures { OnOk result (Appends (W.contents writer.old) (W.contents writer.new) text.now) }
 {
-    match writer.write_all(text.as_bytes()) {
-        Ok(()) => Ok(()),
-        Err(_) => Err(InputFault::Input(PlayFault::Write)),
-    }
+    let written = writer.write_all(text.as_bytes());
+    written.map_err(|_| InputFault::Input(PlayFault::Write))
 }
 
 /// Prints the warnings of a configuration on standard error. Returns whether there are any.
@@ -204,13 +202,9 @@ fn put_line<D: Display + Drop>(lines: &mut String, line: D) -> Result<(), AllocE
 
 // A fault of a configuration, with its place there and what would be right; then the further ones.
 fn placed_failure(alloc: Global, text: &str, placed: &PlacedFault) -> Failure {
-    let details = match fault_lines(alloc, text, placed) {
-        Ok(lines) => Some(lines),
-        Err(_) => None,
-    };
     Failure {
         fault: ProgramFault::Play(PlayFault::Config(placed.fault)),
-        details,
+        details: fault_lines(alloc, text, placed).ok(),
     }
 }
 

@@ -4,13 +4,7 @@ use crate::help::{ABOUT, IN_WORDS, TABLE, help_of};
 use clap::{Arg, ArgAction, Command};
 use std::alloc::{AllocError, Global};
 
-// Subcommands, and what a Map-Server is told that is to take the sites of a configuration.
-pub(crate) const CHECK: &str = "check";
-
-pub(crate) const TELL: &str = "tell";
-
-pub(crate) const READ: &str = "read";
-
+// What a Map-Server is told that is to take the sites of a configuration.
 pub(crate) const RELOAD: &str = "reload";
 
 // The names of arguments in the table: words, options with a value, switches.
@@ -20,19 +14,13 @@ pub const FILE: &str = "FILE";
 
 pub const NAME: &str = "NAME";
 
-pub(crate) const EID: &str = "EID";
-
 pub(crate) const FOLDER: &str = "FOLDER";
-
-pub(crate) const LIST: &str = "LIST";
 
 pub(crate) const NUMBER: &str = "N";
 
 pub(crate) const QUESTION: &str = "WORD";
 
 pub const STORE: &str = "store";
-
-pub(crate) const GROUP: &str = "group";
 
 pub const DATABASE: &str = "database";
 

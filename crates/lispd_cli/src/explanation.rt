@@ -47,11 +47,7 @@ fn explained_of(alloc: Global, words: &[&str]) -> Result<Option<Vec<u16>>, Alloc
     let Some(numbers) = numbers_of(alloc, &words)? else {
         return Ok(None);
     };
-    if are_known(&numbers) {
-        Ok(Some(numbers))
-    } else {
-        Ok(None)
-    }
+    Ok(are_known(&numbers).then_some(numbers))
 }
 
 fn are_known(numbers: &[u16]) -> bool
@@ -61,27 +57,33 @@ fn are_known(numbers: &[u16]) -> bool
 }
 
 // Writes the explanations of known numbers, one after the other: then only writing fails.
+#[tactic(auto, unfolding(crate::specs::PrintedLine::ExplainsEach))]
 fn explain_each<W: Write>(numbers: &[u16], writer: &mut W) -> Result<(), ProgramFault>
     ensures ok { OnOk result
         (ExplainsEach numbers.now (W.contents writer.old) (W.contents writer.new)) }
     ensures fault { IfErr result (λ fault. fault ≡ unwritten) }
 {
-    for number in numbers {
+    let mut rest = numbers;
+    while let [number, others @ ..] = rest {
         if explain(*number, writer).is_err() {
             return Err(ProgramFault::Explain(ExplainFault::Write));
         }
+        rest = others;
     }
     Ok(())
 }
 
 // Words that are given, as one line.
+#[tactic(auto, using(crate::proofs::Numbers::steps))]
 fn line_of<A: Memory>(alloc: A, words: &[&str]) -> Result<String<A>, AllocError>
     ensures line { IfOk result (λ line. string_bytes line ≡ given (texts words.now)) }
     ensures memory { OnErr result A.may_refuse }
 {
     let mut line = String::new(alloc);
-    for word in words {
+    let mut rest = words;
+    while let [word, others @ ..] = rest {
         put_word(&mut line, word)?;
+        rest = others;
     }
     Ok(line)
 }

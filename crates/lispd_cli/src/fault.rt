@@ -16,7 +16,7 @@ use std::alloc::AllocError;
 use thiserror::Error;
 
 /// What kept `setup` from giving a setup.
-#[derive(Clone, Copy, Debug, PartialEq, Eq, Error)]
+#[derive(Clone, Copy, Debug, Error)]
 pub enum SetupFault {
     /// An option's value has another form than the option takes.
     #[error("{0}")]
@@ -141,26 +141,6 @@ impl ReadingFault {
     }
 }
 
-impl From<CaptureFault> for ReadingFault {
-    ghost use Rattle.lispd_cli.specs.declared.fault.ReadingFault.TheVariants.{Capture};
-
-    ghost from_gives = { λ why fault. fault ≡ Capture why };
-
-    fn from(why: CaptureFault) -> ReadingFault {
-        ReadingFault::Capture(why)
-    }
-}
-
-impl From<WriteFault> for ReadingFault {
-    ghost use Rattle.lispd_cli.specs.declared.fault.ReadingFault.TheVariants.{Output};
-
-    ghost from_gives = { λ why fault. fault ≡ Output why };
-
-    fn from(why: WriteFault) -> ReadingFault {
-        ReadingFault::Output(why)
-    }
-}
-
 /// What ends the program.
 #[derive(Clone, Copy, Debug, Error)]
 pub enum ProgramFault {
@@ -278,16 +258,6 @@ impl From<AllocError> for ProgramFault {
     }
 }
 
-impl From<AnswerFault> for ProgramFault {
-    ghost use Rattle.lispd_cli.specs.declared.fault.ProgramFault.TheVariants.{Answer};
-
-    ghost from_gives = { λ why fault. fault ≡ Answer why };
-
-    fn from(why: AnswerFault) -> ProgramFault {
-        ProgramFault::Answer(why)
-    }
-}
-
 impl From<PlayFault> for ProgramFault {
     ghost use Rattle.lispd_cli.specs.declared.fault.ProgramFault.TheVariants.{Play};
 
@@ -295,16 +265,6 @@ impl From<PlayFault> for ProgramFault {
 
     fn from(why: PlayFault) -> ProgramFault {
         ProgramFault::Play(why)
-    }
-}
-
-impl From<ExplainFault> for ProgramFault {
-    ghost use Rattle.lispd_cli.specs.declared.fault.ProgramFault.TheVariants.{Explain};
-
-    ghost from_gives = { λ why fault. fault ≡ Explain why };
-
-    fn from(why: ExplainFault) -> ProgramFault {
-        ProgramFault::Explain(why)
     }
 }
 

@@ -87,10 +87,12 @@ fn add_warnings(
 ) -> Result<(), AllocError>
     ensures { AddsPlaced result checked.now.document.text all.old.items all.new.items warnings.now }
 {
-    for warning in warnings {
+    let mut rest = warnings;
+    while let [warning, others @ ..] = rest {
         let line = entry_line(&checked.document, warning_place(&checked.config, *warning));
         let what = What::Config(*warning);
         all.try_push(Finding { line, what })?;
+        rest = others;
     }
     Ok(())
 }
@@ -116,9 +118,11 @@ pub(crate) fn put_findings(
 ) -> Result<(), AllocError>
     ensures { PutsLines result path.now text.old text.new findings.now }
 {
-    for finding in findings {
+    let mut rest = findings;
+    while let [finding, others @ ..] = rest {
         let words = finding_words(alloc, config, finding)?;
         put_warning(text, path, words.as_str())?;
+        rest = others;
     }
     Ok(())
 }

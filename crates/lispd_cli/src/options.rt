@@ -17,7 +17,7 @@ use lisp_texts::{number_from_text, prefix_from_text, secret_from_text, site_id_f
 use std::fmt::{self, Display, Formatter, Write};
 
 /// An option of `answer` that has a value.
-#[derive(Clone, Copy, Debug, PartialEq, Eq)]
+#[derive(Clone, Copy, Debug)]
 pub enum AnswerOption {
     /// `--site`: the Site-ID of the one site.
     Site,

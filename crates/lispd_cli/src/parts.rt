@@ -69,13 +69,16 @@ fn is_other_table(line: &str) -> bool {
 }
 
 // The sites that texts say, one text after another.
+#[tactic(auto, using(crate::proofs::Numbers::steps))]
 fn sites_of_parts(alloc: Global, parts: &[String]) -> Result<Sites, AllocError>
     ensures { IfOk result (λ sites. sites ≡ flat_map sites_of_part (map string_bytes parts.now)) }
 {
     let mut all = Sites::new(alloc);
-    for part in parts {
+    let mut rest = parts;
+    while let [part, others @ ..] = rest {
         let sites = sites_of_part(alloc, part.as_str())?;
         all = all.followed_by(alloc, &sites)?;
+        rest = others;
     }
     Ok(all)
 }

@@ -3,7 +3,7 @@
 ghost use Rattle.std.specs.Prelude.{◌≡◌, ◌∷◌, [], true, drop, IfOk, OnErr, Some};
 ghost use Rattle.std.specs.Option.{option_map, option_to_list};
 ghost use Rattle.lisp_script.specs.Words.{texts};
-ghost use Rattle.lispd_cli.specs.PrintedLine.{is_among, verbs, fault_of, is_source, is_kind, none_if, told_by, carried_by, numbered, of_verb, whole, from_verb, with_carried, numbers_of, both, read_as, name_of};
+ghost use Rattle.lispd_cli.specs.PrintedLine.{is_among, verbs, fault_of, is_source, is_kind, none_if, told_by, carried_by, numbered, of_verb, whole, from_verb, with_carried, numbers_of, both, read_as};
 
 use lisp_memory::{FallibleVec, Memory};
 use lisp_texts::{addr_from_text, number_from_text};
@@ -43,40 +43,32 @@ fn with_carried<A: Memory>(
     };
     let mut numbers = Vec::new(alloc);
     numbers.try_push(number)?;
-    if add_carried(&mut numbers, words)? {
-        Ok(Some(numbers))
-    } else {
-        Ok(None)
-    }
+    Ok(add_carried(&mut numbers, words)?.then_some(numbers))
 }
 
 // Adds the faults that the words behind a number carry; whether they are words of a line.
+#[tactic(auto, unfolding(crate::specs::PrintedLine::carried_by))]
 fn add_carried<A: Memory>(numbers: &mut Vec<u16, A>, words: &[&str]) -> Result<bool, AllocError>
     ensures numbers { IfOk result
         (λ read. read_as read numbers.new.items
         ≡ both (Some numbers.old.items) (carried_by (texts words.now))) }
     ensures memory { OnErr result A.may_refuse }
 {
-    let mut name = None;
-    for word in words {
-        match name {
-            Some(before) => {
-                if !add_told(numbers, before, word)? {
-                    return Ok(false);
-                }
-                name = None;
-            }
-            None => name = name_of(word),
+    let mut rest = words;
+    while let [word, behind @ ..] = rest {
+        if is_kind(word) {
+            rest = behind;
+            continue;
         }
+        let [value, others @ ..] = behind else {
+            return Ok(false);
+        };
+        if !add_told(numbers, word, value)? {
+            return Ok(false);
+        }
+        rest = others;
     }
-    Ok(name.is_none())
-}
-
-// A word that isn't the kind of an error: the next one is its value.
-fn name_of<'a>(word: &'a str) -> Option<&'a str>
-    ensures { option_map (λ w. w.now) result ≡ name_of word.now }
-{
-    if is_kind(word) { None } else { Some(word) }
+    Ok(true)
 }
 
 // Adds the fault that a word and the one behind it tell, if any; whether they are words of a line.
@@ -99,6 +91,7 @@ fn add_told<A: Memory>(
 }
 
 // The fault that a word and the one behind it tell, or none; `None` where they are no words of a line.
+#[tactic(auto, using(crate::proofs::Numbers::differs))]
 fn told_by(word: &str, value: &str) -> Option<Option<u16>>
     ensures { option_map option_to_list result ≡ told_by word.now value.now }
 {
@@ -166,6 +159,7 @@ fn whole<'a>(words: &'a [&'a str]) -> Option<(u16, &'a [&'a str])>
 }
 
 // The same of a line by its first word, and those behind it.
+#[tactic(auto, using(crate::proofs::Numbers::differs))]
 fn of_verb<'a>(verb: &str, words: &'a [&'a str]) -> Option<(u16, &'a [&'a str])>
     ensures { option_map (λ l. (l.0, texts l.1.now)) result ≡ of_verb verb.now (texts words.now) }
 {
@@ -188,14 +182,16 @@ fn behind_name<'a>(words: &'a [&'a str]) -> &'a [&'a str]
 }
 
 // The words without what a log puts in front of a line.
+#[tactic(auto, unfolding(crate::specs::PrintedLine::from_verb))]
 fn from_verb<'a>(words: &'a [&'a str]) -> &'a [&'a str]
     ensures { texts result.now ≡ from_verb (texts words.now) }
 {
-    for place in 0..words.len() {
-        if is_verb(words[place]) {
-            let (_, line) = words.split_at(place);
-            return line;
+    let mut rest = words;
+    while let [word, behind @ ..] = rest {
+        if is_verb(word) {
+            return rest;
         }
+        rest = behind;
     }
     &[]
 }

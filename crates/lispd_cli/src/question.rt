@@ -4,7 +4,6 @@ ghost use Rattle.std.specs.Prelude.{◌≡◌, codes, Some, IfOk, IfSome};
 ghost use Rattle.lisp_records.specs.Address.{family, max_len, prefix_around};
 ghost use Rattle.lispd_cli.specs.Words.{eid_in, from_in, number_given, option_in, ReadsQuestion};
 
-use crate::command_line::EID;
 use crate::failure::Failure;
 use crate::fault::{Misuse, ProgramFault};
 use crate::words::{number_given, word};
@@ -30,21 +29,15 @@ pub fn look_up<R: Net + Clock + RandomSource + AllocGlobal, W: Write>(
     words: &ArgMatches<'_>,
     writer: &mut W,
 ) -> Result<(), Failure> {
-    let question = match question(words) {
-        Ok(question) => question,
-        Err(fault) => return Err(Failure::from(ProgramFault::Misused(fault))),
-    };
-    match run_look(rt, &question, writer) {
-        Ok(()) => Ok(()),
-        Err(fault) => Err(Failure::from(ProgramFault::Look(fault))),
-    }
+    let question = question(words).map_err(ProgramFault::Misused)?;
+    Ok(run_look(rt, &question, writer).map_err(ProgramFault::Look)?)
 }
 
 // The words of `look`.
 fn question(words: &ArgMatches<'_>) -> Result<Question, Misuse>
     ensures { IfOk result (λ read. ReadsQuestion words.now read) }
 {
-    let eid = eid_in(word(words, EID)).ok_or(Misuse::Eid)?;
+    let eid = eid_in(word(words, "EID")).ok_or(Misuse::Eid)?;
     let server = addr_from_text(word(words, "server")).ok_or(Misuse::Server)?;
     let from = from(words, &server)?;
     let tries = tries(words)?;

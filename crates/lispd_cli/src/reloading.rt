@@ -184,10 +184,7 @@ fn converse<R: Files + Net + AllocGlobal>(
     line: &str,
 ) -> Result<String, ProgramFault> {
     let parts = parts_of(rt.alloc(), checked.text(), checked.config().sites())?;
-    match connect_and_send(rt, path, parts.as_slice(), line) {
-        Ok(answer) => Ok(answer),
-        Err(_) => Err(ProgramFault::Unanswered),
-    }
+    connect_and_send(rt, path, parts.as_slice(), line).map_err(|_| ProgramFault::Unanswered)
 }
 
 fn connect_and_send<R: Files + Net + AllocGlobal>(
@@ -261,7 +258,11 @@ fn print_leaving<R: Files + Net + AllocGlobal, W: Write>(
     writer: &mut W,
 ) -> Result<(), ProgramFault> {
     let answer = answer(rt, path, "hold")?;
-    let Some(lines) = whole(answer.as_str()) else {
+    print_rows(answer.as_str(), writer)
+}
+
+fn print_rows<W: Write>(answer: &str, writer: &mut W) -> Result<(), ProgramFault> {
+    let Some(lines) = whole(answer) else {
         return Err(ProgramFault::Unanswered);
     };
     for line in lines.split('\n') {
@@ -280,8 +281,5 @@ fn print_row<W: Write>(line: &str, writer: &mut W) -> Result<(), ProgramFault>
         return Ok(());
     }
     let row = behind_word(line);
-    match writeln!(writer, "leaves {row}") {
-        Ok(()) => Ok(()),
-        Err(_) => Err(ProgramFault::Answer(AnswerFault::Write)),
-    }
+    writeln!(writer, "leaves {row}").map_err(|_| ProgramFault::Answer(AnswerFault::Write))
 }

@@ -55,10 +55,8 @@ pub(crate) fn read_source<R: Input + Files + AllocGlobal>(
 
 // The text that the reader of a path has left.
 fn read_text<R: Read + Drop>(alloc: Global, path: &str, reader: R) -> Result<String, Failure> {
-    match String::from_utf8(read_bytes(alloc, path, reader)?) {
-        Ok(text) => Ok(text),
-        Err(_) => Err(Failure::from(PlayFault::NotUtf8)),
-    }
+    let bytes = read_bytes(alloc, path, reader)?;
+    String::from_utf8(bytes).map_err(|_| Failure::from(PlayFault::NotUtf8))
 }
 
 fn read_bytes<R: Read + Drop>(alloc: Global, path: &str, reader: R) -> Result<Vec<u8>, Failure> {

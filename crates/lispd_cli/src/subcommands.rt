@@ -2,7 +2,7 @@
 
 use crate::capture::read_capture;
 use crate::check::{accept, print_findings, read_checked};
-use crate::command_line::{CHECK, CONFIG, NUMBER, READ, STRICT};
+use crate::command_line::{CONFIG, NUMBER, STRICT};
 use crate::explanation::explain_line;
 use crate::failure::Failure;
 use crate::fault::ProgramFault;
@@ -28,8 +28,8 @@ pub fn run_alone<R: Input + Eprint + Files + Net + AllocGlobal, W: Write>(
         return run_answer(rt, None, writer);
     };
     match name {
-        CHECK => check(rt, words, writer),
-        READ => read_capture(rt, words, writer),
+        "check" => check(rt, words, writer),
+        "read" => read_capture(rt, words, writer),
         "explain" => Ok(explain_words(rt.alloc(), words, writer)?),
         _ => run_answer(rt, Some(words), writer),
     }
@@ -42,10 +42,7 @@ fn run_answer<R: Input + AllocGlobal, W: Write>(
     writer: &mut W,
 ) -> Result<(), Failure> {
     let alloc = rt.alloc();
-    let setup = match setup(alloc, matches) {
-        Ok(setup) => setup,
-        Err(fault) => return Err(Failure::from(ProgramFault::Setup(fault))),
-    };
+    let setup = setup(alloc, matches).map_err(ProgramFault::Setup)?;
     let mut reader = WatchedReader::over(rt.reader());
     match answer_from(alloc, &setup, &mut reader, writer) {
         Ok(()) => Ok(()),
@@ -63,8 +60,7 @@ fn answer_from<R: Read, W: Write>(
     reader: &mut R,
     writer: &mut W,
 ) -> Result<(), ProgramFault> {
-    answer(alloc, setup, reader, writer)?;
-    Ok(())
+    answer(alloc, setup, reader, writer).map_err(ProgramFault::Answer)
 }
 
 // `check`: prints what was understood of a configuration, and its warnings; then what a node that runs would do with its sites.
@@ -91,6 +87,6 @@ fn explain_words<W: Write>(
 ) -> Result<(), ProgramFault> {
     match words.get_strs(NUMBER) {
         Some(line) => explain_line(alloc, line, writer),
-        None => Ok(explain_all(writer)?),
+        None => explain_all(writer).map_err(ProgramFault::Explain),
     }
 }

@@ -5,9 +5,7 @@ ghost use Rattle.std.specs.Option.{option_map};
 ghost use Rattle.lispd_cli.specs.Words.{word_in, is_given_in, option_in, turns_of, within, number_given, quiet_of, ReadsNode, ReadsForget, ReadsRaise};
 ghost use Rattle.lisp_texts.specs.Number.{number_of};
 
-use crate::command_line::{
-    CHECK, CONFIG, DATABASE, GROUP, JSON, LIST, NAME, NUMBER, QUESTION, RELOAD, STORE, TELL, WORDS,
-};
+use crate::command_line::{CONFIG, DATABASE, JSON, NAME, NUMBER, QUESTION, RELOAD, STORE, WORDS};
 use crate::fault::Misuse;
 use clap::ArgMatches;
 use lisp_texts::number_from_text;
@@ -62,7 +60,7 @@ pub fn tells_words(matches: &ArgMatches<'_>) -> bool {
 
 // Whether a subcommand checks a configuration.
 fn checks(name: &str, words: &ArgMatches<'_>) -> bool {
-    name == CHECK || (name == TELL && tells_reload(words))
+    name == "check" || (name == "tell" && tells_reload(words))
 }
 
 fn tells_reload(words: &ArgMatches<'_>) -> bool {
@@ -157,7 +155,7 @@ pub fn forget_words<'a>(words: &ArgMatches<'a>) -> Result<ForgetWords<'a>, Misus
     ensures listed { IfOk result (λ w. w.removes ≡ true → w.list ≢ None) }
     ensures fault { OnErr result (option_in words.now (codes "LIST") ≡ None) }
 {
-    let list = words.get_str(LIST);
+    let list = words.get_str("LIST");
     let removes = is_given(words, "remove");
     if removes && list.is_none() {
         return Err(Misuse::NoList);
@@ -222,10 +220,11 @@ fn group(words: &ArgMatches<'_>, has_database: bool) -> Result<u8, Misuse>
         → has_database ≡ true) }
     ensures bounds { IfOk result (λ group. (1 ≤ group) × (group ≤ 64)) }
 {
-    let Some(group) = number_given(words.get_str(GROUP), 1, 1, MOST_TOGETHER) else {
+    let text = words.get_str("group");
+    let Some(group) = number_given(text, 1, 1, MOST_TOGETHER) else {
         return Err(Misuse::Group);
     };
-    if words.get_str(GROUP).is_some() && !has_database {
+    if text.is_some() && !has_database {
         return Err(Misuse::GroupOfFiles);
     }
     Ok(group as u8)

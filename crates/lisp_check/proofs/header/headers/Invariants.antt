@@ -1,10 +1,11 @@
-use Rattle.std.proofs.Common.{◌≡◌, take}
-use Rattle.lisp_check.specs.declared.mode.Mode.TheVariants.{Start}
-use Rattle.lisp_check.specs.Mode.{walked}
-use Rattle.lisp_check.specs.Header.{line_of, headers_before}
+use Rattle.std.proofs.Common.{◌≡◌, ◌≤◌, ◌+◌, ◌++◌, length}
+use Rattle.lisp_check.specs.Header.{headers_from, headers_in}
 use Rattle.lisp_check.proofs.header.headers.Given as goal
 
--- the headers so far, and the mode and the line there
-abbrev pub invariant-loop-offset : goal.invariant-loop-offset
-invariant-loop-offset l =
-    (l.headers.items ≡ headers_before l.bytes l.offset) × (l.mode ≡ walked Start (take l.offset l.bytes)) × (l.line ≡ line_of l.bytes l.offset)
+-- the headers so far, and those of what is left, behind so many bytes and at most as many ends of lines
+abbrev pub invariant-loop-rest : goal.invariant-loop-rest
+invariant-loop-rest l =
+    (l.headers.items ++ headers_from l.line l.mode l.offset l.rest ≡ headers_in l.text) × (l.offset + length l.rest ≡ length l.text) × (l.line ≤ l.offset + 1)
+
+abbrev pub decreases-loop-rest : goal.decreases-loop-rest
+decreases-loop-rest l = length l.rest

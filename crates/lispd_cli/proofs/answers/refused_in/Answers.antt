@@ -1,4 +1,4 @@
-use Rattle.lispd_cli.proofs.Orders.{obeyed}
+use Rattle.lispd_cli.proofs.Numbers.{obeyed}
 use Rattle.lispd_cli.proofs.answers.refused_in.Goals as goal
 
 pub returns-in_default : goal.returns-in_default

@@ -1,7 +1,12 @@
-use Rattle.std.proofs.Common.{take}
+use Rattle.std.proofs.Common.{List, length}
+use Rattle.lispd_cli.specs.declared.findings.Finding.{Finding}
 use Rattle.lispd_cli.specs.Check.{AddedPlaced}
 use Rattle.lispd_cli.proofs.findings.add_warnings.Given as goal
 
--- those so far were added
-abbrev pub invariant-loop-warning : goal.invariant-loop-warning
-invariant-loop-warning l = AddedPlaced l.checked.document.text l.fn.all.items l.all.items (take l.warning-index l.warnings)
+-- where those that are left are added, all were added
+abbrev pub invariant-loop-rest : goal.invariant-loop-rest
+invariant-loop-rest l =
+    (new : List Finding) → AddedPlaced l.checked.document.text l.all.items new l.rest → AddedPlaced l.checked.document.text l.fn.all.items new l.warnings
+
+abbrev pub decreases-loop-rest : goal.decreases-loop-rest
+decreases-loop-rest l = length l.rest

@@ -1,16 +1,11 @@
-use Rattle.std.proofs.Common.{◌≡◌, ℕ, length, arith, subst}
-use Rattle.std.specs.Prelude.{string_bytes}
-use Rattle.lispd_cli.specs.Check.{AddedLines}
+use Rattle.std.proofs.Common.{arith}
+use Rattle.lispd_cli.proofs.Numbers.{one_less}
 use Rattle.lispd_cli.proofs.Warned.{lines_none, lines_more}
 use Rattle.lispd_cli.proofs.findings.put_findings.Goals as goal
 
-pub loop-finding-init : goal.loop-finding-init
-loop-finding-init c = lines_none c.args.path.now _
-
-pub loop-finding-preserved : goal.loop-finding-preserved
-loop-finding-preserved c = lines_more c.args.path.now _ _ _ _ c.loop-finding.finding-index c.loop-finding.invariant c.in_ok-put_warning.ensures
+pub loop-rest-preserved : goal.loop-rest-preserved
+loop-rest-preserved c = λ new added.
+    c.loop-rest.invariant new (lines_more c.args.path.now _ _ new _ _ _ c.in_ok-put_warning.ensures added (one_less c.loop-rest.rest.now c.in-len1-up.len_at_least))
 
 pub returns : goal.returns
-returns c =
-    let all : c.loop-finding.finding-index ≡ length c.args.findings.now = omega (arith, c.loop-finding-test.false, c.loop-finding.auto.finding-index-end) in
-    subst (λ (n : ℕ). AddedLines c.args.path.now (string_bytes c.args.text.now) (string_bytes c.loop-finding.text) n) all c.loop-finding.invariant
+returns c = c.loop-rest.invariant _ (lines_none c.args.path.now _ _ (omega (arith, c.in_default.len_below)))

@@ -1,8 +1,11 @@
-use Rattle.std.proofs.Common.{◌≡◌, drop}
+use Rattle.std.proofs.Common.{◌≡◌, length}
 use Rattle.lisp_script.specs.Words.{texts}
 use Rattle.lispd_cli.specs.PrintedLine.{from_verb}
 use Rattle.lispd_cli.proofs.printed_line.from_verb.Given as goal
 
--- the line is that of the words from here on
-abbrev pub invariant-loop-place : goal.invariant-loop-place
-invariant-loop-place l = from_verb (texts (drop l.place l.words)) ≡ from_verb (texts l.words)
+-- the line is that of the words that are left
+abbrev pub invariant-loop-rest : goal.invariant-loop-rest
+invariant-loop-rest l = from_verb (texts l.rest) ≡ from_verb (texts l.words)
+
+abbrev pub decreases-loop-rest : goal.decreases-loop-rest
+decreases-loop-rest l = length l.rest
