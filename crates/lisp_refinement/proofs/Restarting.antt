@@ -95,7 +95,8 @@ module _ (o : Opening) (T U : List Step) (node : ℕ) (kept : Kept) (begins : Be
   }
 
 -- a router that started over a store stands for a trace in which it begins anew
-module _ (o : Opening) (T U : List Step) (node : ℕ) (config : EtrConfigValue) (registered : List MapRecordValue) (now : ℕ) (become store : StoreState) (core : RouterCoreState) (begins : BeginsAnew o T U node store.kept) (same : store.kept ≡ become.kept) (honest : IsTrue become.is_honest)
+module _ (o : Opening) (T U : List Step) (node : ℕ) (config : EtrConfigValue) (registered : List MapRecordValue) (now : ℕ) (become store : StoreState) (core : RouterCoreState)
+    (begins : BeginsAnew o T U node store.kept) (same : store.kept ≡ become.kept) (honest : IsTrue become.is_honest)
     (up : is_up U node ≡ true) (settled : config ≡ etr_config o U node) (given : registered ≡ database o U node) (forgets : (server part : ℕ) → acked U node server part ≡ None) (moment : now ≡ clock T) (call : CoreStarts config registered now become store core) where
   -- it counts from a value that its store keeps
   counts : (base : Option ℕ) → Contains (kept_at become.kept (sent_pair config)) base → CountsFrom o U node base
@@ -764,7 +765,8 @@ module _ (old new : WorldState) (router : ℕ) (db : List MapRecordValue) (line 
   stands_with l says legal adds core = subst (λ (x : Line). Stands new o (change o T router db x ∷ T)) (sym (changes.said ∙ says))
       (router_acts old new router [] changes.acts o T (change o T router db l) stand refl refl legal (adds_none o T (change o T router db l) adds)
       (subst (λ (n : RouterNodeState). Shows n.store (shown_store o T router)) (sym changes.changes) (acts_shows old new router [] changes.acts o T stand))
-      (subst (λ (n : RouterNodeState). StandsForRouter o (change o T router db l ∷ T) router n) (sym changes.changes) (record { me = router_stood.me; servers = router_stood.servers; used = record { since_loss = router_stood.used.since_loss; before_loss = router_stood.used.before_loss }; core = core })))
+      (subst (λ (n : RouterNodeState). StandsForRouter o (change o T router db l ∷ T) router n) (sym changes.changes)
+      (record { me = router_stood.me; servers = router_stood.servers; used = record { since_loss = router_stood.used.since_loss; before_loss = router_stood.used.before_loss }; core = core })))
 
   -- a router that is up
   module _ (e : EtrState) (part : StandsForEtr o T router e) where

@@ -476,14 +476,14 @@ module _ (old : WorldState) (o : Opening) (T : List Step) (stand : Stands old o 
   abbrev after_it : ShownStore
   after_it = shown_by called
 
-  abbrev send_turn : Context
-  send_turn = turn_at o T router fate after_it
+  abbrev asks : Context
+  asks = turn_at o T router fate after_it
 
   abbrev event : EventValue
   event = events.Send router server portion fate
 
   abbrev Row : Line → Type 0
-  Row line = MayCome send_turn event line
+  Row line = MayCome asks event line
 
   abbrev place : ℕ
   place = place_of before.servers server
@@ -500,25 +500,25 @@ module _ (old : WorldState) (o : Opening) (T : List Step) (stand : Stands old o 
   as_many = ap (λ (c : EtrConfigValue). length c.servers) own.config ∙ length-map (router_at o.config router).servers (address_at o.config)
 
   -- the database that it registers has the part
-  has_part : portion < part_count e.database → HasPart send_turn router portion
+  has_part : portion < part_count e.database → HasPart asks router portion
   has_part there = subst (λ (db : List MapRecordValue). portion < part_count db) own.database there
 
   -- what is said of the list that was kept, and of the list that is, for the router's pair
-  carried : (P : List (Option ℕ) → List (Option ℕ) → Type 0) → P (kept_at armed.kept (sent_pair e.config)) (kept_at called.kept (sent_pair e.config)) → P (values send_turn (pair_at o T router)) (values_after send_turn (pair_at o T router))
+  carried : (P : List (Option ℕ) → List (Option ℕ) → Type 0) → P (kept_at armed.kept (sent_pair e.config)) (kept_at called.kept (sent_pair e.config)) → P (values asks (pair_at o T router)) (values_after asks (pair_at o T router))
   carried P said = subst (λ (p : Kept × EtrConfigValue). P (kept_at p.0 (sent_pair p.1)) (kept_at called.kept (sent_pair p.1))) {x = (armed.kept, e.config)} {y = ((shown_store o T router).kept, etr_config o T router)} (λ i. (uses.armed_shows.kept i, own.config i)) said
 
   -- no other list changed
-  others_carried : SameElsewhere armed.kept called.kept (sent_pair e.config) → SameOthers send_turn (pair_at o T router)
+  others_carried : SameElsewhere armed.kept called.kept (sent_pair e.config) → SameOthers asks (pair_at o T router)
   others_carried said = subst (λ (p : Kept × EtrConfigValue). SameElsewhere p.0 called.kept (sent_pair p.1)) {x = (armed.kept, e.config)} {y = ((shown_store o T router).kept, etr_config o T router)} (λ i. (uses.armed_shows.kept i, own.config i)) said
 
   -- no value is below what is safe: before the call, after it, and after the step
   safe_before : NoneBelow e.safe (kept_at armed.kept (sent_pair e.config))
   safe_before = subst (λ (p : Kept × EtrConfigValue). NoneBelow e.safe (kept_at p.0 (sent_pair p.1))) {x = ((shown_store o T router).kept, etr_config o T router)} {y = (armed.kept, e.config)} (λ i. (sym uses.armed_shows.kept i, sym own.config i)) own.safe
 
-  safe_after : (n : ℕ) → NoneBelow n (kept_at called.kept (sent_pair e.config)) → NoneBelow n (values_after send_turn (pair_at o T router))
+  safe_after : (n : ℕ) → NoneBelow n (kept_at called.kept (sent_pair e.config)) → NoneBelow n (values_after asks (pair_at o T router))
   safe_after n none = carried (λ was is. NoneBelow n is) none
 
-  safe_now : (n : ℕ) (line : Line) → NoneBelow n (values_after send_turn (pair_at o T router)) → NoneBelow n (kept_at (shown_store o (step_of event router after_it line ∷ T) router).kept (pair_at o T router))
+  safe_now : (n : ℕ) (line : Line) → NoneBelow n (values_after asks (pair_at o T router)) → NoneBelow n (kept_at (shown_store o (step_of event router after_it line ∷ T) router).kept (pair_at o T router))
   safe_now n line none = subst (λ (x : ShownStore). NoneBelow n (kept_at x.kept (pair_at o T router))) (sym (shown_now o T event router after_it line)) none
 
   -- a Map-Register went out
@@ -539,7 +539,7 @@ module _ (old : WorldState) (o : Opening) (T : List Step) (stand : Stands old o 
     known_message = subst (λ (p : EtrConfigValue × List MapRecordValue). IsMapRegister (map_register_of p.0 (part_at p.1 portion) (e.last + 1))) {x = (e.config, e.database)} {y = (etr_config o T router, database o T router)} (λ i. (own.config i, own.database i)) call.known
 
     -- what was saved
-    sent_saves : Saves send_turn (pair_at o T router) (e.last + 1) (block_end (e.last + 1) (etr_config o T router).nonce_block)
+    sent_saves : Saves asks (pair_at o T router) (e.last + 1) (block_end (e.last + 1) (etr_config o T router).nonce_block)
     sent_saves = record {
       here = settled (cases_lt e.safe (e.last + 1));
       none_below = safe_after (e.last + 1) (λ v has. let safe = call.safe in let high = call.keeps_safe uses.armed_shows.honest safe_before v has in omega (arith, safe, high));
@@ -547,13 +547,13 @@ module _ (old : WorldState) (o : Opening) (T : List Step) (stand : Stands old o 
     }
       where
         -- a save of the end of the block, as the fate lets it be done
-        by : (e.safe < e.last + 1) → Settles (values send_turn (pair_at o T router)) (values_after send_turn (pair_at o T router)) (e.last + 1) (etr_config o T router).nonce_block → (values_after send_turn (pair_at o T router) ≡ values send_turn (pair_at o T router)) ⊎ ((values_after send_turn (pair_at o T router) ≡ Some (block_end (e.last + 1) (etr_config o T router).nonce_block) ∷ []) × MaySave send_turn)
+        by : (e.safe < e.last + 1) → Settles (values asks (pair_at o T router)) (values_after asks (pair_at o T router)) (e.last + 1) (etr_config o T router).nonce_block → (values_after asks (pair_at o T router) ≡ values asks (pair_at o T router)) ⊎ ((values_after asks (pair_at o T router) ≡ Some (block_end (e.last + 1) (etr_config o T router).nonce_block) ∷ []) × MaySave asks)
         by above (inl same) = inl same
         by above (inr bound) = inr (bound, by_fate (λ f. f ≢ Doubt) fate armed (shown_store o T router) uses.armed_shows uses.fated (call.saves above))
 
         -- where nothing had to be saved the store wasn't asked
-        settled : (e.safe < e.last + 1) ⊎ (e.last + 1 ≤ e.safe) → (values_after send_turn (pair_at o T router) ≡ values send_turn (pair_at o T router)) ⊎ ((values_after send_turn (pair_at o T router) ≡ Some (block_end (e.last + 1) (etr_config o T router).nonce_block) ∷ []) × MaySave send_turn)
-        settled (inl above) = by above (subst (λ (c : EtrConfigValue). Settles (values send_turn (pair_at o T router)) (values_after send_turn (pair_at o T router)) (e.last + 1) c.nonce_block) own.config (carried (λ was is. Settles was is (e.last + 1) e.config.nonce_block) (call.settles uses.armed_shows.honest)))
+        settled : (e.safe < e.last + 1) ⊎ (e.last + 1 ≤ e.safe) → (values_after asks (pair_at o T router) ≡ values asks (pair_at o T router)) ⊎ ((values_after asks (pair_at o T router) ≡ Some (block_end (e.last + 1) (etr_config o T router).nonce_block) ∷ []) × MaySave asks)
+        settled (inl above) = by above (subst (λ (c : EtrConfigValue). Settles (values asks (pair_at o T router)) (values_after asks (pair_at o T router)) (e.last + 1) c.nonce_block) own.config (carried (λ was is. Settles was is (e.last + 1) e.config.nonce_block) (call.settles uses.armed_shows.honest)))
         settled (inr below) = inl (carried (λ was is. is ≡ was) (ap (λ (x : StoreState). kept_at x.kept (sent_pair e.config)) (call.unasked below)))
 
     -- the datagram carries the item
@@ -631,7 +631,7 @@ module _ (old : WorldState) (o : Opening) (T : List Step) (stand : Stands old o 
     refused = lines.Refused router (refusals.Send fault)
 
     -- no list changed, but where a device failed
-    unmoved : fault ≢ Store store_faults.Device → Same send_turn
+    unmoved : fault ≢ Store store_faults.Device → Same asks
     unmoved other = ap (λ (x : StoreState). x.kept) (call.refused other) ∙ uses.armed_shows.kept
 
     -- the server is listed, or isn't
@@ -642,7 +642,7 @@ module _ (old : WorldState) (o : Opening) (T : List Step) (stand : Stands old o 
     nowhere_if beyond = nowhere_of (router_at o.config router).servers server place (let many = as_many in omega (arith, beyond, many)) placed
 
     -- the database has the part too
-    may_if : place < length e.config.servers → portion < part_count e.database → MaySend send_turn router server portion
+    may_if : place < length e.config.servers → portion < part_count e.database → MaySend asks router server portion
     may_if within there = (listed_if within, has_part there)
 
     -- or hasn't
@@ -657,14 +657,14 @@ module _ (old : WorldState) (o : Opening) (T : List Step) (stand : Stands old o 
     bound_is = λ i. block_end (own.last.2 i + 1) (own.config i).nonce_block
 
     -- a fault other than out of memory has its cause
-    cause_of : (f : StoreFault) → fault ≡ Store f → f ≢ store_faults.OutOfMemory → Rose send_turn
+    cause_of : (f : StoreFault) → fault ≡ Store f → f ≢ store_faults.OutOfMemory → Rose asks
     cause_of store_faults.Device is other =
         (subst (λ (n : ℕ). (n < called.faults) ⊎ (called.faults ≡ 2 ^ 64 - 1)) uses.armed_shows.faults (call.cause is))
     cause_of store_faults.Damaged is other = absurd (call.sound is)
     cause_of store_faults.OutOfMemory is other = absurd (other refl)
 
     -- no list changed where memory ran out
-    unmoved_by : (f : StoreFault) → fault ≡ Store f → f ≡ store_faults.OutOfMemory → Same send_turn
+    unmoved_by : (f : StoreFault) → fault ≡ Store f → f ≡ store_faults.OutOfMemory → Same asks
     unmoved_by f is memory = unmoved (λ device. let clash : store_faults.OutOfMemory ≡ store_faults.Device = sym memory ∙ (let both : Store f ≡ Store store_faults.Device = sym is ∙ device in cc) in cc)
 
     -- only a failed device is answered for its store, memory aside
@@ -674,7 +674,7 @@ module _ (old : WorldState) (o : Opening) (T : List Step) (stand : Stands old o 
     device store_faults.OutOfMemory is other = absurd (other refl)
 
     -- the save of the bound failed
-    fails_at : (f : StoreFault) → fault ≡ Store f → InDoubt (values send_turn (pair_at o T router)) (values_after send_turn (pair_at o T router)) bound → SaveFails send_turn (pair_at o T router) bound f
+    fails_at : (f : StoreFault) → fault ≡ Store f → InDoubt (values asks (pair_at o T router)) (values_after asks (pair_at o T router)) bound → SaveFails asks (pair_at o T router) bound f
     fails_at f is doubt = record {
       here = doubt;
       others = others_carried (call.others uses.armed_shows.honest);
@@ -682,21 +682,21 @@ module _ (old : WorldState) (o : Opening) (T : List Step) (stand : Stands old o 
       sound = λ damaged. call.sound (is ∙ ap Store damaged);
       cause = cause_of f is;
       may = λ other. by_fate (λ x. x ≡ Doubt) fate armed (shown_store o T router) uses.armed_shows uses.fated (call.save_fails (device f is other));
-      doubted = λ other obeys. subst (λ (n : ℕ). values_after send_turn (pair_at o T router) ≡ with_value (values send_turn (pair_at o T router)) n) bound_is
+      doubted = λ other obeys. subst (λ (n : ℕ). values_after asks (pair_at o T router) ≡ with_value (values asks (pair_at o T router)) n) bound_is
           (carried (λ was is. is ≡ with_value was (block_end (e.last + 1) e.config.nonce_block)) (call.doubted (device f is other) (subst (λ (b : Bool). IsTrue b) (sym uses.armed_shows.obedient) obeys)));
     }
 
     -- so the nonce wasn't saved
-    not_saved : (f : StoreFault) → fault ≡ Store f → e.last < last_nonce → LeavesPair (values send_turn (pair_at o T router)) (values_after send_turn (pair_at o T router)) (e.last + 1) e.config.nonce_block → NotSaved send_turn router f
+    not_saved : (f : StoreFault) → fault ≡ Store f → e.last < last_nonce → LeavesPair (values asks (pair_at o T router)) (values_after asks (pair_at o T router)) (e.last + 1) e.config.nonce_block → NotSaved asks router f
     not_saved f is low left = record {
       base = own.last.0;
       counts = own.last.1;
       left = (let last = own.last.2 in omega (arith, low, last));
-      fails = fails_at f is (subst (λ (n : ℕ). InDoubt (values send_turn (pair_at o T router)) (values_after send_turn (pair_at o T router)) n) bound_is left);
+      fails = fails_at f is (subst (λ (n : ℕ). InDoubt (values asks (pair_at o T router)) (values_after asks (pair_at o T router)) n) bound_is left);
     }
 
     -- each refusal has its row
-    refusal : (f : SendFault) → fault ≡ f → IsSendFaultOf e place portion f → RefusesToSend send_turn router server portion f
+    refusal : (f : SendFault) → fault ≡ f → IsSendFaultOf e place portion f → RefusesToSend asks router server portion f
     refusal NoServer is why = (nowhere_if why, unmoved (λ device. let clash : NoServer ≡ Store store_faults.Device = sym is ∙ device in cc))
     refusal NoPart is why = (listed_if why.0, no_part why.1, unmoved (λ device. let clash : NoPart ≡ Store store_faults.Device = sym is ∙ device in cc))
     refusal NonceSpent is why = (may_if why.0 why.1, (own.last.0, own.last.1, (let high = why.2 in let last = own.last.2 in omega (arith, high, last))), unmoved (λ device. let clash : NonceSpent ≡ Store store_faults.Device = sym is ∙ device in cc))

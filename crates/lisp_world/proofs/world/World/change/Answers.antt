@@ -20,8 +20,7 @@ returns g c =
 
 pub index_mut-requires : goal.index_mut-requires
 index_mut-requires g c =
-    let there = rw (← c.self.view_is) at c.in_ok-place.ensures.place in
-    omega (arith, there.1, c.self.inside.routers.ok.0)
+    omega (arith, rw (← c.self.view_is) at c.in_ok-place.ensures.place, c.self.inside.routers.ok.0)
 
 -- as many routers as before
 pub invariant_of-self : goal.invariant_of-self

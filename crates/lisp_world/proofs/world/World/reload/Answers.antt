@@ -24,8 +24,7 @@ returns g c =
 
 pub index_mut-requires : goal.index_mut-requires
 index_mut-requires g c =
-    let server = rw (← c.self.view_is) at c.in_ok-check_server.ensures.server in
-    omega (arith, server, c.self.inside.servers.ok.0)
+    omega (arith, rw (← c.self.view_is) at c.in_ok-check_server.ensures.server, c.self.inside.servers.ok.0)
 
 -- as many Map-Servers as before
 pub invariant_of-self : goal.invariant_of-self

@@ -30,13 +30,11 @@ returns-clause-restarts g c =
 
 pub overflow_sub-place : goal.overflow_sub-place
 overflow_sub-place g c =
-    let router = rw (← c.self.view_is) at c.requires in
-    omega (arith, router.0, c.len.ensures, c.self.inside.servers.ok.0)
+    omega (arith, rw (← c.self.view_is) at c.requires, c.len.ensures, c.self.inside.servers.ok.0)
 
 pub index_mut-requires : goal.index_mut-requires
 index_mut-requires g c =
-    let router = rw (← c.self.view_is) at c.requires in
-    omega (arith, router.0, router.1, c.len.ensures, c.self.inside.servers.ok.0, c.self.inside.routers.ok.0, c.self.invariant.1)
+    omega (arith, rw (← c.self.view_is) at c.requires, c.len.ensures, c.self.inside.servers.ok.0, c.self.inside.routers.ok.0, c.self.invariant.1)
 
 -- as many routers as before
 pub invariant_of-self : goal.invariant_of-self
