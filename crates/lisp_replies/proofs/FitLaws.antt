@@ -1,34 +1,32 @@
 -- What one message can carry: records for a narrower prefix where it carries those for a wider one, and one record alone.
-use Rattle.std.proofs.Common.{[], ◌≡◌, ◌⊎◌, inl, inr, ℕ, ◌+◌, ◌<◌, ◌≤◌, Bool, true, false, cond, nat_le, nat_lt, List, ◌∷◌, ◌++◌, length, map, if◌then◌else◌, refl, sym, ap, ◌∙◌, subst, true≢false, arith, length-append, Option, Some, None}
-use Rattle.std.proofs.lemmas.Bool.{and_from, and_parts, cases_lt, le-leb}
-use Rattle.std.proofs.lemmas.Bool.Decides.{Decides-ltb}
-use Rattle.std.proofs.lemmas.List.{length-map}
+use Rattle.std.proofs.Common.{[], ◌≡◌, ◌⊎◌, inl, inr, ℕ, ◌+◌, ◌<◌, ◌≤◌, Bool, true, false, cond, List, ◌∷◌, ◌++◌, length, map, if◌then◌else◌, refl, sym, ap, ◌∙◌, subst, true≢false, arith, length-append, append_assoc, min, Option, Some, None}
+use Rattle.std.proofs.lemmas.Bool.{and_from, and_parts, cases_lt}
+use Rattle.std.proofs.lemmas.List.{append-nil, length-map}
 use Rattle.std.proofs.lemmas.List.Kept.{AllPairs-filter}
 use Rattle.std.proofs.lemmas.List.Sums.{sum_by-cons}
 use Rattle.std.specs.List.{Contains, filter, All}
 use Rattle.std.specs.Option.{IfSome, is_some, IsSome}
 use Rattle.lisp_records.specs.declared.address.Addr.{Addr}
-use Rattle.lisp_records.specs.Address.{PrefixValue, addr_eq, cleared, covers, octets, prefix_around, IsPrefix, IsWhole}
+use Rattle.lisp_records.specs.Address.{PrefixValue, octets, prefix_around, IsPrefix, IsWhole}
 use Rattle.lisp_records.specs.Parts.{fits_message, size}
 use Rattle.lisp_records.specs.Record.{MapRecordValue}
 use Rattle.lisp_records.specs.Row.{RowValue, is_alive}
 use Rattle.lisp_records.specs.Written.{written, written_address, written_head, written_locators}
-use Rattle.lisp_records.proofs.AddressLemmas.{cleared-wider}
 use Rattle.lisp_records.proofs.Cuts.{fits, fits_is}
 use Rattle.lisp_policy.{proofs.Found.not_true, specs.Site.SiteValue}
 use Rattle.lisp_lookup.specs.Inside.{is_inside, AreInside}
 use Rattle.lisp_lookup.specs.Replies.{record_of, not_local, IsLeastTtl, AreRecords, IsNarrowed, RepliesWith}
 use Rattle.lisp_lookup.specs.Covering.{IsBestFor, NoneAnswersFor, alone}
 use Rattle.lisp_lookup.specs.Hole.{IsHoleOf}
-use Rattle.lisp_lookup.proofs.Blocks.{is_addr}
-use Rattle.lisp_lookup.proofs.CachedLaws.{covers_through, its_eid}
+use Rattle.lisp_lookup.proofs.Apart.{on_either}
+use Rattle.lisp_lookup.proofs.CachedLaws.{its_eid}
 use Rattle.lisp_lookup.proofs.TableLaws.{filtered_holds, filter_holds}
 use Rattle.lisp_lookup.proofs.BestLaws.{for_length, answers_alike}
 use Rattle.lisp_replies.specs.Narrowing.{WiderFitsNot, AreWidest, FitFor, FitNowhere, NoneFitFor}
 use Rattle.lisp_replies.specs.Walk.{records_of}
 use Rattle.lisp_replies.specs.Reply.{is_held_back}
-use Rattle.lisp_replies.proofs.SeenLaws.{IsBefore, first_or_later, later, least_alone}
-use Rattle.lisp_replies.proofs.OwnHoleLaws.{length-octets}
+use Rattle.lisp_replies.proofs.SeenLaws.{IsBefore, least_alone, least_more}
+use Rattle.lisp_replies.proofs.OwnHoleLaws.{inside_wider, length-octets}
 
 -- ---- how long a record is
 
@@ -36,12 +34,8 @@ long : (m : MapRecordValue) → length (written m) ≡ 12 + length (octets m.eid
 unfolding written
 long m = omega (arith, length-append (written_head m) (written_address m.eid.addr ++ written_locators m.locators), length-append (written_address m.eid.addr) (written_locators m.locators))
 
-of_each : {R X : Type 0} (f : R → X) (test : Bool) (one two : R) → f (if test then one else two) ≡ (if test then f one else f two)
-of_each f true one two = refl
-of_each f false one two = refl
-
 its_locators : (ttl : ℕ) (eid : PrefixValue) (h : RowValue) → (record_of ttl eid h).locators ≡ (if h.proxy then map not_local h.mapping.locators else [])
-its_locators ttl eid h = of_each (λ (m : MapRecordValue). m.locators) h.proxy _ _
+its_locators ttl eid h = grind arith
 
 its_length : (ttl : ℕ) (eid : PrefixValue) (h : RowValue) → length (written (record_of ttl eid h)) ≡ 12 + length (octets eid.addr) + length (written_locators (if h.proxy then map not_local h.mapping.locators else []))
 its_length ttl eid h = long (record_of ttl eid h) ∙ (λ i. 12 + length (octets (its_eid ttl eid h i).addr) + length (written_locators (its_locators ttl eid h i)))
@@ -75,23 +69,14 @@ fewer ttl other test (h ∷ all) = fewer_case ttl other (test h) h (filter test 
 
 -- ---- rows have a least TTL
 
-least_case : (h : RowValue) (hs : List RowValue) (ttl : ℕ) → IsLeastTtl hs ttl → (h.mapping.ttl < ttl) ⊎ (ttl ≤ h.mapping.ttl) → (least : ℕ) × IsLeastTtl (h ∷ hs) least
-least_case h hs ttl is (inl less) = (h.mapping.ttl, record { its = h; held = (0, omega arith, refl); is = refl; least = λ g here. either g (first_or_later h hs g here) })
-  where
-    either : (g : RowValue) → (h ≡ g) ⊎ Contains hs g → h.mapping.ttl ≤ g.mapping.ttl
-    either g (inl same) = omega (arith, ap (λ (x : RowValue). x.mapping.ttl) same)
-    either g (inr there) = omega (arith, less, is.least g there)
-least_case h hs ttl is (inr more) = (ttl, record { its = is.its; held = later h hs is.its is.held; is = is.is; least = λ g here. either g (first_or_later h hs g here) })
-  where
-    either : (g : RowValue) → (h ≡ g) ⊎ Contains hs g → ttl ≤ g.mapping.ttl
-    either g (inl same) = omega (arith, more, ap (λ (x : RowValue). x.mapping.ttl) same)
-    either g (inr there) = is.least g there
+least_from : (seen : List RowValue) (ttl : ℕ) → IsLeastTtl seen ttl → (hs : List RowValue) → (least : ℕ) × IsLeastTtl (seen ++ hs) least
+least_from seen ttl is [] = (ttl, subst (λ (l : List RowValue). IsLeastTtl l ttl) (sym (append-nil seen)) is)
+least_from seen ttl is (h ∷ hs) =
+    let (least, all) = least_from (seen ++ h ∷ []) (min ttl h.mapping.ttl) (least_more seen h ttl is) hs in
+    (least, subst (λ (l : List RowValue). IsLeastTtl l least) (append_assoc seen (h ∷ []) hs) all)
 
 pub least_of : (h : RowValue) (hs : List RowValue) → (ttl : ℕ) × IsLeastTtl (h ∷ hs) ttl
-least_of h [] = (h.mapping.ttl, least_alone h)
-least_of h (g ∷ gs) =
-    let rest = least_of g gs in
-    least_case h (g ∷ gs) rest.0 rest.1 (cases_lt h.mapping.ttl rest.0)
+least_of h hs = least_from (h ∷ []) h.mapping.ttl (least_alone h) hs
 
 -- ---- a narrower prefix around an address
 
@@ -105,16 +90,6 @@ module _ (addr : Addr) (wide narrow : ℕ) (shorter : wide < narrow) where
   abbrev in_inner : RowValue → Bool
   in_inner h = is_inside inner h.mapping.eid
 
-  outer_covers : covers outer inner ≡ true
-  outer_covers = and_from (nat_le wide narrow) (addr_eq (cleared (cleared addr narrow) wide) (cleared addr wide)) (le-leb wide narrow (omega (arith, shorter))) (is_addr (cleared (cleared addr narrow) wide) (cleared addr wide) (cleared-wider addr narrow wide (omega (arith, shorter))))
-
-  -- what lies inside it lies inside the wider one
-  in_both : (eid : PrefixValue) → is_inside inner eid ≡ true → is_inside outer eid ≡ true
-  in_both eid inside =
-      let parts = and_parts (covers inner eid) (nat_lt narrow eid.mask_len) inside in
-      let longer = (Decides-ltb narrow eid.mask_len).0 parts.1 in
-      and_from (covers outer eid) (nat_lt wide eid.mask_len) (covers_through outer inner eid outer_covers parts.0) ((Decides-ltb wide eid.mask_len).1 (omega (arith, shorter, longer)))
-
   inside_inner : (rows : List RowValue) (now : ℕ) (inside : List RowValue) → AreInside rows outer now inside → AreInside rows inner now (filter in_inner inside)
   inside_inner rows now inside are = record {
     rising = AllPairs-filter IsBefore in_inner inside are.rising;
@@ -124,7 +99,7 @@ module _ (addr : Addr) (wide narrow : ℕ) (shorter : wide < narrow) where
     where
       own : (h : RowValue) → Contains rows h → (is_alive h now ≡ true) × (is_inside inner h.mapping.eid ≡ true) → (own : RowValue) × Contains (filter in_inner inside) own × (own.mapping.eid ≡ h.mapping.eid)
       own h held (alive, is) =
-          let its = are.all h held (and_from (is_alive h now) (is_inside outer h.mapping.eid) alive (in_both h.mapping.eid is)) in
+          let its = are.all h held (and_from (is_alive h now) (is_inside outer h.mapping.eid) alive (inside_wider addr wide narrow (omega (arith, shorter)) h.mapping.eid is)) in
           (its.0, filter_holds in_inner inside its.0 its.1 (ap (is_inside inner) its.2 ∙ is), its.2)
 
   -- where the records for the wider one fit, so do those for it
@@ -152,8 +127,7 @@ pub of_found : {X : Type 0} (P : X → Type 0) (found : Option X) (x : X) → fo
 of_found {X = X} P found x is known = subst (λ (o : Option X). IfSome o P) is known
 
 pub none_found : {X : Type 0} (found : Option X) → is_some found ≡ false → found ≡ None
-none_found (Some x) none = absurd (true≢false none)
-none_found None none = refl
+none_found found none = grind arith
 
 module _ (rows : List RowValue) (asked : PrefixValue) (now : ℕ) (best : RowValue) where
   abbrev around : ℕ → PrefixValue
@@ -171,19 +145,14 @@ module _ (rows : List RowValue) (asked : PrefixValue) (now : ℕ) (best : RowVal
 
   -- what is known below one length is known below the next
   pub wider_up : (low middle : ℕ) → best.mapping.eid.mask_len ≤ middle → middle ≤ asked.mask_len → NoneFit middle → (n : ℕ) → best.mapping.eid.mask_len ≤ n → n < middle + 1 → NoneFit n
-  wider_up low middle from_middle to none n from less = either (cases_lt n middle)
-    where
-      either : (n < middle) ⊎ (middle ≤ n) → NoneFit n
-      either (inl under) = lesser n middle from under to none
-      either (inr over) = (let same : middle ≡ n = omega (arith, less, over) in subst NoneFit same none)
+  wider_up low middle from_middle to none n from less = on_either (cases_lt n middle)
+      (λ under. lesser n middle from under to none) (λ over. (let same : middle ≡ n = omega (arith, less, over) in subst NoneFit same none))
 
   -- where none fit for the prefix that is asked for, none do anywhere
   pub nowhere_at : NoneFit asked.mask_len → FitNowhere rows asked now best
-  nowhere_at none eid narrowed = subst (λ (e : PrefixValue). NoneFitFor rows e now best) (sym narrowed.around) (either (cases_lt eid.mask_len asked.mask_len))
-    where
-      either : (eid.mask_len < asked.mask_len) ⊎ (asked.mask_len ≤ eid.mask_len) → NoneFit eid.mask_len
-      either (inl under) = lesser eid.mask_len asked.mask_len narrowed.from under (omega arith) none
-      either (inr over) = (let same : asked.mask_len ≡ eid.mask_len = omega (arith, over, narrowed.to) in subst NoneFit same none)
+  nowhere_at none eid narrowed = subst (λ (e : PrefixValue). NoneFitFor rows e now best) (sym narrowed.around) (on_either (cases_lt eid.mask_len asked.mask_len)
+      (λ under. lesser eid.mask_len asked.mask_len narrowed.from under (omega arith) none)
+      (λ over. (let same : asked.mask_len ≡ eid.mask_len = omega (arith, over, narrowed.to) in subst NoneFit same none)))
 
   fit_or_not : (n : ℕ) (records : List MapRecordValue) → NoneFit n → FitFor rows (around n) now best records → ⊥
   fit_or_not n records none (are, fit) = true≢false (sym fit ∙ none records are)

@@ -7,8 +7,10 @@ use Rattle.lisp_records.specs.Address.{holds, PrefixValue, addr_eq, cleared, max
 use Rattle.lisp_records.specs.Record.{MapRecordValue}
 use Rattle.lisp_records.specs.Row.{RowValue}
 use Rattle.lisp_records.proofs.AddressLemmas.{cleared-wider}
+use Rattle.lisp_records.proofs.Elements.{later_in}
 use Rattle.lisp_lookup.specs.Replies.{IsLongest, record_of, RepliesWith}
 use Rattle.lisp_lookup.specs.Covering.{alone}
+use Rattle.lisp_lookup.proofs.Apart.{on_either}
 use Rattle.lisp_lookup.proofs.Blocks.{is_addr}
 use Rattle.lisp_lookup.proofs.CachedLaws.{cached_is_answered, hole_is_answered, its_eid}
 use Rattle.lisp_policy.specs.Site.{SiteValue}
@@ -30,16 +32,13 @@ module _ (addr : Addr) (x : MapRecordValue) (xs : List MapRecordValue) where
   of_each P first others r (zero, lt, is) = subst P is first
   of_each P first others r (suc k, lt, is) = others r (k, omega (arith, lt), is)
 
-  in_rest : (r : MapRecordValue) → Contains xs r → Contains (x ∷ xs) r
-  in_rest r (k, lt, is) = (suc k, omega (arith, lt), is)
-
   -- the first one is the longest
   first_longest : holds x.eid addr ≡ true → ((r : MapRecordValue) → Contains xs r → HasNoLonger x.eid.mask_len r) → Found (x ∷ xs) addr
   first_longest has others = inl (x, record { kept = (0, omega arith, refl); has = has; longest = of_each (HasNoLonger x.eid.mask_len) (λ its. omega arith) others })
 
   -- or the longest of the others
   other_longest : (r : MapRecordValue) → IsLongest xs addr r → HasNoLonger r.eid.mask_len x → Found (x ∷ xs) addr
-  other_longest r is first = inl (r, record { kept = in_rest r is.kept; has = is.has; longest = of_each (HasNoLonger r.eid.mask_len) first is.longest })
+  other_longest r is first = inl (r, record { kept = later_in r x xs is.kept; has = is.has; longest = of_each (HasNoLonger r.eid.mask_len) first is.longest })
 
   longer : (r : MapRecordValue) → IsLongest xs addr r → holds x.eid addr ≡ true → (r.eid.mask_len < x.eid.mask_len) ⊎ (x.eid.mask_len ≤ r.eid.mask_len) → Found (x ∷ xs) addr
   longer r is has (inl more) = first_longest has (λ other there its. (let low = is.longest other there its in omega (arith, low, more)))
@@ -56,11 +55,8 @@ found [] addr = inr (λ r (k, lt, is). absurd (omega (arith, lt)))
 found (x ∷ xs) addr = found_cons addr x xs (holds x.eid addr) refl (found xs addr)
 
 pub one_longest : (first : MapRecordValue) (rest : List MapRecordValue) (addr : Addr) → holds first.eid addr ≡ true → (r : MapRecordValue) × IsLongest (first ∷ rest) addr r
-one_longest first rest addr has = either (found (first ∷ rest) addr)
-  where
-    either : Found (first ∷ rest) addr → (r : MapRecordValue) × IsLongest (first ∷ rest) addr r
-    either (inl one) = one
-    either (inr none) = absurd (true≢false (sym has ∙ none first (0, omega arith, refl)))
+one_longest first rest addr has = on_either (found (first ∷ rest) addr)
+    (λ one. one) (λ none. absurd (true≢false (sym has ∙ none first (0, omega arith, refl))))
 
 -- ---- What an ITR that keeps a reply says of an address is what the Map-Server says of it.
 

@@ -1,7 +1,7 @@
 -- What one message carries of a router's records: as much as of the records as configured, and never more for a wider prefix.
-use Rattle.std.proofs.Common.{[], ◌≡◌, ℕ, ◌+◌, ◌<◌, ◌≤◌, Bool, true, false, nat_lt, nat_le, List, ◌∷◌, ◌++◌, length, map, Option, Some, None, refl, sym, ap, ◌∙◌, subst, true≢false, arith, length-append, if◌then◌else◌, ◌⊎◌, inl, inr}
+use Rattle.std.proofs.Common.{[], ◌≡◌, ℕ, ◌+◌, ◌<◌, ◌≤◌, Bool, true, false, nat_lt, nat_le, List, ◌∷◌, ◌++◌, length, map, Option, Some, refl, sym, ap, ◌∙◌, subst, true≢false, arith, length-append, ◌⊎◌, inl, inr}
 use Rattle.std.proofs.lemmas.Bool.{and_from, and_parts, le-leb, leb-true}
-use Rattle.std.proofs.lemmas.Bool.Decides.{Decides-ltb}
+use Rattle.std.proofs.lemmas.Bool.Decides.{nat_tests}
 use Rattle.std.proofs.lemmas.List.{length-map}
 use Rattle.std.proofs.lemmas.List.Elements.{All-contains, Contains-append_right, Contains-append_left, Contains-push, Contains-push_cases}
 use Rattle.std.proofs.lemmas.List.Sums.{sum_by-append}
@@ -10,18 +10,17 @@ use Rattle.std.specs.Prelude.{◌↔◌, IfSome}
 use Rattle.lisp_records.specs.declared.address.Addr.{Addr}
 use Rattle.lisp_records.specs.declared.address.Addr.TheVariants.{V4, V6}
 use Rattle.lisp_records.specs.declared.locator.Locator.{Locator}
-use Rattle.lisp_records.specs.Address.{PrefixValue, IsPrefix, addr_eq, cleared, covers, holds, max_len, octets, prefix_around}
+use Rattle.lisp_records.specs.Address.{PrefixValue, IsPrefix, cleared, covers, max_len, octets, prefix_around}
 use Rattle.lisp_records.specs.Parts.{fits_message, size}
 use Rattle.lisp_records.specs.Record.{MapRecordValue}
 use Rattle.lisp_records.specs.Written.{written, written_address, written_head, written_locator, written_locators}
-use Rattle.lisp_records.proofs.AddressLemmas.{length-masked, cleared-wider}
+use Rattle.lisp_records.proofs.AddressLemmas.{length-masked}
 use Rattle.lisp_policy.proofs.Found.{not_true}
 use Rattle.lisp_lookup.specs.Inside.{is_inside}
 use Rattle.lisp_lookup.specs.Covering.{alone}
 use Rattle.lisp_lookup.proofs.BestLaws.{same_family}
-use Rattle.lisp_lookup.proofs.Blocks.{addr_is, is_addr}
-use Rattle.lisp_lookup.proofs.CachedLaws.{covers_through}
-use Rattle.lisp_lookup.proofs.SitesLaws.{in_wider}
+use Rattle.lisp_lookup.proofs.Blocks.{around_covers, covers_is, covers_through, in_wider}
+use Rattle.lisp_lookup.proofs.InsideLaws.{is_wider}
 use Rattle.lisp_replies.specs.Own.{AreOwnRecords, IsLongestFor, IsOwnNarrowed, OwnFitNot, OwnFitNowhere, OwnRepliesWith, own_inside, own_locator, own_record, IsOwnHole, NoneIsFor}
 use Rattle.lisp_replies.specs.OwnSteps.{own_fit, IsWidestFit, FitsNowhere, IsLeastWithout}
 
@@ -32,12 +31,7 @@ length-octets (V4 bytes) n = length-masked bytes n
 length-octets (V6 bytes) n = length-masked bytes n
 
 locator_long : (probed : Option Addr) (l : Locator) → length (written_locator (own_locator probed l)) ≡ length (written_locator l)
-locator_long None l = refl
-locator_long (Some addr) l = either (addr_eq l.addr addr)
-  where
-    either : (b : Bool) → length (written_locator (if b then (record l { probe = true }) else l)) ≡ length (written_locator l)
-    either true = refl
-    either false = refl
+locator_long probed l = grind arith
 
 locators_long : (probed : Option Addr) (ls : List Locator) → length (written_locators (map (own_locator probed) ls)) ≡ length (written_locators ls)
 locators_long probed [] = refl
@@ -96,23 +90,18 @@ fewer p q within (m ∷ ms) = either (p m) (q m) refl refl (fewer p q within ms)
     either false true out_p in_q rest = rw (out_p, in_q) (omega (arith, rest.0), omega (arith, size-cons m (filter q ms), rest.1))
     either false false out_p out_q rest = rw (out_p, out_q) rest
 
--- of two prefixes around an address the longer lies in the shorter
-pub around_covers : (addr : Addr) (n k : ℕ) → n ≤ k → covers (prefix_around addr n) (prefix_around addr k) ≡ true
-around_covers addr n k le = and_from (nat_le n k) (addr_eq (cleared (cleared addr k) n) (cleared addr n)) (le-leb n k le) (is_addr (cleared (cleared addr k) n) (cleared addr n) (cleared-wider addr k n le))
-
 -- what is inside the longer is inside the shorter
-pub inside_wider : (addr : Addr) (n k : ℕ) → n ≤ k → (m : MapRecordValue) → is_inside (prefix_around addr k) m.eid ≡ true → is_inside (prefix_around addr n) m.eid ≡ true
-inside_wider addr n k le m is =
-    let parts = and_parts (covers (prefix_around addr k) m.eid) (nat_lt k m.eid.mask_len) is in
-    let long = (Decides-ltb k m.eid.mask_len).0 parts.1 in
-    and_from (covers (prefix_around addr n) m.eid) (nat_lt n m.eid.mask_len) (covers_through (prefix_around addr n) (prefix_around addr k) m.eid (around_covers addr n k le) parts.0) ((Decides-ltb n m.eid.mask_len).1 (omega (arith, long, le)))
+pub inside_wider : (addr : Addr) (n k : ℕ) → n ≤ k → (eid : PrefixValue) → is_inside (prefix_around addr k) eid ≡ true → is_inside (prefix_around addr n) eid ≡ true
+inside_wider addr n k le eid is =
+    let (covered, long) = and_parts (covers (prefix_around addr k) eid) (nat_lt k eid.mask_len) is in
+    and_from (covers (prefix_around addr n) eid) (nat_lt n eid.mask_len) (in_wider addr eid k n le covered) (grind (arith, nat_tests))
 
 pub wider_fits_not : (database : List MapRecordValue) (longest : MapRecordValue) (addr : Addr) (n k : ℕ) → n ≤ k → own_fit database longest (prefix_around addr k) ≡ false → own_fit database longest (prefix_around addr n) ≡ false
 wider_fits_not database longest addr n k le unfit = not_true (own_fit database longest (prefix_around addr n)) (λ fit.
     (let wide = longest ∷ own_inside database (prefix_around addr n) in
     let narrow = longest ∷ own_inside database (prefix_around addr k) in
     let parts = and_parts (nat_le (length wide) 255) (nat_le (size wide) 16384) fit in
-    let less = fewer (λ m. is_inside (prefix_around addr k) m.eid) (λ m. is_inside (prefix_around addr n) m.eid) (inside_wider addr n k le) database in
+    let less = fewer (λ m. is_inside (prefix_around addr k) m.eid) (λ m. is_inside (prefix_around addr n) m.eid) (λ m. inside_wider addr n k le m.eid) database in
     let many : length narrow ≤ 255 = omega (arith, less.0, leb-true (length wide) 255 parts.0) in
     let large : size narrow ≤ 16384 = omega (arith, less.1, size-cons longest (own_inside database (prefix_around addr n)), size-cons longest (own_inside database (prefix_around addr k)), leb-true (size wide) 16384 parts.1) in
     true≢false (sym (and_from (nat_le (length narrow) 255) (nat_le (size narrow) 16384) (le-leb (length narrow) 255 many) (le-leb (size narrow) 16384 large)) ∙ unfit)))
@@ -120,14 +109,11 @@ wider_fits_not database longest addr n k le unfit = not_true (own_fit database l
 -- ---- the widest prefix for which they fit
 
 most : (a : Addr) → max_len a ≤ 128
-most (V4 bytes) = omega arith
-most (V6 bytes) = omega arith
+most a = grind arith
 
 -- a prefix over another has at most the longest mask
 pub few_bits : (one other : PrefixValue) → covers one other ≡ true → IsPrefix other → one.mask_len ≤ 128
-few_bits one other over block =
-    let le = leb-true one.mask_len other.mask_len (and_parts (nat_le one.mask_len other.mask_len) (holds one other.addr) over).0 in
-    omega (arith, le, block.0, most other.addr)
+few_bits one other over block = omega (arith, ((covers_is one other).0 over).0, block.0, most other.addr)
 
 module _ (database : List MapRecordValue) (longest : MapRecordValue) (asked : PrefixValue) where
   abbrev fit_at : ℕ → Bool
@@ -152,7 +138,7 @@ module _ (database : List MapRecordValue) (longest : MapRecordValue) (asked : Pr
   module _ (over : covers longest.eid asked ≡ true) where
     -- the longest record's address is that asked for, with bits cleared
     its_addr : cleared asked.addr longest.eid.mask_len ≡ longest.eid.addr
-    its_addr = addr_is (cleared asked.addr longest.eid.mask_len) longest.eid.addr (and_parts (nat_le longest.eid.mask_len asked.mask_len) (holds longest.eid asked.addr) over).1
+    its_addr = ((covers_is longest.eid asked).0 over).1
 
     pub as_long : (n : ℕ) → AreAsLong (cleared asked.addr n) longest.eid.addr
     as_long n = length-octets asked.addr n ∙ sym (length-octets asked.addr longest.eid.mask_len) ∙ ap (λ (a : Addr). length (octets a)) its_addr
@@ -187,12 +173,7 @@ filter_none p (m ∷ ms) none =
     rw first (filter_none p ms (λ x at. none x (Contains-append_right (m ∷ []) ms x at)))
 
 not_inside : (asked : PrefixValue) (m : MapRecordValue) → asked.mask_len ≡ max_len asked.addr → IsPrefix m.eid → is_inside asked m.eid ≡ false
-not_inside asked m full block = not_true (is_inside asked m.eid) (λ is.
-    (let parts = and_parts (covers asked m.eid) (nat_lt asked.mask_len m.eid.mask_len) is in
-    let covered = and_parts (nat_le asked.mask_len m.eid.mask_len) (addr_eq (cleared m.eid.addr asked.mask_len) asked.addr) parts.0 in
-    let same : cleared m.eid.addr asked.mask_len ≡ asked.addr = addr_is (cleared m.eid.addr asked.mask_len) asked.addr covered.1 in
-    let long = (Decides-ltb asked.mask_len m.eid.mask_len).0 parts.1 in
-    omega (arith, long, full, block.0, same_family m.eid.addr asked.mask_len, ap max_len same)))
+not_inside asked m full block = not_true (is_inside asked m.eid) (λ is. omega (arith, full, is_wider asked m.eid is block))
 
 pub none_inside : (database : List MapRecordValue) (asked : PrefixValue) → All (λ m. IsPrefix m.eid) database → asked.mask_len ≡ max_len asked.addr → own_inside database asked ≡ []
 none_inside database asked blocks full = filter_none (λ m. is_inside asked m.eid) database (λ m at. not_inside asked m full (All-contains (λ (x : MapRecordValue). IsPrefix x.eid) database m blocks at))

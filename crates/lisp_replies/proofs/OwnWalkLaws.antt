@@ -1,19 +1,19 @@
 -- Walks over a router's database: what is so of the records so far, and of one more.
-use Rattle.std.proofs.Common.{[], ◌≡◌, ◌⊎◌, inl, inr, not, ℕ, ◌+◌, ◌<◌, ◌≤◌, Bool, true, false, List, ◌∷◌, ◌++◌, length, map, min, take, slice_index_or, Option, Some, None, refl, sym, ap, ◌∙◌, subst, true≢false, arith, zero, suc, nat_le, nat_lt}
-use Rattle.std.proofs.lemmas.Bool.{cases_lt, ltb-false, and_from, and_parts, le-leb}
+use Rattle.std.proofs.Common.{[], ◌≡◌, ◌⊎◌, inl, inr, not, ℕ, ◌+◌, ◌<◌, ◌≤◌, true, false, List, ◌∷◌, ◌++◌, length, map, min, take, slice_index_or, Option, Some, None, refl, sym, ap, ◌∙◌, subst, true≢false, arith, zero, suc, nat_le}
+use Rattle.std.proofs.lemmas.Bool.{cases_lt, ltb-false, and_parts}
 use Rattle.std.proofs.lemmas.Bool.Decides.{Decides-ltb}
 use Rattle.std.proofs.lemmas.List.{append-nil, map-append, take_more, get_or-map, get_or_default, length-map}
-use Rattle.std.proofs.lemmas.List.Elements.{All-contains, All-contains_itself, All-filter, Contains-append_cases, Contains-append_left, Contains-push, Contains-push_cases, filter-append, filter_passes}
-use Rattle.std.proofs.lemmas.List.Sorted.{Contains-permutation, IsPermutation-filter_both}
-use Rattle.std.specs.List.{Contains, filter}
+use Rattle.std.proofs.lemmas.List.Elements.{Contains-append_left, Contains-push, Contains-push_cases, filter-append}
+use Rattle.std.specs.List.{Contains}
 use Rattle.lisp_records.specs.declared.address.Addr.{Addr}
-use Rattle.lisp_records.specs.Address.{PrefixValue, covers, addr_eq, cleared, holds, max_len}
+use Rattle.lisp_records.specs.Address.{PrefixValue, covers, cleared, holds, max_len}
 use Rattle.lisp_records.specs.Record.{MapRecordValue}
 use Rattle.lisp_lookup.specs.Inside.{is_inside}
 use Rattle.lisp_lookup.specs.Covering.{alone}
 use Rattle.lisp_lookup.specs.Replies.{IsLongest}
-use Rattle.lisp_lookup.proofs.Blocks.{is_addr}
-use Rattle.lisp_lookup.proofs.CachedLaws.{covers_through, has_wider, nested}
+use Rattle.lisp_lookup.proofs.Apart.{on_either}
+use Rattle.lisp_lookup.proofs.Blocks.{covers_is, covers_through, has_wider, inside_is, is_addr, nested}
+use Rattle.lisp_lookup.proofs.TableLaws.{filter_holds, filtered_holds}
 use Rattle.lisp_replies.specs.Own.{IsLeastOwnTtl, IsLongestFor, IsLongestForOf, own_inside, own_record, IsOwnHole, IsOwnNarrowed, IsOwnReply, OwnRepliesFor, OwnRepliesNone, OwnRepliesWith}
 use Rattle.lisp_replies.specs.OwnSteps.{is_longer}
 use Rattle.lisp_replies.specs.OwnKept.{IsOwnAnswered, IsOwnKept, IsOwnKeptNone, OwnMayBeKept, OwnRepliesMayBeKept}
@@ -21,22 +21,6 @@ use Rattle.lisp_replies.specs.declared.reply.Reply.{Reply}
 use Rattle.lisp_replies.specs.declared.reply.Reply.TheVariants.{Records, Negative}
 use Rattle.lisp_policy.proofs.Found.{not_true}
 use Rattle.lisp_replies.proofs.KeptLaws.{one_longest}
-
--- ---- what a filter leaves
-
-pub left_in : {X : Type 0} (p : X → Bool) (xs : List X) (x : X) → Contains (filter p xs) x → Contains xs x × (p x ≡ true)
-left_in p xs x c = (All-contains (Contains xs) (filter p xs) x (All-filter p (Contains xs) xs (All-contains_itself xs)) c, All-contains (λ y. p y ≡ true) (filter p xs) x (filter_passes p xs) c)
-
-not_not : (b : Bool) → not b ≡ true → b ≡ false
-not_not true e = absurd cc
-not_not false e = refl
-
-pub in_left : {X : Type 0} (p : X → Bool) (xs : List X) (x : X) → Contains xs x → p x ≡ true → Contains (filter p xs) x
-in_left p xs x c passes = either (Contains-append_cases (filter p xs) (filter (λ y. not (p y)) xs) x (Contains-permutation xs (filter p xs ++ filter (λ y. not (p y)) xs) x (IsPermutation-filter_both p (λ y. not (p y)) (λ y. refl) xs) c))
-  where
-    either : Contains (filter p xs) x ⊎ Contains (filter (λ y. not (p y)) xs) x → Contains (filter p xs) x
-    either (inl passing) = passing
-    either (inr fails) = absurd (true≢false (sym passes ∙ not_not (p x) (All-contains (λ y. not (p y) ≡ true) (filter (λ y. not (p y)) xs) x (filter_passes (λ y. not (p y)) xs) fails)))
 
 -- ---- one record more
 
@@ -67,15 +51,13 @@ module _ (ms : List MapRecordValue) (eid : PrefixValue) (i : ℕ) (m : MapRecord
 -- ---- the least TTL
 
 pub least_next : (ms : List MapRecordValue) (m : MapRecordValue) (ttl next : ℕ) → IsLeastOwnTtl ms ttl → next ≡ min ttl m.ttl → IsLeastOwnTtl (ms ++ m ∷ []) next
-least_next ms m ttl next is made = either (cases_lt m.ttl ttl)
+least_next ms m ttl next is made = on_either (cases_lt m.ttl ttl)
+    (λ less. record { its = m; held = Contains-push ms m; is = omega (arith, made, less); least = λ other at. below other (Contains-push_cases ms m other at) })
+    (λ more. record { its = is.its; held = Contains-append_left ms (m ∷ []) is.its is.held; is = omega (arith, made, more, is.is); least = λ other at. below other (Contains-push_cases ms m other at) })
   where
     below : (other : MapRecordValue) → Contains ms other ⊎ (m ≡ other) → next ≤ other.ttl
     below other (inl was) = omega (arith, made, is.least other was)
     below other (inr same) = subst (λ (x : MapRecordValue). next ≤ x.ttl) same (omega (arith, made))
-
-    either : (m.ttl < ttl) ⊎ (ttl ≤ m.ttl) → IsLeastOwnTtl (ms ++ m ∷ []) next
-    either (inl less) = record { its = m; held = Contains-push ms m; is = omega (arith, made, less); least = λ other at. below other (Contains-push_cases ms m other at) }
-    either (inr more) = record { its = is.its; held = Contains-append_left ms (m ∷ []) is.its is.held; is = omega (arith, made, more, is.is); least = λ other at. below other (Contains-push_cases ms m other at) }
 
 -- ---- the records that are sent
 
@@ -92,36 +74,30 @@ records_next probed ttl eid longest m own seen old new before pushed made =
 -- ---- the longest record
 
 module _ (asked : PrefixValue) (seen : List MapRecordValue) (m : MapRecordValue) where
+  -- what no record that was seen, and not the next one, is longer than
+  most : (l : ℕ) → ((other : MapRecordValue) → Contains seen other → covers other.eid asked ≡ true → other.eid.mask_len ≤ l) → (covers m.eid asked ≡ true → m.eid.mask_len ≤ l) → (other : MapRecordValue) → Contains (seen ++ m ∷ []) other → covers other.eid asked ≡ true → other.eid.mask_len ≤ l
+  most l old new other at over = on_either (Contains-push_cases seen m other at)
+      (λ was. old other was over)
+      (λ same. subst (λ (x : MapRecordValue). x.eid.mask_len ≤ l) same (new (ap (λ (x : MapRecordValue). covers x.eid asked) same ∙ over)))
+
   -- a record that is no longer, or that isn't over the prefix, changes nothing
   longest_stays : (old : Option MapRecordValue) → IsLongestForOf seen asked old → (covers m.eid asked ≡ false) ⊎ (is_longer old m ≡ false) → IsLongestForOf (seen ++ m ∷ []) asked old
   longest_stays None none (inr short) = absurd (true≢false short)
-  longest_stays None none (inl apart) = λ other at. either other (Contains-push_cases seen m other at)
+  longest_stays None none (inl apart) = λ other at. on_either (Contains-push_cases seen m other at)
+      (λ was. none other was) (λ same. subst (λ (x : MapRecordValue). covers x.eid asked ≡ false) same apart)
+  longest_stays (Some l) is reason = record { held = Contains-append_left seen (m ∷ []) l is.held; over = is.over; longest = most l.eid.mask_len is.longest (shorter reason) }
     where
-      either : (other : MapRecordValue) → Contains seen other ⊎ (m ≡ other) → covers other.eid asked ≡ false
-      either other (inl was) = none other was
-      either other (inr same) = subst (λ (x : MapRecordValue). covers x.eid asked ≡ false) same apart
-  longest_stays (Some l) is reason = record { held = Contains-append_left seen (m ∷ []) l is.held; over = is.over; longest = λ other at over. either other over (Contains-push_cases seen m other at) reason }
-    where
-      either : (other : MapRecordValue) → covers other.eid asked ≡ true → Contains seen other ⊎ (m ≡ other) → (covers m.eid asked ≡ false) ⊎ (is_longer (Some l) m ≡ false) → other.eid.mask_len ≤ l.eid.mask_len
-      either other over (inl was) reason = is.longest other was over
-      either other over (inr same) (inl apart) = absurd (true≢false (sym over ∙ ap (λ (x : MapRecordValue). covers x.eid asked) (sym same) ∙ apart))
-      either other over (inr same) (inr short) = omega (arith, ltb-false l.eid.mask_len m.eid.mask_len short, ap (λ (x : MapRecordValue). x.eid.mask_len) same)
+      shorter : (covers m.eid asked ≡ false) ⊎ (is_longer (Some l) m ≡ false) → covers m.eid asked ≡ true → m.eid.mask_len ≤ l.eid.mask_len
+      shorter (inl apart) over = absurd (true≢false (sym over ∙ apart))
+      shorter (inr short) over = ltb-false l.eid.mask_len m.eid.mask_len short
 
   -- a longer one over the prefix is the longest
   longest_grows : (old : Option MapRecordValue) → IsLongestForOf seen asked old → covers m.eid asked ≡ true → is_longer old m ≡ true → IsLongestFor (seen ++ m ∷ []) asked m
-  longest_grows None none over long = record { held = Contains-push seen m; over = over; longest = λ other at its. either other its (Contains-push_cases seen m other at) }
+  longest_grows old is over long = record { held = Contains-push seen m; over = over; longest = most m.eid.mask_len (shorter old is long) (λ _. omega arith) }
     where
-      either : (other : MapRecordValue) → covers other.eid asked ≡ true → Contains seen other ⊎ (m ≡ other) → other.eid.mask_len ≤ m.eid.mask_len
-      either other its (inl was) = absurd (true≢false (sym its ∙ none other was))
-      either other its (inr same) = omega (arith, ap (λ (x : MapRecordValue). x.eid.mask_len) same)
-  longest_grows (Some l) is over long = record { held = Contains-push seen m; over = over; longest = λ other at its. either other its (Contains-push_cases seen m other at) }
-    where
-      either : (other : MapRecordValue) → covers other.eid asked ≡ true → Contains seen other ⊎ (m ≡ other) → other.eid.mask_len ≤ m.eid.mask_len
-      either other its (inl was) = omega (arith, is.longest other was its, lt-of long)
-        where
-          lt-of : is_longer (Some l) m ≡ true → l.eid.mask_len < m.eid.mask_len
-          lt-of = (Decides-ltb l.eid.mask_len m.eid.mask_len).0
-      either other its (inr same) = omega (arith, ap (λ (x : MapRecordValue). x.eid.mask_len) same)
+      shorter : (old : Option MapRecordValue) → IsLongestForOf seen asked old → is_longer old m ≡ true → (other : MapRecordValue) → Contains seen other → covers other.eid asked ≡ true → other.eid.mask_len ≤ m.eid.mask_len
+      shorter None none long other was its = absurd (true≢false (sym its ∙ none other was))
+      shorter (Some l) is long other was its = omega (arith, is.longest other was its, (Decides-ltb l.eid.mask_len m.eid.mask_len).0 long)
 
   pub longest_next : (old new : Option MapRecordValue) → IsLongestForOf seen asked old → ((covers m.eid asked ≡ true) × (is_longer old m ≡ true) × (new ≡ Some m)) ⊎ (((covers m.eid asked ≡ false) ⊎ (is_longer old m ≡ false)) × (new ≡ old)) → IsLongestForOf (seen ++ m ∷ []) asked new
   longest_next old new is (inl (over, long, made)) = subst (λ (o : Option MapRecordValue). IsLongestForOf (seen ++ m ∷ []) asked o) (sym made) (longest_grows old is over long)
@@ -146,7 +122,7 @@ module _ (database : List MapRecordValue) (asked : PrefixValue) (probed : Option
 
   -- the prefix lies around the one asked for
   around_asked : covers eid asked ≡ true
-  around_asked = and_from (nat_le eid.mask_len asked.mask_len) (addr_eq (cleared asked.addr eid.mask_len) eid.addr) (le-leb eid.mask_len asked.mask_len narrowed.to) (is_addr (cleared asked.addr eid.mask_len) eid.addr (sym (ap (λ (b : PrefixValue). b.addr) narrowed.around)))
+  around_asked = (covers_is eid asked).1 (narrowed.to, sym (ap (λ (b : PrefixValue). b.addr) narrowed.around))
 
   has_asked : holds eid asked.addr ≡ true
   has_asked = (and_parts (nat_le eid.mask_len asked.mask_len) (holds eid asked.addr) around_asked).1
@@ -157,7 +133,7 @@ module _ (database : List MapRecordValue) (asked : PrefixValue) (probed : Option
   module _ (addr : Addr) (has : holds eid addr ≡ true) where
     -- a record of a longer prefix that has the address is one of those inside
     one_inside : (m : MapRecordValue) → Contains database m → holds m.eid addr ≡ true → eid.mask_len < m.eid.mask_len → Contains inside m
-    one_inside m held its long = in_left (λ x. is_inside eid x.eid) database m held (and_from (covers eid m.eid) (nat_lt eid.mask_len m.eid.mask_len) (nested eid m.eid addr has its (omega (arith, long))) ((Decides-ltb eid.mask_len m.eid.mask_len).1 long))
+    one_inside m held its long = filter_holds (λ x. is_inside eid x.eid) database m held ((inside_is eid m.eid).1 ((covers_is eid m.eid).0 (nested eid m.eid addr has its (omega (arith, long))), long))
 
     -- one of no longer prefix is no longer than the best
     no_longer : (m : MapRecordValue) → Contains database m → holds m.eid addr ≡ true → m.eid.mask_len ≤ eid.mask_len → m.eid.mask_len ≤ best.eid.mask_len
@@ -173,24 +149,36 @@ module _ (database : List MapRecordValue) (asked : PrefixValue) (probed : Option
       inside_shorter m held its long = longest.longest (sent m) (sent_in m (one_inside m held its long)) its
 
       of_first : first ≡ r → IsOwnAnswered database probed ttl addr r
-      of_first is = (best, record { kept = is_best.held; has = has_wider best.eid eid addr best_over has; longest = λ m held its. either m held its (cases_lt eid.mask_len m.eid.mask_len) }, sym is ∙ ap (λ (b : PrefixValue). own_record probed ttl b best) (ap (λ (x : MapRecordValue). x.eid) is))
-        where
-          either : (m : MapRecordValue) → Contains database m → holds m.eid addr ≡ true → (eid.mask_len < m.eid.mask_len) ⊎ (m.eid.mask_len ≤ eid.mask_len) → m.eid.mask_len ≤ best.eid.mask_len
-          either m held its (inl long) = absurd (omega (arith, long, inside_shorter m held its long, ap (λ (x : MapRecordValue). x.eid.mask_len) is))
-          either m held its (inr short) = no_longer m held its short
+      of_first is = (
+        best,
+        record {
+          kept = is_best.held;
+          has = has_wider best.eid eid addr best_over has;
+          longest = λ m held its. on_either (cases_lt eid.mask_len m.eid.mask_len)
+              (λ long. absurd (omega (arith, long, inside_shorter m held its long, ap (λ (x : MapRecordValue). x.eid.mask_len) is)))
+              (λ short. no_longer m held its short);
+        },
+        sym is ∙ ap (λ (b : PrefixValue). own_record probed ttl b best) (ap (λ (x : MapRecordValue). x.eid) is),
+      )
 
       of_inside : (m : MapRecordValue) → Contains inside m → sent m ≡ r → IsOwnAnswered database probed ttl addr r
-      of_inside m there is = (m, record { kept = own.0; has = ap (λ (x : MapRecordValue). holds x.eid addr) is ∙ longest.has; longest = λ x held its. either x held its (cases_lt eid.mask_len x.eid.mask_len) }, sym is ∙ ap (λ (b : PrefixValue). own_record probed ttl b m) (ap (λ (x : MapRecordValue). x.eid) is))
+      of_inside m there is = (
+        m,
+        record {
+          kept = own.0;
+          has = ap (λ (x : MapRecordValue). holds x.eid addr) is ∙ longest.has;
+          longest = λ x held its. on_either (cases_lt eid.mask_len x.eid.mask_len)
+              (λ more. omega (arith, inside_shorter x held its more, ap (λ (y : MapRecordValue). y.eid.mask_len) is))
+              (λ short. omega (arith, short, long));
+        },
+        sym is ∙ ap (λ (b : PrefixValue). own_record probed ttl b m) (ap (λ (x : MapRecordValue). x.eid) is),
+      )
         where
           own : Contains database m × (is_inside eid m.eid ≡ true)
-          own = left_in (λ x. is_inside eid x.eid) database m there
+          own = filtered_holds (λ x. is_inside eid x.eid) database m there
 
           long : eid.mask_len < m.eid.mask_len
-          long = (Decides-ltb eid.mask_len m.eid.mask_len).0 (and_parts (covers eid m.eid) (nat_lt eid.mask_len m.eid.mask_len) own.1).1
-
-          either : (x : MapRecordValue) → Contains database x → holds x.eid addr ≡ true → (eid.mask_len < x.eid.mask_len) ⊎ (x.eid.mask_len ≤ eid.mask_len) → x.eid.mask_len ≤ m.eid.mask_len
-          either x held its (inl more) = omega (arith, inside_shorter x held its more, ap (λ (y : MapRecordValue). y.eid.mask_len) is)
-          either x held its (inr short) = omega (arith, short, long)
+          long = ((inside_is eid m.eid).0 own.1).1
 
       of_kept : Contains all r → IsOwnAnswered database probed ttl addr r
       of_kept (zero, lt, at) = of_first at
@@ -229,11 +217,9 @@ module _ (database : List MapRecordValue) (asked : PrefixValue) (probed : Option
 
 module _ (database : List MapRecordValue) (asked : Addr) (eid : PrefixValue) (hole : IsOwnHole database asked eid) where
   none_there : (addr : Addr) → holds eid addr ≡ true → (m : MapRecordValue) → Contains database m → holds m.eid addr ≡ false
-  none_there addr has m held = not_true (holds m.eid addr) (λ its. either its (cases_lt eid.mask_len m.eid.mask_len))
-    where
-      either : holds m.eid addr ≡ true → (eid.mask_len < m.eid.mask_len) ⊎ (m.eid.mask_len ≤ eid.mask_len) → ⊥
-      either its (inl long) = true≢false (sym (nested eid m.eid addr has its (omega (arith, long))) ∙ (hole.free m held).0)
-      either its (inr short) = true≢false (sym (nested m.eid eid addr its has short) ∙ (hole.free m held).1)
+  none_there addr has m held = not_true (holds m.eid addr) (λ its. on_either (cases_lt eid.mask_len m.eid.mask_len)
+      (λ long. true≢false (sym (nested eid m.eid addr has its (omega (arith, long))) ∙ (hole.free m held).0))
+      (λ short. true≢false (sym (nested m.eid eid addr its has short) ∙ (hole.free m held).1)))
 
   pub hole_kept : IsOwnKeptNone database asked eid
   hole_kept = record {

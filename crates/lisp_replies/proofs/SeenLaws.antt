@@ -1,12 +1,11 @@
 -- The walk over the prefixes inside: what was seen is the front of the list of all.
 use Rattle.std.proofs.Common.{[], ◌≡◌, ◌≢◌, ◌⊎◌, inl, inr, ℕ, zero, suc, true, List, ◌∷◌, ◌++◌, length, slice_index_or, refl, sym, ap, ◌∙◌, subst, arith, ◌+◌, ◌<◌, ◌≤◌, min, false, map, Option, Some}
 use Rattle.std.proofs.lemmas.Bool.{and_from, and_parts, cases_lt}
-use Rattle.std.proofs.lemmas.List.{append-nil, length-append, length-map, map-append}
-use Rattle.std.proofs.lemmas.List.Elements.{Contains-append_left, Contains-get_or, Contains-push, Contains-push_cases, Contains-append_right, Contains-append_cases}
+use Rattle.std.proofs.lemmas.List.{length-append, length-map, map-append}
+use Rattle.std.proofs.lemmas.List.Elements.{Contains-append_left, Contains-get_or, Contains-push, Contains-push_cases}
 use Rattle.std.proofs.lemmas.List.Quantifiers.{all_pairs_push}
 use Rattle.std.proofs.lemmas.List.Sums.{sum_by-append}
-use Rattle.std.specs.Bool.{⊤}
-use Rattle.std.specs.List.{AllPairs, Contains}
+use Rattle.std.specs.List.{Contains}
 use Rattle.std.specs.Ordering.{ordering_reverse, ordering_then}
 use Rattle.std.specs.declared.cmp.Ordering.{Ordering}
 use Rattle.std.specs.declared.cmp.Ordering.TheVariants.{Less, Equal, Greater}
@@ -17,9 +16,12 @@ use Rattle.lisp_records.specs.Parts.{fits_message, size}
 use Rattle.lisp_records.specs.Record.{MapRecordValue}
 use Rattle.lisp_records.specs.Written.{written}
 use Rattle.lisp_records.proofs.Cuts.{begins_fits, fits, fits_is}
+use Rattle.lisp_records.proofs.Elements.{none_in}
+use Rattle.lisp_records.proofs.RisingLaws.{begins_with, one_order}
 use Rattle.lisp_lookup.specs.Inside.{is_inside, is_live_inside, IsBestOfOwn, IsNextInside, NoneInside, AreInside, InsideValue, IsNextInsideOf, moved}
 use Rattle.lisp_lookup.specs.Table.{OneEach, row_at}
 use Rattle.lisp_lookup.specs.Replies.{IsLeastTtl, record_of}
+use Rattle.lisp_lookup.proofs.Apart.{on_either}
 use Rattle.lisp_lookup.proofs.AnswerLaws.{ranks_tie}
 use Rattle.lisp_lookup.proofs.InsideLaws.{inside_behind, not_both}
 use Rattle.lisp_lookup.proofs.Orders.{block_total, same_block, same_router}
@@ -32,9 +34,7 @@ use Rattle.lisp_policy.proofs.Found.{not_true}
 -- ---- the best row of a prefix is one
 
 second_tie : (one two : Ordering) → ordering_then one two ≡ Equal → two ≡ Equal
-second_tie Less two tie = absurd cc
-second_tie Equal two tie = tie
-second_tie Greater two tie = absurd cc
+second_tie one two tie = grind arith
 
 pub own_best_is_one : (rows : List RowValue) (now : ℕ) → OneEach rows → (a b : RowValue) → IsBestOfOwn rows now a → IsBestOfOwn rows now b → a.mapping.eid ≡ b.mapping.eid → a ≡ b
 own_best_is_one rows now one a b best_a best_b same =
@@ -42,54 +42,6 @@ own_best_is_one rows now one a b best_a best_b same =
     let router = same_router a.router b.router (second_tie _ (router_cmp a.router b.router) tie) in
     let found : row_at rows a.router a.mapping.eid ≡ row_at rows b.router b.mapping.eid = λ i. row_at rows (router i) (same i) in
     some_inj a b (sym (found_own rows a one best_a.held) ∙ found ∙ found_own rows b one best_b.held)
-
--- ---- of two lists in strictly rising order, one has those of the other that are low
-
-module _ {X : Type 0} where
-  pub first_or_later : (x : X) (xs : List X) (z : X) → Contains (x ∷ xs) z → (x ≡ z) ⊎ Contains xs z
-  first_or_later x xs z (zero, lt, at) = inl at
-  first_or_later x xs z (suc k, lt, at) = inr (k, omega (arith, lt), at)
-
-  pub later : (x : X) (xs : List X) (z : X) → Contains xs z → Contains (x ∷ xs) z
-  later x xs z (k, lt, at) = (suc k, omega (arith, lt), at)
-
-  pub none_held : {P : Type 0} (z : X) → Contains [] z → P
-  none_held z (k, lt, at) = absurd (omega (arith, lt))
-
-module _ {X : Type 0} (R : X → X → Type 0) (strict : (a b : X) → R a b → R b a → ⊥) (Low : X → Type 0) (lower : (a b : X) → R a b → Low b → Low a) where
-  above_first : (x : X) (xs : List X) (z : X) → AllPairs R (x ∷ xs) → Contains xs z → R x z
-  above_first x xs z up (k, lt, at) = subst (R x) at (up 0 (suc k) z (omega arith) (omega (arith, lt)))
-
-  rest_rises : (x : X) (xs : List X) → AllPairs R (x ∷ xs) → AllPairs R xs
-  rest_rises x xs up i j d lt within = up (suc i) (suc j) d (omega (arith, lt)) (omega (arith, within))
-
-  not_itself : (x z : X) → x ≡ z → R x z → ⊥
-  not_itself x z same up = strict x x (subst (R x) (sym same) up) (subst (R x) (sym same) up)
-
-  -- the first ones are the same
-  same_first : (x y : X) (xs ys : List X) → AllPairs R (x ∷ xs) → AllPairs R (y ∷ ys) → Low x → (y ≡ x) ⊎ Contains ys x → (Low y → Contains (x ∷ xs) y) → y ≡ x
-  same_first x y xs ys up all_up low (inl same) from = same
-  same_first x y xs ys up all_up low (inr there) from = either (first_or_later x xs y (from (lower y x (above_first y ys x all_up there) low)))
-    where
-      either : (x ≡ y) ⊎ Contains xs y → y ≡ x
-      either (inl same) = sym same
-      either (inr here) = absurd (strict x y (above_first x xs y up here) (above_first y ys x all_up there))
-
-  -- an element above the first of one list isn't the first of the other
-  passes_first : (x y : X) (xs ys : List X) (z : X) → x ≡ y → AllPairs R (x ∷ xs) → Contains xs z → (y ≡ z) ⊎ Contains ys z → Contains ys z
-  passes_first x y xs ys z same up here (inr there) = there
-  passes_first x y xs ys z same up here (inl is) = absurd (not_itself x z (same ∙ is) (above_first x xs z up here))
-
-  pub begins_with : (xs ys : List X) → AllPairs R xs → AllPairs R ys → ((z : X) → Contains xs z → Low z) → ((z : X) → Contains xs z → Contains ys z) → ((z : X) → Contains ys z → Low z → Contains xs z) → (rest : List X) × (ys ≡ xs ++ rest)
-  begins_with [] ys up all_up low to from = (ys, refl)
-  begins_with (x ∷ xs) [] up all_up low to from = none_held x (to x (0, omega arith, refl))
-  begins_with (x ∷ xs) (y ∷ ys) up all_up low to from =
-      let first : y ≡ x = same_first x y xs ys up all_up (low x (0, omega arith, refl)) (first_or_later y ys x (to x (0, omega arith, refl))) (from y (0, omega arith, refl)) in
-      let tails = begins_with xs ys (rest_rises x xs up) (rest_rises y ys all_up)
-      (λ z here. low z (later x xs z here))
-      (λ z here. passes_first x y xs ys z (sym first) up here (first_or_later y ys z (to z (later x xs z here))))
-      (λ z there down. passes_first y x ys xs z first all_up there (first_or_later x xs z (from z (later y ys z there) down))) in
-      (tails.0, λ i. first i ∷ tails.1 i)
 
 -- ---- in the order of prefixes
 
@@ -109,8 +61,8 @@ less_or_not _ = inr (λ is. absurd cc)
 
 -- of two of which neither is the greater one both are the same
 tie_of : (o : Ordering) → o ≢ Greater → o ≢ Less → o ≡ Equal
-tie_of Less low high = absurd (high refl)
 tie_of Equal low high = refl
+tie_of Less low high = absurd (high refl)
 tie_of Greater low high = absurd (low refl)
 
 -- rows by their prefixes
@@ -153,8 +105,8 @@ module _ (rows : List RowValue) (outer : PrefixValue) (now : ℕ) where
   pub seen_none : AreSeen rows outer now outer []
   seen_none = record {
     rising = λ i j d lt within. absurd (omega (arith, within));
-    best = λ h here. none_held h here;
-    up_to = λ h here. none_held h here;
+    best = λ h here. none_in h here;
+    up_to = λ h here. none_in h here;
     all = λ h held is low. absurd (low (inside_behind outer h.mapping.eid (and_parts (is_alive h now) (is_inside outer h.mapping.eid) is).1));
   }
 
@@ -190,23 +142,13 @@ module _ (rows : List RowValue) (outer : PrefixValue) (now : ℕ) where
 
 -- ---- there is one list of the prefixes inside
 
-nothing_left : {X : Type 0} (one other more less : List X) → other ≡ one ++ more → one ≡ other ++ less → one ≡ other
-nothing_left one other [] less is also = sym (append-nil one) ∙ sym is
-nothing_left one other (x ∷ xs) less is also = absurd (omega (arith, ap length is, ap length also, length-append one (x ∷ xs), length-append other less))
-
 pub one_inside : (rows : List RowValue) → HaveOneInside rows
-one_inside rows one_each outer now one other is also =
-    let more = begins one other is also in
-    let less = begins other one also is in
-    nothing_left one other more.0 less.0 more.1 less.1
+one_inside rows one_each outer now one other is also = one_order IsBefore strictly one other is.rising also.rising (to one other is also) (to other one also is)
   where
     to : (xs ys : List RowValue) → AreInside rows outer now xs → AreInside rows outer now ys → (h : RowValue) → Contains xs h → Contains ys h
     to xs ys are all h here =
         let is = are.best h here in
         its_own rows outer now one_each ys all.best h is.0 (all.all h is.0.held (live outer now h is.0.alive is.1))
-
-    begins : (xs ys : List RowValue) → AreInside rows outer now xs → AreInside rows outer now ys → (rest : List RowValue) × (ys ≡ xs ++ rest)
-    begins xs ys are all = begins_with IsBefore strictly (λ _. ⊤) (λ a b before low. tt) xs ys are.rising all.rising (λ h here. tt) (to xs ys are all) (λ h there low. to ys xs all are h there)
 
 -- ---- Walks over the prefixes inside a prefix: what was seen so far, and what is known of it at the end.
 
@@ -230,25 +172,16 @@ pub least_alone : (h : RowValue) → IsLeastTtl (h ∷ []) h.mapping.ttl
 least_alone h = record { its = h; held = (0, omega arith, refl); is = refl; least = λ g there. omega (arith, ap (λ (r : RowValue). r.mapping.ttl) (is_only h g there)) }
 
 pub least_more : (xs : List RowValue) (h : RowValue) (n : ℕ) → IsLeastTtl xs n → IsLeastTtl (xs ++ h ∷ []) (min n h.mapping.ttl)
-least_more xs h n known = either (cases_lt h.mapping.ttl n)
+least_more xs h n known = on_either (cases_lt h.mapping.ttl n)
+    (λ less. record { its = h; held = Contains-push xs h; is = omega (arith, less); least = below })
+    (λ more. record { its = known.its; held = Contains-append_left xs (h ∷ []) known.its known.held; is = omega (arith, more, known.is); least = below })
   where
-    below : (m : ℕ) → m ≤ n → m ≤ h.mapping.ttl → (g : RowValue) → Contains xs g ⊎ Contains (h ∷ []) g → m ≤ g.mapping.ttl
-    below m low_n low_h g (inl there) = omega (arith, low_n, known.least g there)
-    below m low_n low_h g (inr there) = omega (arith, low_h, ap (λ (r : RowValue). r.mapping.ttl) (is_only h g there))
-
-    either : (h.mapping.ttl < n) ⊎ (n ≤ h.mapping.ttl) → IsLeastTtl (xs ++ h ∷ []) (min n h.mapping.ttl)
-    either (inl less) = record {
-      its = h;
-      held = Contains-append_right xs (h ∷ []) h (0, omega arith, refl);
-      is = omega (arith, less);
-      least = λ g there. below (min n h.mapping.ttl) (omega (arith, less)) (omega (arith, less)) g (Contains-append_cases xs (h ∷ []) g there);
-    }
-    either (inr more) = record {
-      its = known.its;
-      held = Contains-append_left xs (h ∷ []) known.its known.held;
-      is = omega (arith, more, known.is);
-      least = λ g there. below (min n h.mapping.ttl) (omega (arith, more)) (omega (arith, more)) g (Contains-append_cases xs (h ∷ []) g there);
-    }
+    below : (g : RowValue) → Contains (xs ++ h ∷ []) g → min n h.mapping.ttl ≤ g.mapping.ttl
+    below g there = by (Contains-push_cases xs h g there)
+      where
+        by : Contains xs g ⊎ (h ≡ g) → min n h.mapping.ttl ≤ g.mapping.ttl
+        by (inl was) = omega (arith, known.least g was)
+        by (inr same) = omega (arith, ap (λ (r : RowValue). r.mapping.ttl) same)
 
 -- ---- the walk that finds it
 

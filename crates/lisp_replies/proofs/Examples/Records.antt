@@ -10,86 +10,21 @@ use Rattle.lisp_records.specs.Parts.{fits_message, size}
 use Rattle.lisp_records.proofs.Cuts.{fits_is}
 use Rattle.lisp_lookup.specs.Covering.{may_answer_for}
 use Rattle.lisp_lookup.specs.Inside.{AreInside, is_inside, is_live_inside, IsBestOfOwn}
-use Rattle.lisp_lookup.specs.Replies.{AreRecords, IsLeastTtl, IsNarrowed, RepliesWith, record_of}
-use Rattle.lisp_lookup.proofs.Examples.Covering.{sixteen_answers, rise, two_inside, one_row}
-use Rattle.lisp_lookup.proofs.Examples.Rows.{best_of_own, block, each, four, in_first, in_second, in_sixteen, locator, no, none_above, silent, in_eight, newer, all_below, below, ipv4, row}
+use Rattle.lisp_lookup.specs.Replies.{AreRecords, IsNarrowed, RepliesWith, record_of}
+use Rattle.lisp_lookup.proofs.Examples.Covering.{first_best, mixed, mixed_records, mixed_three, narrowed, one_row, replied, rise, second_best, sixteen, three, three_records, two_inside}
+use Rattle.lisp_lookup.proofs.Examples.Holes.{site}
+use Rattle.lisp_lookup.proofs.Examples.Rows.{block, each, four, in_first, in_second, in_sixteen, locator, no, none_above, in_eight, newer, all_below, below, ipv4, row}
 use Rattle.lisp_replies.specs.Walk.{AreSeen, HasMoreThan, records_of}
 use Rattle.lisp_replies.specs.Reply.{is_held_back}
 use Rattle.lisp_replies.specs.Narrowing.{AreWidest, FitNowhere, NoneFitFor, WiderFitsNot}
 use Rattle.lisp_policy.specs.Limits.{no_limits}
-use Rattle.lisp_policy.specs.Site.{SiteValue, single}
+use Rattle.lisp_policy.specs.Site.{SiteValue}
 use Rattle.lisp_policy.proofs.Found.{not_true}
-
--- the record of a row whose router asked for proxy replies
-abbrev pub replied : ℕ → PrefixValue → ℕ → MapRecordValue
-replied version eid ttl = record { ttl = ttl; act = 0; authoritative = false; version = version; eid = eid; locators = record locator { local = false } ∷ [] }
-
--- that of one whose router didn't: ACT 2, no locators
-abbrev pub asked_again : PrefixValue → ℕ → MapRecordValue
-asked_again eid ttl = record { ttl = ttl; act = 2; authoritative = false; version = 0; eid = eid; locators = [] }
 
 abbrev pub asked : PrefixValue
 asked = block 10 1 5 5 32
 
-abbrev pub sixteen : PrefixValue
-sixteen = block 10 1 0 0 16
-
-pub narrowed : IsNarrowed asked in_sixteen sixteen
-unfolding masked
-narrowed = record { around = refl; from = omega arith; to = omega arith }
-
--- RFC 9301 section 5.5: for 10.1.5.5 the record of 10.1.0.0/16 and those of the two longer prefixes inside
-abbrev pub three : List MapRecordValue
-three = replied 2 sixteen 30 ∷ replied 3 (block 10 1 1 0 24) 30 ∷ replied 4 (block 10 1 2 0 24) 30 ∷ []
-
-pub three_records : AreRecords four sixteen 0 in_sixteen three
-three_records = record { inside = in_first ∷ in_second ∷ []; are = two_inside; ttl = 30; least = least; is = refl }
-  where
-    least : IsLeastTtl (in_sixteen ∷ in_first ∷ in_second ∷ []) 30
-    least = record {
-      its = in_first;
-      held = (1, omega arith, refl);
-      is = refl;
-      least = each (λ (h : RowValue). 30 ≤ h.mapping.ttl) (in_sixteen ∷ in_first ∷ in_second ∷ []) (omega arith, (omega arith, (omega arith, tt)));
-    }
-
-pub three_reply : RepliesWith four asked 0 three
-unfolding masked written
-three_reply = record {
-  best = in_sixteen;
-  is_best = sixteen_answers;
-  proxy = refl;
-  eid = sixteen;
-  narrowed = narrowed;
-  are = three_records;
-  fit = refl;
-  widest = λ wider more from less are. absurd (omega (arith, from.from, less));
-}
-
--- the same where the router of one of them didn't ask for proxy replies
-abbrev pub mixed : List RowValue
-mixed = in_sixteen ∷ silent in_first ∷ in_second ∷ []
-
-abbrev pub mixed_three : List MapRecordValue
-mixed_three = replied 2 sixteen 30 ∷ asked_again (block 10 1 1 0 24) 30 ∷ replied 4 (block 10 1 2 0 24) 30 ∷ []
-
-mixed_inside : AreInside mixed sixteen 0 (silent in_first ∷ in_second ∷ [])
-unfolding masked
-mixed_inside = record {
-  rising = rise (silent in_first) in_second refl;
-  best = each (λ (h : RowValue). IsBestOfOwn mixed 0 h × (is_inside sixteen h.mapping.eid ≡ true)) (silent in_first ∷ in_second ∷ []) ((silent_best, refl), ((second_best, refl), tt));
-  all = each Listed mixed (no, ((λ live. (silent in_first, (0, omega arith, refl), refl)), ((λ live. (in_second, (1, omega arith, refl), refl)), tt)));
-}
-  where
-    silent_best : IsBestOfOwn mixed 0 (silent in_first)
-    silent_best = record { held = (1, omega arith, refl); alive = refl; most = best_of_own mixed 0 (silent in_first) refl refl }
-
-    second_best : IsBestOfOwn mixed 0 in_second
-    second_best = record { held = (2, omega arith, refl); alive = refl; most = best_of_own mixed 0 in_second refl refl }
-
-    Listed : RowValue → Type 0
-    Listed h = is_live_inside sixteen 0 h ≡ true → (own : RowValue) × Contains (silent in_first ∷ in_second ∷ []) own × (own.mapping.eid ≡ h.mapping.eid)
-
+-- RFC 9301 section 5.5, where the router of one of the two longer prefixes inside didn't ask for proxy replies
 pub mixed_reply : RepliesWith mixed asked 0 mixed_three
 unfolding masked written
 mixed_reply = record {
@@ -98,18 +33,10 @@ mixed_reply = record {
   proxy = refl;
   eid = sixteen;
   narrowed = narrowed;
-  are = record { inside = silent in_first ∷ in_second ∷ []; are = mixed_inside; ttl = 30; least = least; is = refl };
+  are = mixed_records;
   fit = refl;
   widest = λ wider more from less are. absurd (omega (arith, from.from, less));
 }
-  where
-    least : IsLeastTtl (in_sixteen ∷ silent in_first ∷ in_second ∷ []) 30
-    least = record {
-      its = silent in_first;
-      held = (1, omega arith, refl);
-      is = refl;
-      least = each (λ (h : RowValue). 30 ≤ h.mapping.ttl) (in_sixteen ∷ silent in_first ∷ in_second ∷ []) (omega arith, (omega arith, (omega arith, tt)));
-    }
 
 -- one row alone: its prefix is its block, in which no longer one is
 pub none_inside : (h : RowValue) (outer : PrefixValue) → is_live_inside outer 0 h ≡ false → AreInside (h ∷ []) outer 0 []
@@ -127,12 +54,6 @@ first_eid = block 10 1 1 0 24
 
 abbrev second_eid : PrefixValue
 second_eid = block 10 1 2 0 24
-
-first_best : IsBestOfOwn four 0 in_first
-first_best = record { held = (2, omega arith, refl); alive = refl; most = best_of_own four 0 in_first refl refl }
-
-second_best : IsBestOfOwn four 0 in_second
-second_best = record { held = (3, omega arith, refl); alive = refl; most = best_of_own four 0 in_second refl refl }
 
 abbrev Best : RowValue → Type 0
 Best h = IsBestOfOwn four 0 h × (is_inside sixteen h.mapping.eid ≡ true)
@@ -217,10 +138,6 @@ their_records : records_of 30 sixteen in_sixteen (in_first ∷ in_second ∷ [])
 their_records = refl
 
 -- ---- Which rows aren't replied with in the first moments of a life.
-
--- a site that has a prefix
-abbrev pub site : PrefixValue → List SiteValue
-site eid = single 1 1 [] eid true
 
 -- one with 10.0.0.0/8 and 10.1.0.0/16
 abbrev pub nested : List SiteValue

@@ -1,81 +1,32 @@
 -- What a Map-Server sends.
 use Rattle.std.proofs.Common.{[], List, arith, Bool, false, true, inl, inr, refl, sym, ap, ◌∙◌, subst, true≢false, ℕ, ◌≤◌, ◌∷◌, ◌≡◌}
-use Rattle.std.proofs.lemmas.List.Elements.{All-cons, All-nil}
-use Rattle.std.specs.List.{Contains, All}
+use Rattle.std.specs.List.{Contains}
 use Rattle.lisp_records.specs.declared.address.Addr.{Addr}
-use Rattle.lisp_records.specs.Address.{PrefixValue, addr_eq, masked, holds, covers, prefix_around}
+use Rattle.lisp_records.specs.Address.{PrefixValue, addr_eq, masked, holds, covers}
 use Rattle.lisp_records.specs.Record.{MapRecordValue}
 use Rattle.lisp_records.specs.Row.{RowValue, is_alive}
 use Rattle.lisp_records.specs.Written.{written}
-use Rattle.lisp_policy.specs.Site.{SiteValue, is_configured}
-use Rattle.lisp_policy.specs.Limits.{no_limits}
-use Rattle.lisp_policy.specs.declared.site.SitePrefix.{SitePrefix}
+use Rattle.lisp_policy.specs.Site.{SiteValue}
 use Rattle.lisp_lookup.specs.Covering.{IsBestFor, NoneAnswersFor, may_answer_for}
 use Rattle.lisp_lookup.specs.Inside.{IsBestOfOwn, is_inside, is_live_inside, AreInside}
 use Rattle.lisp_lookup.specs.Replies.{AreRecords, IsNarrowed, RepliesWith, IsAnswered, IsLongest, record_of}
 use Rattle.lisp_lookup.specs.Answer.{IsBest, NoneAnswers}
 use Rattle.lisp_lookup.specs.Table.{OneEach}
-use Rattle.lisp_lookup.specs.Hole.{IsHole, KeepsBeside, KeepsSites}
-use Rattle.lisp_lookup.proofs.Examples.Rows.{block, each, everything, fails, four, gaps, in_eight, in_sixteen, ipv4, no, none_above, row, silent, dead, in_first, in_second, all_below, below, fails_below, none_of}
-use Rattle.lisp_lookup.proofs.Examples.Covering.{sixteen_answers, two_inside}
+use Rattle.lisp_lookup.proofs.Examples.Rows.{block, each, everything, fails, four, gaps, in_eight, in_sixteen, ipv4, no, none_above, row, silent, dead, in_first, in_second}
+use Rattle.lisp_lookup.proofs.Examples.Covering.{mixed, mixed_three, narrowed, replied, reply, sixteen, sixteen_answers, three, three_records, two_inside}
+use Rattle.lisp_lookup.proofs.Examples.Holes.{in_none, site}
+use Rattle.lisp_lookup.proofs.Examples.Holes as holes
 use Rattle.lisp_lookup.proofs.CachedLaws.{cached_is_answered, hole_is_answered}
 use Rattle.lisp_replies.specs.Reply.{IsReply, IsTooLarge, is_held_back, negative_ttl}
 use Rattle.lisp_replies.specs.declared.reply.Reply.{Reply}
 use Rattle.lisp_replies.specs.declared.reply.Reply.TheVariants.{Records, Negative, Forward, Silent}
 use Rattle.lisp_replies.specs.Kept.{HaveOneInside, IsKept, IsKeptNone, RepliesMayBeKept, ReplyAlike, SameLive}
-use Rattle.lisp_replies.proofs.Examples.Records.{site, address, address_narrowed, address_records, crowded, none_fit, of_address, sixteen_nowhere, asked, mixed, mixed_reply, mixed_three, narrowed, none_inside, replied, sixteen, three, three_records, three_reply}
+use Rattle.lisp_replies.proofs.Examples.Records.{address, address_narrowed, address_records, crowded, none_fit, of_address, sixteen_nowhere, asked, mixed_reply, none_inside}
 use Rattle.lisp_replies.proofs.KeptLaws.{one_longest}
-
--- no row is there, and no site
-in_none : {P : Type 0} → (h : RowValue) → Contains [] h → P
-in_none h (k, lt, is) = absurd (omega (arith, lt))
-
-no_site : (addr : Addr) (eid : PrefixValue) → KeepsSites [] addr eid
-no_site addr eid = All-nil (λ (s : SiteValue). All (λ (p : SitePrefix). KeepsBeside p.eid addr false eid) s.prefixes)
-
--- beside a site with one prefix
-one_site : (of_site : PrefixValue) (addr : Addr) (eid : PrefixValue) → KeepsBeside of_site addr (is_configured (site of_site) addr) eid → KeepsSites (site of_site) addr eid
-one_site of_site addr eid keeps = All-cons OfSite the_site [] (All-cons Beside the_prefix [] keeps (All-nil Beside)) (All-nil OfSite)
-  where
-    the_prefix : SitePrefix
-    the_prefix = record { eid = of_site; more_specifics = true }
-
-    the_site : SiteValue
-    the_site = record { id = 1; keys = record { id = 1; secret = [] } ∷ []; prefixes = the_prefix ∷ []; limits = no_limits }
-
-    Beside : SitePrefix → Type 0
-    Beside p = KeepsBeside p.eid addr (is_configured (site of_site) addr) eid
-
-    OfSite : SiteValue → Type 0
-    OfSite s = All Beside s.prefixes
-
-kept : (of_site : PrefixValue) (addr : Addr) (eid : PrefixValue) → KeepsSites (site of_site) addr eid → KeepsBeside of_site addr (is_configured (site of_site) addr) eid
-kept of_site addr eid keeps = keeps 0 (record { id = 0; keys = []; prefixes = []; limits = no_limits }) (omega arith) 0 (record { eid = of_site; more_specifics = true }) (omega arith)
 
 -- between 10.0.0.0/24 and 10.0.2.0/24
 abbrev pub between : PrefixValue
 between = block 10 0 1 1 32
-
-pub gap : IsHole gaps [] (ipv4 10 0 1 1) 0 (block 10 0 1 0 24)
-unfolding masked all_below
-gap = record {
-  around = (omega arith, refl);
-  alike = record {
-    empty = none_of (λ h. is_alive h 0) (λ h. covers (block 10 0 1 0 24) h.mapping.eid) gaps refl;
-    bare = none_of (λ h. is_alive h 0) (λ h. covers h.mapping.eid (block 10 0 1 0 24)) gaps refl;
-    keeps = no_site (ipv4 10 0 1 1) (block 10 0 1 0 24);
-  };
-  widest = λ wider less alike. absurd (true≢false (sym (below 24 (λ n. covers (prefix_around (ipv4 10 0 1 1) n) (block 10 0 0 0 24)) refl wider less) ∙ alike.empty (row 1 (block 10 0 0 0 24) 60) (0, omega arith, refl) refl));
-}
-
--- all of a site's 10.0.0.0/16, where no row is
-pub of_site : IsHole [] (site (block 10 0 0 0 16)) (ipv4 10 0 1 1) 0 (block 10 0 0 0 16)
-unfolding masked all_below
-of_site = record {
-  around = (omega arith, refl);
-  alike = record { empty = λ h has. in_none h has; bare = λ h has. in_none h has; keeps = one_site (block 10 0 0 0 16) (ipv4 10 0 1 1) (block 10 0 0 0 16) ((λ has. refl), (λ none. absurd (true≢false none))) };
-  widest = λ wider less alike. absurd (true≢false (sym ((kept (block 10 0 0 0 16) (ipv4 10 0 1 1) (prefix_around (ipv4 10 0 1 1) wider) alike.keeps).0 refl) ∙ fails_below 16 (λ n. covers (block 10 0 0 0 16) (prefix_around (ipv4 10 0 1 1) n)) refl wider less));
-}
 
 pub none_between : NoneAnswersFor gaps between 0
 unfolding masked
@@ -187,7 +138,7 @@ module _ (A : Type 0) where
 
   -- two longer prefixes are inside that of the row
   two_inside_it : Sends four [] asked false (Records three)
-  two_inside_it = inl (three_reply, refl)
+  two_inside_it = inl (reply, refl)
 
   -- one of them without proxy replies: ACT 2
   one_asked_again : Sends mixed [] asked false (Records mixed_three)
@@ -213,11 +164,11 @@ module _ (A : Type 0) where
   -- nobody is between two prefixes: for 15 minutes, or for 1 where a site has the prefix
   nobody : Sends gaps [] between false (Negative (record { eid = block 10 0 1 0 24; ttl = 15 }))
   unfolding masked
-  nobody = inr (inl none_between, inr (refl, gap, refl))
+  nobody = inr (inl none_between, inr (refl, holes.between, refl))
 
   nobody_of_a_site : Sends [] (site (block 10 0 0 0 16)) between false (Negative (record { eid = block 10 0 0 0 16; ttl = 1 }))
   unfolding masked
-  nobody_of_a_site = inr (inl (λ h has. in_none h has), inr (refl, of_site, refl))
+  nobody_of_a_site = inr (inl (λ h has. in_none h has), inr (refl, holes.of_all_the_site, refl))
 
   kept_too_long : Sends [] (site (block 10 0 0 0 16)) between false (Negative (record { eid = block 10 0 0 0 16; ttl = 15 })) → ⊥
   unfolding masked
@@ -229,7 +180,7 @@ module _ (A : Type 0) where
   unfolding masked
   too_narrow_a_hole (inl never) = absurd never
   too_narrow_a_hole (inr (none, inl never)) = absurd never
-  too_narrow_a_hole (inr (none, inr (started, hole, ttl))) = hole.widest 24 (omega arith) gap.alike
+  too_narrow_a_hole (inr (none, inr (started, hole, ttl))) = hole.widest 24 (omega arith) holes.between_alike
 
   -- ---- its address does
 
@@ -359,7 +310,7 @@ pub gap_kept : IsKeptNone gaps [] (ipv4 10 0 1 1) 0 (block 10 0 1 0 24) 15
 unfolding masked
 gap_kept = record {
   has = refl;
-  none = λ addr has. (hole_is_answered gaps [] (ipv4 10 0 1 1) 0 (block 10 0 1 0 24) gap addr has).0;
+  none = λ addr has. (hole_is_answered gaps [] (ipv4 10 0 1 1) 0 (block 10 0 1 0 24) holes.between addr has).0;
   as_long = λ addr has. refl;
 }
 
@@ -367,8 +318,8 @@ of_site_kept : IsKeptNone [] (site (block 10 0 0 0 16)) (ipv4 10 0 1 1) 0 (block
 unfolding masked
 of_site_kept = record {
   has = refl;
-  none = λ addr has. (hole_is_answered [] (site (block 10 0 0 0 16)) (ipv4 10 0 1 1) 0 (block 10 0 0 0 16) of_site addr has).0;
-  as_long = λ addr has. ap negative_ttl (sym (hole_is_answered [] (site (block 10 0 0 0 16)) (ipv4 10 0 1 1) 0 (block 10 0 0 0 16) of_site addr has).1);
+  none = λ addr has. (hole_is_answered [] (site (block 10 0 0 0 16)) (ipv4 10 0 1 1) 0 (block 10 0 0 0 16) holes.of_all_the_site addr has).0;
+  as_long = λ addr has. ap negative_ttl (sym (hole_is_answered [] (site (block 10 0 0 0 16)) (ipv4 10 0 1 1) 0 (block 10 0 0 0 16) holes.of_all_the_site addr has).1);
 }
 
 -- not so one with a row's addresses, nor without the address that was asked for, nor one that leaves a site's prefix
@@ -409,11 +360,11 @@ inside_says law each_one inside are = law each_one sixteen 0 inside (in_first �
 
 module _ (A : Type 0) where
   reply_says : RepliesMayBeKept A four [] → IsKept four (ipv4 10 1 5 5) 0 three
-  reply_says law = law asked false 0 (Records three) (inl (three_reply, refl))
+  reply_says law = law asked false 0 (Records three) (inl (reply, refl))
 
   negative_says : RepliesMayBeKept A gaps [] → NoneAnswers gaps (ipv4 10 0 1 200) 0
   unfolding masked
-  negative_says law = (law between false 0 (Negative (record { eid = block 10 0 1 0 24; ttl = 15 })) (inr (inl none_between, inr (refl, gap, refl)))).none (ipv4 10 0 1 200) refl
+  negative_says law = (law between false 0 (Negative (record { eid = block 10 0 1 0 24; ttl = 15 })) (inr (inl none_between, inr (refl, holes.between, refl)))).none (ipv4 10 0 1 200) refl
 
   alike_says : ReplyAlike A four (in_eight ∷ four) [] → SameLive four (in_eight ∷ four) 0 → IsReply {A = A} (in_eight ∷ four) [] asked false 0 (Records three)
-  alike_says law same = law asked false 0 (Records three) same (inl (three_reply, refl))
+  alike_says law same = law asked false 0 (Records three) same (inl (reply, refl))

@@ -1,9 +1,10 @@
-use Rattle.std.proofs.Common.{[], ◌≡◌, ◌⊎◌, inl, inr, ◌+◌, ◌<◌, List, Some, None, ◌∷◌, ◌++◌, length, ap, sym, ◌∙◌, subst, arith, length-append}
+use Rattle.std.proofs.Common.{[], inl, inr, ◌+◌, List, Some, None, ◌∷◌, ◌++◌, length, ap, sym, ◌∙◌, subst, arith, length-append}
 use Rattle.lisp_records.specs.Record.{MapRecordValue}
 use Rattle.lisp_records.specs.Row.{RowValue}
 use Rattle.lisp_records.specs.Address.{PrefixValue, IsPrefix}
 use Rattle.lisp_records.proofs.Cuts.{fits_is}
 use Rattle.lisp_lookup.specs.Replies.{record_of}
+use Rattle.lisp_lookup.proofs.Apart.{on_either}
 use Rattle.lisp_lookup.proofs.CachedLaws.{its_eid}
 use Rattle.lisp_lookup.proofs.InsideLaws.{is_wider}
 use Rattle.lisp_replies.proofs.SeenLaws.{AreMade, goes_behind, shows_next, made_one, made_more, made_many, made_all}
@@ -28,11 +29,8 @@ returns-then-len-eq-MAX_RECORDS-clause-unfit g c = λ _.
     (let (after, at, made) = c.loop-row.invariant in
     let eid = c.eid_ref.ensures ∙ ap (λ (h : RowValue). h.mapping.eid) c.row.view_is in
     let is = c.in_ok-record.ensures.record ∙ ap (λ (e : PrefixValue). record_of c.args.ttl e c.in-Some.row.now) eid in
-    made_many c.args.inside.rows c.args.best.now c.args.eid.now c.args.inside.moment c.args.ttl after c.loop-row.records.items c.loop-row.size c.in-Some.row.now c.in_ok-record.record c.written_len-size-in-Some.result made (shows_next c.loop-row.inside (Some c.in-Some.row.now) at c.in-Some.ensures.next) is c.written_len-size-in-Some.ensures.len c.requires.one_each (full c.then-len-eq-MAX_RECORDS.either))
-  where
-    full : (c.len.result ≡ 255) ⊎ ((c.len.result ≡ 255 → ⊥) × (16384 < c.loop-row.size + c.written_len-size-in-Some.result)) → (length c.loop-row.records.items ≡ 255) ⊎ (16384 < c.loop-row.size + c.written_len-size-in-Some.result)
-    full (inl long) = inl (omega (arith, c.loop-row.records.ok, c.len.ensures, long))
-    full (inr (few, large)) = inr large
+    made_many c.args.inside.rows c.args.best.now c.args.eid.now c.args.inside.moment c.args.ttl after c.loop-row.records.items c.loop-row.size c.in-Some.row.now c.in_ok-record.record c.written_len-size-in-Some.result made (shows_next c.loop-row.inside (Some c.in-Some.row.now) at c.in-Some.ensures.next) is c.written_len-size-in-Some.ensures.len c.requires.one_each (on_either c.then-len-eq-MAX_RECORDS.either
+    (λ long. inl (omega (arith, c.loop-row.records.ok, c.len.ensures, long))) (λ (few, large). inr large)))
 
 pub returns-then-len-eq-MAX_RECORDS-clause-inner : goal.returns-then-len-eq-MAX_RECORDS-clause-inner
 returns-then-len-eq-MAX_RECORDS-clause-inner g c = λ _.
