@@ -114,12 +114,15 @@ fn put_feed<A: Memory>(text: &mut String<A>) -> Result<(), AllocError>
     text.try_push('\n')
 }
 
+#[tactic(auto, using(crate::proofs::Adding::steps))]
 fn put_cells<A: Memory>(text: &mut String<A>, cells: &[u8]) -> Result<(), AllocError>
     ensures text { Adds result text.old text.new (plain_text cells.now) }
     ensures memory { OnErr result A.may_refuse }
 {
-    for cell in cells {
+    let mut rest = cells;
+    while let [cell, others @ ..] = rest {
         put_cell(text, *cell)?;
+        rest = others;
     }
     Ok(())
 }

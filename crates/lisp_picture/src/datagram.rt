@@ -1,5 +1,6 @@
 //! The datagrams that are sent.
 
+use crate::row::sign_of_line;
 use lisp_model::{Event, Line};
 use lisp_records::Addr;
 use lisp_script::Command;
@@ -43,48 +44,50 @@ pub(crate) fn datagram_of<E: Allocator>(
     place: usize,
     before: &[Datagram],
 ) -> Option<Datagram> {
-    let (name, nonce, from, to) = match line {
-        Line::Sent {
-            router,
-            server,
-            nonce,
-            ..
-        } => ("Map-Register", *nonce, *router, Some(*server)),
-        Line::Accepted {
-            server,
-            nonce,
-            datagram: Some(_),
-            ..
-        } => {
-            let to = source(config, command, before);
-            ("Map-Notify", *nonce, *server, to)
-        }
-        Line::Notice {
-            server,
-            router,
-            nonce,
-            ..
-        } => (NOTICE, *nonce, *server, Some(*router)),
-        Line::Resent { server, router, .. } => {
-            let nonce = standing_nonce(before, *server, *router);
-            (NOTICE, nonce, *server, Some(*router))
-        }
-        Line::Noticed {
-            router,
-            server,
-            nonce,
-            ..
-        } => ("Map-Notify-Ack", *nonce, *router, Some(*server)),
-        _ => return None,
+    let to = match line {
+        Line::Accepted { .. } => source(config, command, before),
+        _ => named_node(line),
     };
     Some(Datagram {
-        name,
-        nonce,
-        from,
+        name: name_of(line)?,
+        nonce: nonce_of(line, before),
+        from: sign_of_line(line)?.0,
         to,
         sent: place,
         arrives: false,
     })
+}
+
+// What the message of a datagram that was sent with a line is called.
+fn name_of(line: &Line) -> Option<&'static str> {
+    match line {
+        Line::Sent { .. } => Some("Map-Register"),
+        Line::Accepted { datagram, .. } => datagram.is_some().then_some("Map-Notify"),
+        Line::Notice { .. } | Line::Resent { .. } => Some(NOTICE),
+        Line::Noticed { .. } => Some("Map-Notify-Ack"),
+        _ => None,
+    }
+}
+
+// The nonce of a message that was sent with a line.
+fn nonce_of(line: &Line, before: &[Datagram]) -> u64 {
+    match line {
+        Line::Sent { nonce, .. }
+        | Line::Accepted { nonce, .. }
+        | Line::Notice { nonce, .. }
+        | Line::Noticed { nonce, .. } => *nonce,
+        Line::Resent { server, router, .. } => standing_nonce(before, *server, *router),
+        _ => 0,
+    }
+}
+
+// The node that a line names as the one that a message is for.
+fn named_node(line: &Line) -> Option<usize> {
+    match line {
+        Line::Sent { server, .. } | Line::Noticed { server, .. } => Some(*server),
+        Line::Notice { router, .. } | Line::Resent { router, .. } => Some(*router),
+        _ => None,
+    }
 }
 
 // The nonce of the notice that a Map-Server sent a router last; 0 where it sent none.

@@ -21,7 +21,7 @@ use std::str;
 const UNTITLED: &str = "A schedule";
 
 /// What a picture is drawn as.
-#[derive(Clone, Copy, Debug, PartialEq, Eq)]
+#[derive(Clone, Copy)]
 pub enum Form {
     /// An image, SVG.
     Svg,

@@ -6,7 +6,6 @@ ghost use Rattle.lisp_picture.specs.Picture.{AddsElement, AddsElements, AddsLine
 ghost use Rattle.lisp_picture.specs.declared.drawing.Form.TheVariants.{Text};
 
 use crate::cells::{Cells, put_lines, put_numbered};
-use crate::notes::add_notes;
 use crate::rungs::Rungs;
 use crate::sheet::kind_text;
 use crate::story::{Story, story_of};
@@ -179,6 +178,6 @@ fn words<A: Memory + Copy>(
     for line in table.get(1..).unwrap_or(&[]) {
         lines.add(line)?;
     }
-    add_notes(&mut lines, history, row, place)?;
+    lines.add_notes(history, row, place)?;
     Ok(lines.lines)
 }

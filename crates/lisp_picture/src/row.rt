@@ -6,7 +6,7 @@ use lisp_script::Command;
 use std::alloc::Allocator;
 
 /// What happened to a node.
-#[derive(Clone, Copy, PartialEq, Eq)]
+#[derive(Clone, Copy)]
 pub(crate) enum Sign {
     /// It sent a message, took one, or does now what it was told.
     Done,
@@ -82,7 +82,8 @@ fn sign_of<A: Allocator>(command: &Command<A>, line: Option<&Line>) -> Option<(u
     }
 }
 
-fn sign_of_line(line: &Line) -> Option<(usize, Sign)> {
+/// What happened to a node, by the line of an event: to the one that sent a message, where one was sent.
+pub(crate) fn sign_of_line(line: &Line) -> Option<(usize, Sign)> {
     match line {
         Line::Changed { router: node, .. }
         | Line::Sent { router: node, .. }

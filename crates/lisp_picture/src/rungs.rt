@@ -75,10 +75,7 @@ impl<'a> Rungs<'a> {
         if row.now.is_some() {
             self.draw_clock(&mut cells);
         }
-        let end = match row.sign {
-            Some((node, _)) => self.place(node),
-            None => None,
-        };
+        let end = row.sign.and_then(|(node, _)| self.place(node));
         self.draw_arrival(&mut cells, story, row, end);
         self.draw_lost(&mut cells, story, row);
         if let (Some(at), Some((_, sign))) = (end, row.sign) {
@@ -127,11 +124,10 @@ impl<'a> Rungs<'a> {
 
     // The place beside the line of a node on the side that nothing arrives from.
     fn beside<A: Allocator>(&self, story: &Story<A>, row: &Row, at: usize) -> usize {
-        let from = match story.arrived(row) {
-            Some(datagram) => self.place(datagram.from),
-            None => None,
-        };
-        match from {
+        match story
+            .arrived(row)
+            .and_then(|datagram| self.place(datagram.from))
+        {
             Some(from) if at < from => at.saturating_sub(1),
             _ => at.saturating_add(1),
         }

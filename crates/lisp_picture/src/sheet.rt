@@ -5,7 +5,7 @@ ghost use Rattle.std.specs.Prelude.{OnErr};
 use crate::datagram::Datagram;
 use crate::pen::Pen;
 use crate::row::{Row, Sign};
-use crate::sheet_row::{draw_brief, draw_whole};
+use crate::sheet_row::{Spot, draw_brief, draw_whole};
 use crate::story::Story;
 use crate::style;
 use crate::wrap::Lines;
@@ -91,8 +91,7 @@ impl<'a, A: Memory + Copy> Sheet<'a, A> {
             y: 10,
         };
         sheet.draw_title(title)?;
-        sheet.draw_count()?;
-        sheet.draw_idle()?;
+        sheet.draw_left_out()?;
         sheet.draw_heads()?;
         Ok(sheet)
     }
@@ -145,39 +144,38 @@ impl<'a, A: Memory + Copy> Sheet<'a, A> {
         MOST_DETAILED < self.history.commands.len()
     }
 
-    fn draw_count(&mut self) -> Result<(), AllocError>
+    // Writes what the sheet leaves out: the words of many commands, and nodes that nothing happens to.
+    fn draw_left_out(&mut self) -> Result<(), AllocError>
         ensures memory { OnErr result A.may_refuse }
     {
-        if !self.is_brief() {
-            return Ok(());
+        if self.is_brief() {
+            let count = self.history.commands.len();
+            let words = String::try_format(
+                self.alloc,
+                format_args!(
+                    "{count} commands, without words: open the image by itself, and point at one to read its line."
+                ),
+            )?;
+            self.note(&words)?;
         }
-        let count = self.history.commands.len();
-        self.y = self.y.saturating_add(20);
-        self.frame.text(
-            style::NOTE,
-            (MARGIN, self.y),
-            format_args!(
-                "{count} commands, without words: open the image by itself, and point at one to read its line."
-            ),
-        )
+        let count = self.history.config.node_count();
+        match count.saturating_sub(self.story.nodes.len()) {
+            0 => Ok(()),
+            1 => self.note("One more node, to which nothing happens, has no line."),
+            idle => {
+                let words = format_args!(
+                    "{idle} more nodes, to which nothing happens, have no line."
+                );
+                self.note(&String::try_format(self.alloc, words)?)
+            }
+        }
     }
 
-    fn draw_idle(&mut self) -> Result<(), AllocError>
+    fn note(&mut self, words: &str) -> Result<(), AllocError>
         ensures memory { OnErr result A.may_refuse }
     {
-        let count = self.history.config.node_count();
-        let idle = count.saturating_sub(self.story.nodes.len());
-        if idle == 0 {
-            return Ok(());
-        }
         self.y = self.y.saturating_add(20);
-        let at = (MARGIN, self.y);
-        if idle == 1 {
-            let words = "One more node, to which nothing happens, has no line.";
-            return self.frame.words(style::NOTE, at, words);
-        }
-        let words = format_args!("{idle} more nodes, to which nothing happens, have no line.");
-        self.frame.text(style::NOTE, at, words)
+        self.frame.words(style::NOTE, (MARGIN, self.y), words)
     }
 
     fn draw_heads(&mut self) -> Result<(), AllocError>
@@ -221,11 +219,16 @@ impl<'a, A: Memory + Copy> Sheet<'a, A> {
         let is_brief = self.is_brief();
         let y = self.y.saturating_add(if is_brief { 4 } else { 20 });
         self.middles.try_push(y)?;
+        let spot = Spot {
+            sheet: self,
+            row,
+            y,
+        };
         let height = if is_brief {
-            draw_brief(&mut pen, self, row, y)?;
+            draw_brief(&mut pen, &spot)?;
             8
         } else {
-            draw_whole(&mut pen, self, row, place, y)?
+            draw_whole(&mut pen, &spot, place)?
         };
         self.break_line(row, y)?;
         self.y = self.y.saturating_add(height);
@@ -290,10 +293,7 @@ fn spacing<A: Memory + Copy>(
 
 // How much room the labels of datagrams take.
 fn room(datagrams: &[Datagram]) -> u64 {
-    if datagrams
-        .iter()
-        .any(|datagram| LONG_NONCE <= datagram.nonce)
-    {
+    if datagrams.iter().any(|sent| LONG_NONCE <= sent.nonce) {
         WIDE_ROOM
     } else {
         ROOM

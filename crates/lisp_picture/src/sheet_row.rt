@@ -3,7 +3,6 @@
 ghost use Rattle.std.specs.Prelude.{OnErr};
 
 use crate::datagram::Datagram;
-use crate::notes::add_notes;
 use crate::pen::Pen;
 use crate::row::{Arrival, Row, Sign};
 use crate::sheet::Sheet;
@@ -14,7 +13,7 @@ use lisp_memory::Memory;
 use lisp_nonces::Fate;
 use lisp_player::{Outcome, fault_number};
 use lisp_script::Command;
-use std::alloc::AllocError;
+use std::alloc::{AllocError, Allocator};
 
 /// How far it is from one line of words to the next, in pixels.
 const LEADING: u64 = 16;
@@ -38,57 +37,71 @@ const LABEL: u64 = 14;
 /// How wide a character of a table is, in tenths of a pixel.
 const CELL_TENTHS: u64 = 74;
 
-/// Draws a row with its middle at `y`, without words: its arrow, or its sign.
+/// A row of a sheet, with its middle at `y`.
+#[derive(Clone, Copy)]
+pub(crate) struct Spot<'s, A: Allocator> {
+    pub(crate) sheet: &'s Sheet<'s, A>,
+    pub(crate) row: &'s Row,
+    pub(crate) y: u64,
+}
+
+/// Draws a row without words: its arrow, or its sign.
 pub(crate) fn draw_brief<A: Memory + Copy>(
     pen: &mut Pen<A>,
-    sheet: &Sheet<'_, A>,
-    row: &Row,
-    y: u64,
+    spot: &Spot<'_, A>,
 ) -> Result<(), AllocError>
     ensures memory { OnErr result A.may_refuse }
 {
-    let way = way_of(sheet, row, y);
+    let way = way_of(spot);
     if let Some(way) = way {
         pen.line(way.look, way.from, way.to)?;
     }
-    if row.now.is_some() {
-        draw_moment(pen, sheet, y)?;
+    if spot.row.now.is_some() {
+        draw_moment(pen, spot)?;
     }
-    draw_stub(pen, sheet, row, y)?;
-    draw_untaken(pen, row, y)?;
-    match sign_at(sheet, row) {
-        Some((Sign::Done, _)) if way.is_some() && row.fate == Fate::Done => Ok(()),
-        _ => draw_sign(pen, sheet, row, y),
+    draw_stub(pen, spot)?;
+    match spot.row.sign {
+        Some((_, Sign::Done)) if way.is_some() && spot.row.fate == Fate::Done => Ok(()),
+        _ => draw_sign(pen, spot),
     }
 }
 
 /// Draws the row of the command with a place with all details; its height.
 pub(crate) fn draw_whole<A: Memory + Copy>(
     pen: &mut Pen<A>,
-    sheet: &Sheet<'_, A>,
-    row: &Row,
+    spot: &Spot<'_, A>,
     place: usize,
-    y: u64,
 ) -> Result<u64, AllocError>
     ensures memory { OnErr result A.may_refuse }
 {
     let number = place.saturating_add(1);
-    pen.text(style::NUMBER, (16, y.saturating_add(4)), number)?;
-    draw_clock(pen, sheet, row, y)?;
-    draw_way(pen, sheet, row, y)?;
-    draw_stub(pen, sheet, row, y)?;
-    draw_untaken(pen, row, y)?;
-    draw_sign(pen, sheet, row, y)?;
-    let history = sheet.history;
+    pen.text(style::NUMBER, (16, spot.y.saturating_add(4)), number)?;
+    draw_clock(pen, spot)?;
+    draw_way(pen, spot)?;
+    draw_stub(pen, spot)?;
+    draw_sign(pen, spot)?;
+    draw_told(pen, spot, place)
+}
+
+// Draws what the command with a place printed; the height of its row.
+fn draw_told<A: Memory + Copy>(
+    pen: &mut Pen<A>,
+    spot: &Spot<'_, A>,
+    place: usize,
+) -> Result<u64, AllocError>
+    ensures memory { OnErr result A.may_refuse }
+{
+    let history = spot.sheet.history;
     let (Some(command), Some(outcome)) = (history.commands.get(place), history.outcomes.get(place))
     else {
         return Ok(LEAST_HEIGHT);
     };
-    match row.sign {
+    match spot.row.sign {
         Some((node, Sign::Asked)) if fault_number(&outcome.text).is_none() => {
-            draw_table(pen, command, outcome, (sheet.x(node).unwrap_or(0), y))
+            let at = (spot.sheet.x(node).unwrap_or(0), spot.y);
+            draw_table(pen, command, outcome, at)
         }
-        _ => draw_words(pen, sheet, row, place, y),
+        _ => draw_words(pen, spot, outcome, place),
     }
 }
 
@@ -103,11 +116,9 @@ struct Way {
 }
 
 // The way of what arrives at a row, where something does.
-fn way_of<A: Memory + Copy>(sheet: &Sheet<'_, A>, row: &Row, y: u64) -> Option<Way> {
-    let end = match row.sign {
-        Some((node, _)) => sheet.x(node),
-        None => None,
-    };
+fn way_of<A: Memory + Copy>(spot: &Spot<'_, A>) -> Option<Way> {
+    let Spot { sheet, row, y } = *spot;
+    let end = row.sign.and_then(|(node, _)| sheet.x(node));
     let Arrival::Datagram(k) = row.arrival? else {
         return Some(way_from_outside(end?, y));
     };
@@ -153,25 +164,19 @@ fn way_to(from: (u64, u64), x: u64, y: u64) -> Way {
 }
 
 // Draws the arrow of what arrives, where something does, and beside its end what it is.
-fn draw_way<A: Memory + Copy>(
-    pen: &mut Pen<A>,
-    sheet: &Sheet<'_, A>,
-    row: &Row,
-    y: u64,
-) -> Result<(), AllocError>
+fn draw_way<A: Memory + Copy>(pen: &mut Pen<A>, spot: &Spot<'_, A>) -> Result<(), AllocError>
     ensures memory { OnErr result A.may_refuse }
 {
-    let Some(way) = way_of(sheet, row, y) else {
+    let Some(way) = way_of(spot) else {
         return Ok(());
     };
     pen.line(way.look, way.from, way.to)?;
-    match sheet.story.arrived(row) {
+    match spot.sheet.story.arrived(spot.row) {
         Some(datagram) => draw_label(pen, datagram, &way),
-        None => pen.words(
-            style::LABEL,
-            (way.from.0, way.from.1.saturating_sub(6)),
-            "outside",
-        ),
+        None => {
+            let (x, y) = way.from;
+            pen.words(style::LABEL, (x, y.saturating_sub(6)), "outside")
+        }
     }
 }
 
@@ -191,23 +196,16 @@ fn draw_label<A: Memory + Copy>(
     };
     let nonce = datagram.nonce;
     pen.words(look, (x, y.saturating_sub(2)), datagram.name)?;
-    pen.text(
-        look,
-        (x, y.saturating_add(12)),
-        format_args!("nonce {nonce}"),
-    )
+    let below = (x, y.saturating_add(12));
+    pen.text(look, below, format_args!("nonce {nonce}"))
 }
 
 // Draws the stub of a datagram that is sent at a row and never arrives.
-fn draw_stub<A: Memory + Copy>(
-    pen: &mut Pen<A>,
-    sheet: &Sheet<'_, A>,
-    row: &Row,
-    y: u64,
-) -> Result<(), AllocError>
+fn draw_stub<A: Memory + Copy>(pen: &mut Pen<A>, spot: &Spot<'_, A>) -> Result<(), AllocError>
     ensures memory { OnErr result A.may_refuse }
 {
-    let Some(datagram) = sheet.story.lost(row) else {
+    let (sheet, y) = (spot.sheet, spot.y);
+    let Some(datagram) = sheet.story.lost(spot.row) else {
         return Ok(());
     };
     let Some(x) = sheet.x(datagram.from) else {
@@ -221,22 +219,18 @@ fn draw_stub<A: Memory + Copy>(
     pen.line(style::LOST, (x, y), (end, y.saturating_add(14)))
 }
 
-// The sign of a row, and where the line of its node is.
-fn sign_at<A: Memory + Copy>(sheet: &Sheet<'_, A>, row: &Row) -> Option<(Sign, u64)> {
-    let (node, sign) = row.sign?;
-    Some((sign, sheet.x(node)?))
-}
-
-// Draws what happened to a node, and that its store is in doubt or fails.
-fn draw_sign<A: Memory + Copy>(
-    pen: &mut Pen<A>,
-    sheet: &Sheet<'_, A>,
-    row: &Row,
-    y: u64,
-) -> Result<(), AllocError>
+// Draws what happened to a node, and that its store is in doubt or fails; at the left that the network didn't take the command.
+fn draw_sign<A: Memory + Copy>(pen: &mut Pen<A>, spot: &Spot<'_, A>) -> Result<(), AllocError>
     ensures memory { OnErr result A.may_refuse }
 {
-    let Some((sign, x)) = sign_at(sheet, row) else {
+    let (row, y) = (spot.row, spot.y);
+    let Some((node, sign)) = row.sign else {
+        if row.now.is_some() || row.arrival.is_some() {
+            return Ok(());
+        }
+        return pen.sign("untaken", (56, y));
+    };
+    let Some(x) = spot.sheet.x(node) else {
         return Ok(());
     };
     if row.fate != Fate::Done {
@@ -245,46 +239,24 @@ fn draw_sign<A: Memory + Copy>(
     pen.sign(sign.drawing().0, (x, y))
 }
 
-// Draws a sign at the left of a command that the network didn't take.
-fn draw_untaken<A: Memory + Copy>(pen: &mut Pen<A>, row: &Row, y: u64) -> Result<(), AllocError>
-    ensures memory { OnErr result A.may_refuse }
-{
-    if row.sign.is_some() || row.now.is_some() || row.arrival.is_some() {
-        return Ok(());
-    }
-    pen.sign("untaken", (56, y))
-}
-
 // Draws a line across all nodes, and the moment, where time passed.
-fn draw_clock<A: Memory + Copy>(
-    pen: &mut Pen<A>,
-    sheet: &Sheet<'_, A>,
-    row: &Row,
-    y: u64,
-) -> Result<(), AllocError>
+fn draw_clock<A: Memory + Copy>(pen: &mut Pen<A>, spot: &Spot<'_, A>) -> Result<(), AllocError>
     ensures memory { OnErr result A.may_refuse }
 {
-    let Some(now) = row.now else {
+    let Some(now) = spot.row.now else {
         return Ok(());
     };
-    draw_moment(pen, sheet, y)?;
-    pen.text(
-        style::NOTE,
-        (48, y.saturating_sub(5)),
-        format_args!("{now} ms"),
-    )
+    draw_moment(pen, spot)?;
+    let at = (48, spot.y.saturating_sub(5));
+    pen.text(style::NOTE, at, format_args!("{now} ms"))
 }
 
 // Draws a line across all nodes.
-fn draw_moment<A: Memory + Copy>(
-    pen: &mut Pen<A>,
-    sheet: &Sheet<'_, A>,
-    y: u64,
-) -> Result<(), AllocError>
+fn draw_moment<A: Memory + Copy>(pen: &mut Pen<A>, spot: &Spot<'_, A>) -> Result<(), AllocError>
     ensures memory { OnErr result A.may_refuse }
 {
-    let end = sheet.last_x().saturating_add(STUB);
-    pen.line(style::CLOCK, (48, y), (end, y))
+    let end = spot.sheet.last_x().saturating_add(STUB);
+    pen.line(style::CLOCK, (48, spot.y), (end, spot.y))
 }
 
 // Draws what was asked of a node as a table beside its line; the height of the row.
@@ -312,24 +284,22 @@ fn draw_table<A: Memory + Copy>(
     Ok(height.saturating_add(18).max(LEAST_HEIGHT))
 }
 
-// Writes the line of the command with a place, and below it what it means; the height of the row.
+// Writes the lines of the command with a place, and below them what they mean; the height of the row.
 fn draw_words<A: Memory + Copy>(
     pen: &mut Pen<A>,
-    sheet: &Sheet<'_, A>,
-    row: &Row,
+    spot: &Spot<'_, A>,
+    outcome: &Outcome<A>,
     place: usize,
-    y: u64,
 ) -> Result<u64, AllocError>
     ensures memory { OnErr result A.may_refuse }
 {
+    let Spot { sheet, row, y } = *spot;
     let mut lines = Lines::new(pen.alloc, WIDTH);
-    if let Some(outcome) = sheet.history.outcomes.get(place) {
-        for line in outcome.text.lines() {
-            lines.add(line)?;
-        }
+    for line in outcome.text.lines() {
+        lines.add(line)?;
     }
     let mut notes = Lines::new(pen.alloc, WIDTH);
-    add_notes(&mut notes, sheet.history, row, place)?;
+    notes.add_notes(sheet.history, row, place)?;
     let look = match row.sign {
         Some((_, Sign::Refused)) => style::REFUSAL,
         _ => style::NOTE,
