@@ -20,12 +20,12 @@ use Rattle.lisp_model.specs.Held.{Acceptance}
 use Rattle.lisp_model.specs.Legal.{MayCome, LegalTrace, context_of}
 use Rattle.lisp_model.specs.Trace.{EventValue, Step, Opening, address_at, is_server, sites, clock, router_at, etr_config, is_router}
 use Rattle.lisp_model.proofs.CleanLemmas.{checked, server_of}
-use Rattle.lisp_model.proofs.Origins.{one_taken, noise_clash, were_sent}
+use Rattle.lisp_model.proofs.Origins.{one_taken, were_sent}
 use Rattle.lisp_model.specs.Clean.{Clean}
 use Rattle.lisp_model.specs.Network.{NamesServers, IsNetwork}
 use Rattle.lisp_model.proofs.HeardLines.{IsCounted, counted_of}
 use Rattle.lisp_model.proofs.HearingLemmas.{IsHeard, is_heard, knows_own, router_of as one_router}
-use Rattle.lisp_model.proofs.ListLemmas.{head_or_tail}
+use Rattle.lisp_model.proofs.ListLemmas.{err_clash, head_or_tail}
 use Rattle.lisp_model.proofs.ReplyOrigins.{entry_is}
 use Rattle.lisp_refinement.specs.World.{DatagramValue}
 use Rattle.lisp_refinement.proofs.Places.{all_at}
@@ -59,7 +59,7 @@ module _ (o : Opening) (given : List (List SiteValue)) (T : List Step) (printed 
 
       by : IsUnforged o.config given sent number (from, bytes) → WasTold o T printed row.arrives.message
       by (inl has) = told (datagram_from from (address_at o.config number, bytes)) has row.arrives.message row.arrives.admits.read
-      by (inr (inl noise)) = absurd (noise_clash (sym noise.1 ∙ row.arrives.admits.read))
+      by (inr (inl noise)) = absurd (err_clash (sym noise.1 ∙ row.arrives.admits.read))
       by (inr (inr forged)) =
           let known = checked (sites o U s.actor) from bytes row.arrives.message row.arrives.admits.secret row.arrives.admits.checks in
           absurd (true≢false (sym known.authentic ∙ forged known.secret (inl (at_server, sites o U s.actor, sites_given o given U s.actor take, known.known))))
@@ -168,7 +168,7 @@ module _ (o : Opening) (given : List (List SiteValue)) (T : List Step) (printed 
           let r = replies (datagram_from from (address_at o.config number, bytes)) has what.what.message heard.read.is (record { plain = heard.read.plain; low = omega (arith, low, number_is) }) in
           own_reply node server key nonce what.what.message from its kind (sym heard.source ∙ ap (address_at o.config) (sym what.whose)) (heard.key ∙ sym what.under) number_is
           (subst (λ (k : ℕ). WasReplied o T printed from (address_at o.config k) what.what.message) (sym here ∙ what.acts) r)
-      by (inr (inl noise)) = absurd (noise_clash (sym noise.1 ∙ heard.read.is))
+      by (inr (inl noise)) = absurd (err_clash (sym noise.1 ∙ heard.read.is))
       by (inr (inr forged)) =
           absurd (true≢false (sym heard.authentic ∙ forged (etr_config o U s.actor).secret (subst (λ (k : ℕ). MayHold o.config given k (etr_config o U s.actor).secret) here (may_hold o given U s.actor legal_then take (etr_config o U s.actor).secret (knows_own o U s.actor row.arrives.acts.kind)))))
   counts s U legal_then take (events.Deliver k fate) own unforged node server part key nonce row = absurd own
