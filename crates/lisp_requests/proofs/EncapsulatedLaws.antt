@@ -2,7 +2,7 @@
 use Rattle.std.proofs.Common.{◌≡◌, ℕ, zero, suc, ◌+◌, ◌-◌, ◌/◌, ◌%◌, ◌<◌, ◌≤◌, Bool, true, eqb, leb, ◌&&◌, List, [], ◌∷◌, ◌++◌, length, take, drop, get_or, Ok, refl, sym, ap, subst, ◌∙◌, arith}
 use Rattle.std.specs.Prelude.{not}
 use Rattle.std.specs.Int.{w16, to_be_bytes}
-use Rattle.std.proofs.lemmas.Bool.{leb-true, le-leb, eqb-true}
+use Rattle.std.proofs.lemmas.Bool.{and_parts, leb-true, le-leb, eqb-true}
 use Rattle.std.proofs.lemmas.List.{take_at, drop_at, take-append-drop, length-append, length-take-le}
 use Rattle.std.proofs.lemmas.Nat.{from_be_bytes-to_be_bytes_2}
 use Rattle.std.proofs.Math.Seq.{take-append-add}
@@ -17,7 +17,7 @@ use Rattle.lisp_requests.specs.declared.fault.RequestFault.TheVariants as faults
 use Rattle.lisp_requests.specs.Reading.{after, require}
 use Rattle.lisp_requests.specs.Encapsulated.{DatagramValue, EncapsulatedValue, SpellsHeader, SpellsDatagram, SpellsUdp, SpellsEncapsulated, control_port, udp_header, is_summed, datagram_at, udp_at, lisp_at, encapsulated_at}
 use Rattle.lisp_requests.proofs.Fields.{bind_ok, require_takes, done, ok_is, after_takes, after_again}
-use Rattle.lisp_requests.proofs.InnerLaws.{both, after_long, datagram_takes, datagram_again}
+use Rattle.lisp_requests.proofs.InnerLaws.{after_long, datagram_takes, datagram_again}
 
 -- ---- UDP
 
@@ -46,7 +46,7 @@ udp_passes d m e =
     let b = bind_ok (require faults.Port p) (λ _. by_l) m a.2 in
     let c = bind_ok (require faults.UdpLength l) (λ _. by_s) m b.2 in
     let g = bind_ok (require faults.UdpChecksum s) (λ _. end) m c.2 in
-    let lens = both (leb 8 (number_at bytes 4)) (leb (number_at bytes 4) (length bytes)) (require_takes faults.UdpLength l c.0 c.1) in (
+    let lens = and_parts (leb 8 (number_at bytes 4)) (leb (number_at bytes 4) (length bytes)) (require_takes faults.UdpLength l c.0 c.1) in (
       record {
         long = (after_takes 8 bytes a.0 a.1).0;
         port = eqb-true (number_at bytes 2) control_port (require_takes faults.Port p b.0 b.1);
@@ -200,8 +200,7 @@ one_encapsulated bytes m n s t = ok_is m n (sym (encapsulated_again bytes m s) �
 header_family : (header : List ℕ) (source destination : Addr) (len : ℕ) → SpellsHeader header source destination len → family source ≡ family destination
 header_family header (V4 source) (V4 destination) len s = refl
 header_family header (V6 source) (V6 destination) len s = refl
-header_family header (V4 source) (V6 destination) len s = absurd s
-header_family header (V6 source) (V4 destination) len s = absurd s
+header_family header _ _ len s = absurd s
 
 pub one_family : (bytes : List ℕ) (m : EncapsulatedValue) → SpellsEncapsulated bytes m → family m.source ≡ family m.destination
 one_family bytes m s = header_family s.carries.header m.source m.destination (length s.payload) s.carries.spells

@@ -1,5 +1,5 @@
 -- Steps of reading, each way: what a step took stands in the bytes, and what is written there is read again.
-use Rattle.std.proofs.Common.{◌≡◌, ℕ, ◌*◌, ◌^◌, ◌<◌, ◌≤◌, Bool, true, false, cond, ltb, List, [], ◌∷◌, ◌++◌, length, drop, Result, Ok, Err, refl, sym, ap, subst, ◌∙◌, arith}
+use Rattle.std.proofs.Common.{◌≡◌, ℕ, ◌*◌, ◌^◌, ◌<◌, ◌≤◌, Bool, true, false, ltb, List, [], ◌∷◌, ◌++◌, length, drop, Result, Ok, Err, refl, sym, ap, subst, ◌∙◌, arith}
 use Rattle.std.specs.Int.{w64, from_be_bytes, to_be_bytes}
 use Rattle.std.proofs.lemmas.Bool.{ltb-false, le-ltb}
 use Rattle.std.proofs.lemmas.List.{drop_at, length-append}
@@ -11,20 +11,11 @@ use Rattle.lisp_records.specs.Address.{afi, width, family, octets, HasWidth, max
 use Rattle.lisp_records.specs.Spelling.{IsBytes}
 use Rattle.lisp_records.specs.Result.{◌>>=◌}
 use Rattle.lisp_records.specs.Reading.{family_of, mask_of, address_at, named_at}
+pub use Rattle.lisp_records.proofs.Fields.{bind_ok, guard_ok}
 use Rattle.lisp_records.proofs.Fields as records
 use Rattle.lisp_requests.specs.declared.fault.RequestFault.{RequestFault}
 use Rattle.lisp_requests.specs.declared.fault.RequestFault.TheVariants as faults
 use Rattle.lisp_requests.specs.Reading.{after, require, lifted}
-
--- the value of a step that did not fail
-pub bind_ok : {A B : Type 0} (r : Result A RequestFault) (f : A → Result B RequestFault) (y : B) → (r >>= f) ≡ Ok y → (x : A) × (r ≡ Ok x) × (f x ≡ Ok y)
-bind_ok (Ok x) f y e = (x, refl, e)
-bind_ok (Err d) f y e = absurd cc
-
--- a test that did not fail
-guard_ok : {A : Type 0} (b : Bool) (d : RequestFault) (x y : A) → cond b (Err d) (Ok x) ≡ Ok y → (b ≡ false) × (x ≡ y)
-guard_ok true d x y e = absurd cc
-guard_ok false d x y e = (refl, cc)
 
 -- a test that had to hold held
 pub require_takes : (d : RequestFault) (b y : Bool) → require d b ≡ Ok y → b ≡ true

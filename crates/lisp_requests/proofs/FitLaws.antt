@@ -1,5 +1,5 @@
 -- What bytes spell fits the format.
-use Rattle.std.proofs.Common.{◌≢◌, ℕ, zero, suc, ◌<◌, List, [], ◌∷◌, ◌++◌, length, Option, Some, None, refl, subst, arith}
+use Rattle.std.proofs.Common.{ℕ, List, [], ◌∷◌, ◌++◌, length, Option, Some, None, refl, subst, arith}
 use Rattle.std.specs.Int.{w16, w64, to_be_bytes}
 use Rattle.std.specs.List.{AllByRecursion}
 use Rattle.lisp_records.specs.declared.address.Addr.{Addr}
@@ -31,10 +31,6 @@ each_fits : {X : Type 0} (Kind : List ℕ → X → Type 0) (P : X → Type 0) �
 each_fits Kind P one bytes [] fits s = tt
 each_fits Kind P one bytes (x ∷ xs) fits s = (one s.0 x (IsBytes-first s.0 s.1 (subst IsBytes s.2 fits)) s.3, each_fits Kind P one s.1 xs (IsBytes-rest bytes s.0 s.1 s.2 fits) s.4)
 
-positive : (n : ℕ) → n ≢ 0 → 0 < n
-positive zero some = absurd (some refl)
-positive (suc n) some = omega arith
-
 pub request_fits : (bytes : List ℕ) (m : MapRequestValue) → IsBytes bytes → SpellsRequest bytes m → IsMapRequest m
 request_fits bytes m fits s =
     let head : List ℕ = s.kind ∷ s.flags ∷ s.counts ∷ length m.eids ∷ to_be_bytes w64 m.nonce in
@@ -43,7 +39,7 @@ request_fits bytes m fits s =
     let one = IsBytes-rest (s.source ++ (s.itr_rlocs ++ asked)) s.source (s.itr_rlocs ++ asked) refl all in
     let two = IsBytes-rest (s.itr_rlocs ++ asked) s.itr_rlocs asked refl one in
     record {
-      fits = (omega (arith, s.irc), omega (arith, s.irc), positive (length m.eids) s.some, subst IsBytes s.parts fits 3);
+      fits = (omega (arith, s.irc), omega (arith, s.irc), omega (arith, s.some), subst IsBytes s.parts fits 3);
       nonce = s.nonce;
       source = source_fits s.source m.source (IsBytes-first s.source (s.itr_rlocs ++ asked) all) s.from;
       itr_rlocs = each_fits SpellsAddress IsWhole address_fits s.itr_rlocs m.itr_rlocs (IsBytes-first s.itr_rlocs asked one) s.each_rloc;

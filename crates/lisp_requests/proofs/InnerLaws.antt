@@ -1,7 +1,7 @@
 -- An IP datagram that is read is spelled so, and one that is spelled so is read.
 use Rattle.std.proofs.Common.{◌≡◌, ℕ, suc, ◌+◌, ◌-◌, ◌*◌, ◌/◌, ◌%◌, ◌≤◌, Bool, true, false, cond, eqb, leb, ◌&&◌, List, [], ◌∷◌, ◌++◌, length, take, drop, get_or, Result, Ok, Err, refl, sym, ap, subst, ◌∙◌, append_assoc, arith}
 use Rattle.std.specs.Int.{w16, to_be_bytes}
-use Rattle.std.proofs.lemmas.Bool.{leb-true, le-leb, eqb-true, le-ltb}
+use Rattle.std.proofs.lemmas.Bool.{and_parts, leb-true, le-leb, eqb-true, le-ltb}
 use Rattle.std.proofs.lemmas.List.{take_at, drop_at, drop-take, take-take, take-append-drop, length-append, length-take-le, length-drop}
 use Rattle.std.proofs.lemmas.Nat.{from_be_bytes-to_be_bytes_2}
 use Rattle.std.proofs.Math.Seq.{take-append-add}
@@ -17,11 +17,6 @@ use Rattle.lisp_requests.specs.Checksum.{sum_of}
 use Rattle.lisp_requests.specs.Reading.{after, require}
 use Rattle.lisp_requests.specs.Encapsulated.{DatagramValue, SpellsIpv4, SpellsIpv6, SpellsHeader, SpellsDatagram, header_len, ipv4_at, ipv6_at, datagram_at}
 use Rattle.lisp_requests.proofs.Fields.{bind_ok, require_takes, done, ok_is, after_takes}
-
--- two tests that both hold
-pub both : (a b : Bool) → (a && b) ≡ true → (a ≡ true) × (b ≡ true)
-both true b e = (refl, e)
-both false b e = absurd cc
 
 -- a field of so many bytes is there
 pub after_long : (n : ℕ) (bytes : List ℕ) → n ≤ length bytes → after n bytes ≡ Ok (drop n bytes)
@@ -62,7 +57,7 @@ ipv4_passes bytes d e =
     let g = bind_ok (require faults.Fragment f) (λ _. by_p) d c.2 in
     let u = bind_ok (require faults.Protocol p) (λ _. by_s) d g.2 in
     let t = bind_ok (require faults.IpChecksum s) (λ _. end) d u.2 in
-    let lens = both (leb (header_len bytes) (number_at bytes 2)) (leb (number_at bytes 2) (length bytes)) (require_takes faults.IpLength l c.0 c.1) in (
+    let lens = and_parts (leb (header_len bytes) (number_at bytes 2)) (leb (number_at bytes 2) (length bytes)) (require_takes faults.IpLength l c.0 c.1) in (
       record {
         long = (after_takes 20 bytes a.0 a.1).0;
         header = leb-true 20 (header_len bytes) (require_takes faults.IpHeaderLength h b.0 b.1);
@@ -304,8 +299,7 @@ header_again header (V4 source) (V4 destination) payload tail (one, two, s) =
 header_again header (V6 source) (V6 destination) payload tail (one, two, s) =
     let all = ipv6_again header source destination payload tail one two s in
     read6 (header ++ (payload ++ tail)) _ all.1 all.0
-header_again header (V4 source) (V6 destination) payload tail s = absurd s
-header_again header (V6 source) (V4 destination) payload tail s = absurd s
+header_again header _ _ payload tail s = absurd s
 
 pub datagram_again : (bytes : List ℕ) (d : DatagramValue) → SpellsDatagram bytes d → datagram_at bytes ≡ Ok d
 datagram_again bytes d s = ap datagram_at s.parts ∙ header_again s.header d.source d.destination d.payload s.tail s.spells

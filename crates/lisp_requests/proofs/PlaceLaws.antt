@@ -19,8 +19,7 @@ header_long bytes header rest (V4 s) (V4 d) len spells is =
     omega (arith, first)
 header_long bytes header rest (V6 s) (V6 d) len spells is =
     omega (arith, ap length spells.2.parts, length-append s d, spells.0, spells.1)
-header_long bytes header rest (V4 s) (V6 d) len spells is = absurd spells
-header_long bytes header rest (V6 s) (V4 d) len spells is = absurd spells
+header_long bytes header rest _ _ len spells is = absurd spells
 
 pub message_stands : (bytes : List ℕ) (m : EncapsulatedValue) → SpellsEncapsulated bytes m → StandsAt bytes (message_place bytes m.source) m.message
 message_stands bytes m s =

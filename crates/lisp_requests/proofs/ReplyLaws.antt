@@ -1,9 +1,9 @@
 -- A Map-Reply that is read is spelled so, and one that is spelled so is read.
-use Rattle.std.proofs.Common.{◌≡◌, ℕ, suc, ◌/◌, ◌%◌, ◌<◌, ◌≤◌, Bool, eqb, List, [], ◌∷◌, ◌++◌, length, drop, get_or, Ok, refl, sym, ap, subst, ◌∙◌, append-nil, arith}
+use Rattle.std.proofs.Common.{◌≡◌, ℕ, suc, ◌/◌, ◌%◌, ◌≤◌, Bool, eqb, List, [], ◌∷◌, ◌++◌, length, drop, get_or, Ok, refl, sym, ap, subst, ◌∙◌, append-nil, arith}
 use Rattle.std.specs.Int.{w64, from_be_bytes, to_be_bytes}
 use Rattle.std.proofs.lemmas.Bool.{eqb-true}
 use Rattle.std.proofs.lemmas.Nat.{from_be_bytes-to_be_bytes_8}
-use Rattle.lisp_records.specs.Record.{MapRecordValue, IsMapRecord, bit}
+use Rattle.lisp_records.specs.Record.{MapRecordValue, IsMapRecord}
 use Rattle.lisp_records.specs.Spelling.{IsBytes, Spells}
 use Rattle.lisp_records.specs.Written.{written}
 use Rattle.lisp_records.specs.Reading.{record_at}
@@ -116,19 +116,16 @@ one_reply bytes m n s t = ok_is m n (sym (reply_again bytes m s) ∙ reply_again
 pub reply_spelled : (m : MapReplyValue) → IsMapReply m → SpellsReply (written_reply m) m
 unfolding written_reply
 reply_spelled m is =
-    let p : bit m.probe < 2 = bit_below m.probe in
-    let e : bit m.echo_nonce < 2 = bit_below m.echo_nonce in
-    let s : bit m.sec < 2 = bit_below m.sec in
     record {
       kind = reply_kind m;
       reserved = 0;
       more = 0;
       records = written_records m.records;
       parts = refl;
-      reply = omega arith;
-      probe = omega arith;
-      echo_nonce = omega arith;
-      sec = omega arith;
+      reply = omega (arith, bit_below);
+      probe = omega (arith, bit_below);
+      echo_nonce = omega (arith, bit_below);
+      sec = omega (arith, bit_below);
       nonce = is.nonce;
       each = each_spelled Spells written IsMapRecord written_spells m.records is.records;
     }

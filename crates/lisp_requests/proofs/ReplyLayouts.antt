@@ -1,7 +1,7 @@
 -- The layout of a Map-Reply, by what is read of its parts.
-use Rattle.std.proofs.Common.{◌≡◌, ℕ, zero, suc, ◌≤◌, eqb, List, [], ◌∷◌, length, get_or, drop, Result, Ok, Err, refl, sym, ap, ◌∙◌, arith}
+use Rattle.std.proofs.Common.{◌≡◌, ℕ, zero, suc, ◌≤◌, eqb, List, [], ◌∷◌, length, get_or, drop, Result, Ok, Err, sym, ap, ◌∙◌, arith}
 use Rattle.std.proofs.lemmas.Bool.{ne_eqb}
-use Rattle.std.proofs.lemmas.List.{length-drop}
+use Rattle.std.proofs.lemmas.List.{length-drop, nil_from_length}
 use Rattle.lisp_records.specs.Record.{MapRecordValue}
 use Rattle.lisp_records.specs.Result.{◌>>=◌}
 use Rattle.lisp_records.proofs.Faults.{Passes}
@@ -28,10 +28,6 @@ items_count read (suc n) bytes x e =
     let b = bind_ok (items_at read n a.0.1) (λ others. done (a.0.0 ∷ others.0, others.1)) x a.2 in
     ap (λ (y : List _ × List ℕ). length y.0) (sym (ok_is (a.0.0 ∷ b.0.0, b.0.1) x b.2)) ∙ ap suc (items_count read n a.0.1 b.0 b.1)
 
-none_left : (xs : List ℕ) → length xs ≡ 0 → xs ≡ []
-none_left [] none = refl
-none_left (x ∷ xs) none = absurd (omega (arith, none))
-
 module _ (bytes : List ℕ) (passed : reply_head_at bytes ≡ Ok (drop 12 bytes)) where
   pub no_records : (e : RequestFault) → items_at reply_record_at (get_or bytes 3 0) (drop 12 bytes) ≡ Err e → reply_at bytes ≡ Err e
   no_records e fails = records_fail bytes (drop 12 bytes) e passed fails
@@ -48,5 +44,5 @@ module _ (bytes : List ℕ) (passed : reply_head_at bytes ≡ Ok (drop 12 bytes)
           read = reply_is bytes (drop 12 bytes) rs (drop end bytes) passed listed (ap (λ (n : ℕ). eqb n 0) none) ∙ ap Ok (sym (fields rs));
           count = items_count reply_record_at (get_or bytes 3 0) (drop 12 bytes) (rs, drop end bytes) listed ∙ sym count;
           place = place;
-          each = rw (count, place) (listed ∙ ap (λ (t : List ℕ). done {A = List MapRecordValue × List ℕ} (rs, t)) (none_left (drop end bytes) none));
+          each = rw (count, place) (listed ∙ ap (λ (t : List ℕ). done {A = List MapRecordValue × List ℕ} (rs, t)) (nil_from_length (drop end bytes) none));
         }

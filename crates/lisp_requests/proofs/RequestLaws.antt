@@ -1,8 +1,8 @@
 -- A Map-Request that is read is spelled so, and one that is spelled so is read.
-use Rattle.std.proofs.Common.{◌≡◌, ◌≢◌, ℕ, suc, ◌+◌, ◌/◌, ◌%◌, ◌<◌, ◌≤◌, Bool, true, eqb, List, [], ◌∷◌, ◌++◌, length, take, drop, get_or, Option, Ok, refl, sym, ap, subst, ◌∙◌, append-nil, arith}
+use Rattle.std.proofs.Common.{◌≡◌, ◌≢◌, ℕ, suc, ◌+◌, ◌/◌, ◌%◌, ◌≤◌, Bool, eqb, List, [], ◌∷◌, ◌++◌, length, take, drop, get_or, Option, Ok, refl, sym, ap, subst, ◌∙◌, append-nil, arith}
 use Rattle.std.specs.Prelude.{not}
 use Rattle.std.specs.Int.{w64, from_be_bytes, to_be_bytes}
-use Rattle.std.proofs.lemmas.Bool.{eqb-true, ne_eqb}
+use Rattle.std.proofs.lemmas.Bool.{eqb-false, eqb-true, ne_eqb, not-true}
 use Rattle.std.proofs.lemmas.List.{take-append-drop}
 use Rattle.std.proofs.lemmas.Nat.{from_be_bytes-to_be_bytes_8}
 use Rattle.lisp_records.specs.declared.address.Addr.{Addr}
@@ -27,10 +27,6 @@ pub record Passes (bytes rest : List ℕ) : Type 0 where
   pub kind : get_or bytes 0 0 / 16 ≡ 1
   pub some : get_or bytes 3 0 ≢ 0
 
--- a number that is tested not to be 0 isn't
-not_zero : (n : ℕ) → not (eqb n 0) ≡ true → n ≢ 0
-not_zero n test is = absurd (subst (λ (m : ℕ). not (eqb m 0) ≡ true → ⊥) (sym is) (λ e. absurd cc) test)
-
 pub head_passes : (bytes rest : List ℕ) → head_at bytes ≡ Ok rest → Passes bytes rest
 unfolding head_at
 head_passes bytes rest e =
@@ -44,7 +40,7 @@ head_passes bytes rest e =
       long = g.0;
       behind = g.1 ∙ ok_is a.0 rest c.2;
       kind = eqb-true (get_or bytes 0 0 / 16) 1 (require_takes faults.Kind kind b.0 b.1);
-      some = not_zero (get_or bytes 3 0) (require_takes faults.NoRecord some c.0 c.1);
+      some = eqb-false (get_or bytes 3 0) 0 (not-true (eqb (get_or bytes 3 0) 0) (require_takes faults.NoRecord some c.0 c.1));
     }
 
 -- twelve bytes that pass the tests, a Source EID, ITR-RLOCs and records spell a Map-Request, whatever follows
@@ -150,13 +146,6 @@ one_request bytes m n s t = ok_is m n (sym (request_again bytes m s) ∙ request
 pub request_spelled : (m : MapRequestValue) → IsMapRequest m → SpellsRequest (written_request m) m
 unfolding written_request
 request_spelled m is =
-    let a : bit m.authoritative < 2 = bit_below m.authoritative in
-    let p : bit m.probe < 2 = bit_below m.probe in
-    let s : bit m.smr < 2 = bit_below m.smr in
-    let i : bit m.pitr < 2 = bit_below m.pitr in
-    let v : bit m.smr_invoked < 2 = bit_below m.smr_invoked in
-    let l : bit m.local < 2 = bit_below m.local in
-    let d : bit m.no_reply < 2 = bit_below m.no_reply in
     let few = is.fits in
     record {
       kind = request_kind m;
@@ -167,15 +156,15 @@ request_spelled m is =
       eids = written_eids m.eids;
       tail = [];
       parts = ap (λ (t : List ℕ). request_kind m ∷ request_flags m ∷ request_counts m ∷ length m.eids ∷ to_be_bytes w64 m.nonce ++ (written_source m.source ++ (written_rlocs m.itr_rlocs ++ t))) (sym (append-nil (written_eids m.eids)));
-      request = omega arith;
-      authoritative = omega arith;
-      probe = omega arith;
-      smr = omega arith;
-      pitr = omega arith;
-      smr_invoked = omega arith;
-      local = omega (arith, few.0, few.1);
-      no_reply = omega (arith, few.0, few.1);
-      irc = omega (arith, few.0, few.1);
+      request = omega (arith, bit_below);
+      authoritative = omega (arith, bit_below);
+      probe = omega (arith, bit_below);
+      smr = omega (arith, bit_below);
+      pitr = omega (arith, bit_below);
+      smr_invoked = omega (arith, bit_below);
+      local = omega (arith, bit_below, few.0, few.1);
+      no_reply = omega (arith, bit_below, few.0, few.1);
+      irc = omega (arith, bit_below, few.0, few.1);
       some = λ none. omega (arith, none, few.2);
       nonce = is.nonce;
       from = source_spelled m.source is.source;

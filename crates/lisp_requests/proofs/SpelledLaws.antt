@@ -1,7 +1,7 @@
 -- The written spelling of an encapsulated message is one of its spellings: both headers carry their checksums.
-use Rattle.std.proofs.Common.{◌≡◌, ℕ, ◌+◌, ◌-◌, ◌^◌, ◌<◌, ◌≤◌, Bool, true, false, eqb, ◌||◌, List, [], ◌∷◌, ◌++◌, length, take, Ok, refl, sym, ap, subst, ◌∙◌, append_assoc, append-nil, arith}
+use Rattle.std.proofs.Common.{◌≡◌, ℕ, ◌+◌, ◌-◌, ◌^◌, ◌<◌, ◌≤◌, true, eqb, List, [], ◌∷◌, ◌++◌, length, take, Ok, refl, sym, ap, subst, ◌∙◌, append_assoc, append-nil, arith}
 use Rattle.std.specs.Int.{w16, to_be_bytes}
-use Rattle.std.proofs.lemmas.Bool.{ne_eqb}
+use Rattle.std.proofs.lemmas.Bool.{ne_eqb, or_right}
 use Rattle.std.proofs.lemmas.List.{length-append}
 use Rattle.std.proofs.lemmas.Nat.{from_be_bytes-to_be_bytes_2}
 use Rattle.lisp_records.specs.declared.address.Addr.{Addr}
@@ -70,8 +70,7 @@ spelled4 source destination len one two fits =
 header_spelled : (source destination : Addr) (len : ℕ) → family source ≡ family destination → IsWhole source → IsWhole destination → 20 + len < 2 ^ 16 → SpellsHeader (ip_head source destination len ++ addresses source destination) source destination len
 header_spelled (V4 source) (V4 destination) len same one two fits = (one.width, two.width, spelled4 source destination len one two fits)
 header_spelled (V6 source) (V6 destination) len same one two fits = (one.width, two.width, record { first = 96; label_high = 0; label_mid = 0; label_low = 0; hops = 64; parts = refl; version = refl; len_fits = omega arith })
-header_spelled (V4 source) (V6 destination) len same one two fits = absurd cc
-header_spelled (V6 source) (V4 destination) len same one two fits = absurd cc
+header_spelled _ _ len same one two fits = absurd cc
 
 -- ---- UDP
 
@@ -112,12 +111,8 @@ udp_summed m is =
     let fits : checksum ≤ 65535 = udp_checksum-fits sum in
     (small, ap (sum_from start) (words_udp m.port len checksum m.message (omega (arith, fits))) ∙ carries start checksum (front_udp m.port len) (words m.message) le fits front back (ap (λ (n : ℕ). plus n checksum) (sym bare) ∙ udp_checks sum small))
 
-or_true : (a b : Bool) → b ≡ true → (a || b) ≡ true
-or_true true b is = refl
-or_true false b is = is
-
 tested : (source destination : Addr) (datagram : List ℕ) (checksum : ℕ) → number_at datagram 6 ≡ checksum → (checksum ≡ 0 → ⊥) → udp_sum source destination datagram ≡ 65535 → is_summed source destination datagram ≡ true
-tested (V4 source) destination datagram checksum number some sums = or_true (eqb (number_at datagram 6) 0) _ (ap (λ (n : ℕ). eqb n 65535) sums)
+tested (V4 source) destination datagram checksum number some sums = or_right (eqb (number_at datagram 6) 0) _ (ap (λ (n : ℕ). eqb n 65535) sums)
 tested (V6 source) destination datagram checksum number some sums = rw (number, ne_eqb checksum 0 some, sums) refl
 
 -- ---- the whole

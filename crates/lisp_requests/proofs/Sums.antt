@@ -1,11 +1,10 @@
 -- One's complement sums: of words one after the other, in any order, and of bytes that carry their checksum.
-use Rattle.std.proofs.Common.{◌≡◌, ℕ, ◌+◌, ◌-◌, ◌*◌, ◌/◌, ◌≤◌, List, [], ◌∷◌, ◌++◌, length, take, drop, refl, sym, ap, ◌∙◌, arith, Bool, true, false, cond, eqb, true≢false, ◌<◌}
+use Rattle.std.proofs.Common.{◌≡◌, ℕ, ◌+◌, ◌-◌, ◌*◌, ◌/◌, ◌≤◌, List, [], ◌∷◌, ◌++◌, length, take, drop, refl, sym, ap, ◌∙◌, arith, ◌<◌}
 use Rattle.std.specs.List.{AllByRecursion}
-use Rattle.std.proofs.lemmas.Bool.{eqb-true}
+use Rattle.std.proofs.lemmas.Bool.Decides.{nat_tests}
 use Rattle.std.specs.Int.{w16, from_be_bytes}
 use Rattle.lisp_records.specs.declared.address.Addr.{Addr}
 use Rattle.lisp_records.specs.declared.address.Family.{Family}
-use Rattle.lisp_records.specs.declared.address.Family.TheVariants.{Ipv4, Ipv6}
 use Rattle.lisp_records.specs.Address.{IsWhole, family, octets, width}
 use Rattle.lisp_requests.specs.Checksum.{AreWords, SumsToAllOnes, plus, words, sum_from, udp_checksum_of}
 
@@ -35,8 +34,7 @@ sum_parts sum n front bytes even = ap (sum_from sum) (words_append n front bytes
 
 -- an address is an even number of bytes
 even_width : (f : Family) → width f ≡ 2 * (width f / 2)
-even_width Ipv4 = refl
-even_width Ipv6 = refl
+even_width f = grind arith
 
 -- bytes after two addresses
 pub sum_addresses : (sum : ℕ) (source destination : Addr) (bytes : List ℕ) → IsWhole source → IsWhole destination
@@ -86,11 +84,7 @@ pub checks : (sum : ℕ) → sum ≤ 65535 → plus sum (65535 - sum) ≡ 65535
 checks sum le = omega arith
 
 pub udp_checks : (sum : ℕ) → sum ≤ 65535 → plus sum (udp_checksum_of sum) ≡ 65535
-udp_checks sum le = chosen (eqb sum 65535) (eqb-true sum 65535)
-  where
-    chosen : (all : Bool) → (all ≡ true → sum ≡ 65535) → plus sum (cond all 65535 (65535 - sum)) ≡ 65535
-    chosen true is = omega (arith, is refl)
-    chosen false is = omega arith
+udp_checks sum le = grind (arith, nat_tests)
 
 -- each is a byte
 abbrev pub AreBytes : List ℕ → Type 0
@@ -117,20 +111,10 @@ without-fits sum front back le one two = rw (sum_append sum front (0 ∷ back)) 
 
 -- a checksum of UDP has 16 bits, and is not zero
 pub udp_checksum-fits : (sum : ℕ) → udp_checksum_of sum ≤ 65535
-udp_checksum-fits sum = small (eqb sum 65535)
-  where
-    small : (all : Bool) → cond all 65535 (65535 - sum) ≤ 65535
-    small true = omega arith
-    small false = omega arith
+udp_checksum-fits sum = grind arith
 
 pub udp_checksum-some : (sum : ℕ) → sum ≤ 65535 → udp_checksum_of sum ≡ 0 → ⊥
-udp_checksum-some sum le = some (eqb sum 65535) refl
-  where
-    some : (all : Bool) → eqb sum 65535 ≡ all → cond all 65535 (65535 - sum) ≡ 0 → ⊥
-    some true is none = absurd (omega (arith, none))
-    some false is none =
-        let top : sum ≡ 65535 = omega (arith, none) in
-        absurd (true≢false (sym (ap (λ (n : ℕ). eqb n 65535) top) ∙ is))
+udp_checksum-some sum le none = grind (arith, nat_tests)
 
 pub checksummed : (front back : List ℕ) → AreWords front → AreWords back → SumsToAllOnes front back
 checksummed front back one two =
