@@ -49,6 +49,7 @@ pub fn written_is_whole()
 {}
 
 /// As long as moments don't fall, two moves of one router that are told lie at least a minute apart.
+#[tactic(auto, using(crate::proofs::RareLaws::moved_is_rare))]
 pub fn moved_is_rare<A: Memory>()
     ensures { MovedIsRare A.may_refuse }
 {}

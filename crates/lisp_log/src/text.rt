@@ -270,6 +270,7 @@ pub(crate) fn repeat_text<A: Memory + Copy>(
 }
 
 // What repeats: the first word, the node's name, of refusals their number, and what stands in front of the source.
+#[tactic(auto, using(lisp_lines::proofs::Appends::steps))]
 fn repeated_words<A: Memory>(alloc: A, name: &str, what: &Repeated) -> Result<String<A>, AllocError>
     ensures text { GivesText result (repeated_words name.now what.now) }
     ensures memory { OnErr result A.may_refuse }
