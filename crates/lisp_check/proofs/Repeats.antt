@@ -16,19 +16,15 @@ use Rattle.lisp_sites.specs.Numbers.{addresses}
 use Rattle.lisp_check.specs.Warning.{AddressesAreWarned, IdentitiesAreWarned, IsOther}
 use Rattle.lisp_check.proofs.Decided.{addr_eq-Decides}
 
-found_head : {X : Type 0} (b : Bool) (x : X) (others : Option X) → b ≡ true → ¬ (cond b (Some x) others ≡ None)
-found_head true x others e none = let clash : Some x ≡ None = none in cc
-found_head false x others e none = let clash : false ≡ true = e in cc
-
-later : {X : Type 0} (p : X → Bool) (x : X) (xs : List X) (b : Bool) → ¬ (find p xs ≡ None) → ¬ (cond b (Some x) (find p xs) ≡ None)
-later p x xs true never none = let clash : Some x ≡ None = none in cc
-later p x xs false never none = never none
+not_first : {X : Type 0} (x : X) (others : Option X) (b : Bool) → cond b (Some x) others ≡ None → others ≡ None
+not_first x others true none = absurd (let clash : Some x ≡ None = none in cc)
+not_first x others false none = none
 
 -- where an element passes, one is found
 passes : {X : Type 0} (p : X → Bool) (xs : List X) (i : ℕ) (d : X) → i < length xs → p (get_or xs i d) ≡ true → ¬ (find p xs ≡ None)
-passes p [] i d low e = absurd (omega (arith, low))
-passes p (x ∷ xs) zero d low e = found_head (p x) x (find p xs) e
-passes p (x ∷ xs) (suc i) d low e = later p x xs (p x) (passes p xs i d (omega (arith, low)) e)
+passes p [] i d low e none = absurd (omega (arith, low))
+passes p (x ∷ xs) zero d low e none = absurd (let clash : Some x ≡ None = rw e at none in cc)
+passes p (x ∷ xs) (suc i) d low e none = passes p xs i d (omega (arith, low)) e (not_first x (find p xs) (p x) none)
 
 module _ {X K : Type 0} (key : X → K) (eq : K → K → Bool) (decides : (a b : K) → Decides (eq a b) (a ≡ b)) (xs : List X) where
   abbrev Alike : X → X → Bool

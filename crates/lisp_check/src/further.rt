@@ -78,16 +78,10 @@ pub fn further_faults(
 
 // The first fault of a document, where it is one of a field.
 fn first_fault(alloc: Global, document: &Value) -> Option<PlacedFault> {
-    let Ok(text) = toml::table_to_string(alloc, document.as_table()?) else {
-        return None;
-    };
-    match Config::read(alloc, alloc, text.as_str()) {
-        Ok(_) => None,
-        Err(placed) => {
-            field_of(placed.fault)?;
-            Some(placed)
-        }
-    }
+    let text = toml::table_to_string(alloc, document.as_table()?).ok()?;
+    let placed = Config::read(alloc, alloc, text.as_str()).err()?;
+    field_of(placed.fault)?;
+    Some(placed)
 }
 
 // Whether a name that nothing has may be that of what was at fault.

@@ -63,12 +63,8 @@ fn has_many_rows<A: Allocator>(sites: &Sites<A>, router: &RouterEntry<A>) -> boo
 fn row_count<A: Allocator>(router: &RouterEntry<A>) -> usize
     ensures { result ≡ row_count router.now.database }
 {
-    router
-        .database
-        .records()
-        .iter()
-        .filter(|record| record.ttl() != 0)
-        .count()
+    let records = router.database.records();
+    records.iter().filter(|record| record.ttl() != 0).count()
 }
 
 /// Whether the limits of the router's site don't let a record with this TTL through.

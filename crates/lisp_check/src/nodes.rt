@@ -102,9 +102,7 @@ fn first_at(addresses: &[Addr], address: &Addr) -> Option<usize>
 pub(crate) fn any_of<'c, A: Allocator>(node: &ConfigNode<'c, A>) -> Option<&'c Prefix>
     ensures { option_map (λ p. p.now) result ≡ any_of (node_value node.now) }
 {
-    resolve_of(node)
-        .iter()
-        .find(|prefix| prefix.mask_len() == 0)
+    resolve_of(node).iter().find(|any| any.mask_len() == 0)
 }
 
 // Whether the node's `resolve` has prefixes, and none of the family of its own address.
@@ -118,9 +116,7 @@ fn lists_no_own<A: Allocator>(node: &ConfigNode<'_, A>) -> bool
 fn lists_family_of(resolve: &[Prefix], address: &Addr) -> bool
     ensures { result ≡ list_any (λ p. same_family p.addr address.now) resolve.now }
 {
-    resolve
-        .iter()
-        .any(|prefix| is_like(&prefix.addr(), address))
+    resolve.iter().any(|other| is_like(&other.addr(), address))
 }
 
 /// Whether the addresses are of one family.

@@ -43,9 +43,7 @@ fn note_of_toml(
     text: &str,
     error: &toml::de::Error,
 ) -> Result<FaultNote, AllocError> {
-    let Some(span) = error.span() else {
-        return Err(AllocError);
-    };
+    let span = error.span().ok_or(AllocError)?;
     let place = position_at(text, span.start);
     let (line, column) = (place.line, place.column);
     Ok(FaultNote {

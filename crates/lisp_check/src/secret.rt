@@ -74,10 +74,7 @@ fn add_secret(
     entry: &Value,
     place: KeyPlace,
 ) -> Result<(), AllocError> {
-    let Some(value) = entry.get("secret") else {
-        return Ok(());
-    };
-    let Some(text) = value.as_str() else {
+    let Some(text) = entry.get("secret").and_then(Value::as_str) else {
         return Ok(());
     };
     if let Some(secret) = secret_from_text(alloc, text)? {

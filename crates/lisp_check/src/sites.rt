@@ -86,10 +86,7 @@ fn has_more_routers<A: Allocator>(routers: &[RouterEntry<A>], site: &Site<A>) ->
 fn routers_of<A: Allocator>(routers: &[RouterEntry<A>], site: u64) -> usize
     ensures { result ≡ routers_of routers.now site }
 {
-    routers
-        .iter()
-        .filter(|router| router.me.site == site)
-        .count()
+    routers.iter().filter(|own| own.me.site == site).count()
 }
 
 /// Whether a number isn't above a limit, where there is one.

@@ -56,10 +56,7 @@ fn write_lines<W: Write>(lines: &str, writer: &mut W) -> Result<(), ProgramFault
         (lines.now ++ 10 ∷ [])) }
     ensures fault { IfErr result (λ fault. fault ≡ Answer answers.Write) }
 {
-    match writeln!(writer, "{lines}") {
-        Ok(()) => Ok(()),
-        Err(_) => Err(ProgramFault::Answer(AnswerFault::Write)),
-    }
+    writeln!(writer, "{lines}").map_err(|_| ProgramFault::Answer(AnswerFault::Write))
 }
 
 // The number of the refusal or the fault that keeps a node from doing what it is told.
@@ -131,10 +128,8 @@ fn write_objects<A: Memory + Copy, W: Write>(
         (W.contents writer.new) result }
 {
     let objects = objects_of(alloc, lines)?;
-    match writer.write_all(objects.as_slice()) {
-        Ok(()) => Ok(()),
-        Err(_) => Err(ProgramFault::Answer(AnswerFault::Write)),
-    }
+    let written = writer.write_all(objects.as_slice());
+    written.map_err(|_| ProgramFault::Answer(AnswerFault::Write))
 }
 
 /// Whether an answer says that some records aren't allowed.

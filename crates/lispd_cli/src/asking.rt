@@ -52,13 +52,10 @@ pub fn ask_node<R: Input + Eprint + Files + Net + AllocGlobal, W: Write>(
     if errand == Errand::Tell && first_word(question.as_str()) == RELOAD {
         return reload_sites(rt, words, writer);
     }
-    match ask(rt, errand, words, question.as_str(), writer) {
-        Ok(()) => Ok(()),
-        Err(fault) => Err(Failure {
-            fault,
-            details: details(rt.alloc(), errand, fault),
-        }),
-    }
+    ask(rt, errand, words, question.as_str(), writer).map_err(|fault| {
+        let details = details(rt.alloc(), errand, fault);
+        Failure { fault, details }
+    })
 }
 
 fn ask<R: Eprint + Files + Net + AllocGlobal, W: Write>(
@@ -106,11 +103,8 @@ fn details(alloc: Global, errand: Errand, fault: ProgramFault) -> Option<String>
 /// Why a node doesn't do what it is told, in words; `None` where there is no memory.
 pub(crate) fn refusal_words(alloc: Global, number: u16) -> Option<String> {
     let (meaning, remedy) = (meaning(number)?, remedy(number)?);
-    String::try_format(
-        alloc,
-        format_args!("the node doesn't do it: {meaning}: {remedy}"),
-    )
-    .ok()
+    let words = format_args!("the node doesn't do it: {meaning}: {remedy}");
+    String::try_format(alloc, words).ok()
 }
 
 // Warns of each record of an order to register other records that the router's site doesn't allow, and refuses the order then. Where

@@ -195,8 +195,5 @@ fn print_front<W: Write>(text: &str, writer: &mut W) -> Result<(), WriteFault>
         (Appends (W.contents writer.old) (W.contents writer.new) (front_text text.now)) }
     ensures fault { IfErr result (λ fault. fault ≡ Write) }
 {
-    match write!(writer, "{text}\n---\n") {
-        Ok(()) => Ok(()),
-        Err(_) => Err(WriteFault::Write),
-    }
+    write!(writer, "{text}\n---\n").map_err(|_| WriteFault::Write)
 }

@@ -84,8 +84,8 @@ fn check_source(alloc: Global, source: Source) -> Result<Checked, Failure>
         Ok(config) => config,
         Err(placed) => return Err(placed_failure(alloc, text, &placed)),
     };
-    let document = document_of(alloc, text)?;
-    let unknown = unknown_in(alloc, &document)?;
+    let document = read_document(alloc, text).map_err(InputFault::from)?;
+    let unknown = unknown_keys(alloc, &document).map_err(InputFault::from)?;
     Ok(Checked {
         source,
         document,
@@ -151,16 +151,6 @@ pub(crate) fn accept(
         return Err(Failure::from(ProgramFault::Warnings));
     }
     Ok(())
-}
-
-fn document_of(alloc: Global, text: &str) -> Result<Document, InputFault>
-    ensures { IfOk result (λ document. document.text ≡ text.now) }
-{
-    Ok(read_document(alloc, text)?)
-}
-
-fn unknown_in(alloc: Global, document: &Document) -> Result<Vec<Unknown>, InputFault> {
-    Ok(unknown_keys(alloc, document)?)
 }
 
 // The fault of a configuration that has tables which are ignored, with a line for each; `None` where it has none.

@@ -40,8 +40,10 @@ pub fn command<'a>(alloc: Global) -> Result<Command<'a>, AllocError> {
     with_subcommands(alloc, program.arg(argument(alloc, IN_WORDS))?)
 }
 
-fn with_subcommands<'a>(alloc: Global, program: Command<'a>) -> Result<Command<'a>, AllocError> {
-    let mut program = program;
+fn with_subcommands<'a>(
+    alloc: Global,
+    mut program: Command<'a>,
+) -> Result<Command<'a>, AllocError> {
     for text in TABLE.split("\n\n\n") {
         program = with_subcommand(alloc, program, text)?;
     }
@@ -64,10 +66,9 @@ fn with_subcommand<'a>(
 
 fn with_arguments<'a>(
     alloc: Global,
-    command: Command<'a>,
+    mut command: Command<'a>,
     lines: &'a str,
 ) -> Result<Command<'a>, AllocError> {
-    let mut command = command;
     for line in lines.split('\n') {
         command = command.arg(argument(alloc, line))?;
     }

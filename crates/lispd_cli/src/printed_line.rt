@@ -132,10 +132,7 @@ fn is_source(word: &str) -> bool
 fn is_kind(word: &str) -> bool
     ensures { result ≡ is_kind word.now }
 {
-    match word.as_bytes() {
-        [b'A'..=b'Z', ..] => true,
-        _ => false,
-    }
+    matches!(word.as_bytes(), [b'A'..=b'Z', ..])
 }
 
 // The number that the words begin with, and those behind it.

@@ -52,10 +52,8 @@ pub(crate) fn reload_sites<R: Input + Eprint + Files + Net + AllocGlobal, W: Wri
     let checked = read_checked(rt, path)?;
     let has_warnings = tell_warnings(rt, path, &checked)?;
     accept(rt.alloc(), &checked, is_given(words, STRICT), has_warnings)?;
-    match tell_sites(rt, word(words, FOLDER), &checked, writer) {
-        Ok(()) => Ok(()),
-        Err(fault) => Err(failure(rt.alloc(), fault)),
-    }
+    let told = tell_sites(rt, word(words, FOLDER), &checked, writer);
+    told.map_err(|fault| failure(rt.alloc(), fault))
 }
 
 /// Prints what telling the Map-Server that runs over a folder the sites of a configuration would do, and which rows would leave. Nothing
@@ -66,10 +64,8 @@ pub(crate) fn compare_sites<R: Eprint + Files + Net + AllocGlobal, W: Write>(
     checked: &Checked,
     writer: &mut W,
 ) -> Result<(), Failure> {
-    match compared(rt, folder, checked, writer) {
-        Ok(_) => Ok(()),
-        Err(fault) => Err(failure(rt.alloc(), fault)),
-    }
+    compared(rt, folder, checked, writer).map_err(|fault| failure(rt.alloc(), fault))?;
+    Ok(())
 }
 
 // A fault of what was told, with what is wrong in words where the fault's own words don't say it.

@@ -44,9 +44,7 @@ pub(crate) fn read_source<R: Input + Files + AllocGlobal>(
         }
     };
     let is_open_to_others = is_open_to_others(&file);
-    let Ok(reader) = BufReader::new(alloc, file) else {
-        return Err(Failure::from(PlayFault::OutOfMemory));
-    };
+    let reader = BufReader::new(alloc, file).map_err(|_| PlayFault::OutOfMemory)?;
     Ok(Source {
         text: read_text(alloc, path, reader)?,
         is_open_to_others,
@@ -61,13 +59,8 @@ fn read_text<R: Read + Drop>(alloc: Global, path: &str, reader: R) -> Result<Str
 
 fn read_bytes<R: Read + Drop>(alloc: Global, path: &str, reader: R) -> Result<Vec<u8>, Failure> {
     let mut reader = WatchedReader::over(reader);
-    match read_to_end(alloc, &mut reader) {
-        Ok(bytes) => Ok(bytes),
-        Err(fault) => {
-            let fault = ProgramFault::Play(fault);
-            Err(Failure::of_input(alloc, fault, path, reader.error()))
-        }
-    }
+    let bytes = read_to_end(alloc, &mut reader).map_err(ProgramFault::Play);
+    bytes.map_err(|fault| Failure::of_input(alloc, fault, path, reader.error()))
 }
 
 fn is_open_to_others<F: OpenFile>(file: &F) -> bool {

@@ -44,13 +44,8 @@ fn run_answer<R: Input + AllocGlobal, W: Write>(
     let alloc = rt.alloc();
     let setup = setup(alloc, matches).map_err(ProgramFault::Setup)?;
     let mut reader = WatchedReader::over(rt.reader());
-    match answer_from(alloc, &setup, &mut reader, writer) {
-        Ok(()) => Ok(()),
-        Err(fault) => {
-            let error = reader.error();
-            Err(Failure::of_input(alloc, fault, STANDARD_INPUT, error))
-        }
-    }
+    let answered = answer_from(alloc, &setup, &mut reader, writer);
+    answered.map_err(|fault| Failure::of_input(alloc, fault, STANDARD_INPUT, reader.error()))
 }
 
 // As `answer`. It promises nothing, so that nothing need be proved of standard input.

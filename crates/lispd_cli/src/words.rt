@@ -64,10 +64,7 @@ fn checks(name: &str, words: &ArgMatches<'_>) -> bool {
 }
 
 fn tells_reload(words: &ArgMatches<'_>) -> bool {
-    match words.get_strs(QUESTION) {
-        Some([first, ..]) => *first == RELOAD,
-        _ => false,
-    }
+    matches!(words.get_strs(QUESTION), Some([first, ..]) if *first == RELOAD)
 }
 
 /// The words of `server` and `router`.
