@@ -160,7 +160,7 @@ pub passing_stands : PassingStands
 passing_stands old new ms line passes o T stand = (nobody o, shown_store o T (nobody o), subst (λ (l : Line). Stands new o (tick o T ms l ∷ T)) (sym passes.said) (pass_here old new ms line passes o T stand))
 
 -- who drops all dead rows keeps the live ones
-expired_passes : (n m : ServerNodeState) (now : ℕ) → ExpiresNode n m now → PassesNode n m now
+pub expired_passes : (n m : ServerNodeState) (now : ℕ) → ExpiresNode n m now → PassesNode n m now
 expired_passes n m now expires = record {
   rows = λ router eid. ap (option_and_then (if_alive now)) (expires.rows router eid) ∙ alive_twice now now (omega arith) (row_at n.core.rows router eid);
   rest = expires.rest;
