@@ -96,8 +96,7 @@ class Kept:
         self.longest = max(self.longest, self.sum - last)
 
 
-# How long messages waited for their answers, in seconds; which of them got none in two; and for how long at a time somebody waited for a
-# processor, or the host of the machine had given some to others.
+# How long messages waited for their answers, in seconds; which of them got none in two; and for how long at a time somebody waited for a processor.
 Waits = collections.namedtuple("Waits", "seconds missing kept")
 
 
@@ -105,7 +104,6 @@ def waits(_told, send, receive, it, count, seconds, others):
     """The waits of so many messages, which are sent evenly over so many seconds; of this process and others it is seen how they wait for a
     processor."""
     begun, sent, found, number, kept = time.monotonic(), {}, [], 0, Kept([os.getpid(), *others])
-    stolen = stolen_seconds()
     gap = seconds / count
     while number < count or sent and time.monotonic() < begun + seconds + 2:
         while number < count and number * gap <= time.monotonic() - begun:
@@ -118,17 +116,11 @@ def waits(_told, send, receive, it, count, seconds, others):
             if got in sent:
                 found.append(time.monotonic() - sent.pop(got))
             kept.look()
-    return Waits(found, sorted(sent), max(kept.longest, stolen_seconds() - stolen))
+    return Waits(found, sorted(sent), kept.longest)
 
 
 def processor_seconds(process):
     return int(Path(f"/proc/{process.pid}/schedstat").read_text().split()[0]) / 1e9
-
-
-def stolen_seconds():
-    """For how many seconds, of all processors, the machine's host gave them to others."""
-    with open("/proc/stat", encoding="ascii") as file:
-        return int(file.readline().split()[8]) / os.sysconf("SC_CLK_TCK")
 
 
 def told_slow(slow, more=""):

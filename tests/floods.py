@@ -192,20 +192,15 @@ def requests_beside_a_flood(here):
         forged = [(source, map_register(7, b"other")) for source in invented(here, SOURCES // 10)]
         asked = [asking(nonce, "10.1.4.1", text_of(addresses[nonce % ITRS]), itrs.port) for nonce in range(count)]
         for name, datagrams in (("nothing", []), ("good ones", good), ("forged ones", forged)):
-            most = count // 100
-            # (what comes while the machine stands still is lost)
-            for _ in range(ENOUGH):
-                sender = Beside(SENDER, flood, here.s1, datagrams, int(FLOOD / slow) if datagrams else 0, SECONDS)
-                asker = Beside(ASKER, waits, lambda number: itrs.send(addresses[number % ITRS], asked[number], here.s1),
-                               lambda: nonce_in(itrs.socket.recv(65535)), itrs.socket, count, SECONDS, [process.pid])
-                found, sent = asker.result(), sender.result()
-                if len(found.missing) <= most:
-                    break
+            sender = Beside(SENDER, flood, here.s1, datagrams, int(FLOOD / slow) if datagrams else 0, SECONDS)
+            asker = Beside(ASKER, waits, lambda number: itrs.send(addresses[number % ITRS], asked[number], here.s1),
+                           lambda: nonce_in(itrs.socket.recv(65535)), itrs.socket, count, SECONDS, [process.pid])
+            found, most = asker.result(), count // 100
             if len(found.missing) > most and found.kept > ROOM:
                 tell_busy(f"those without an answer, beside {name}")
             else:
                 check_below(f"those without an answer, beside {name}", len(found.missing), most)
-            note(f"{len(found.seconds)} of {count} answered beside {sent} {name}, {in_ms(found)}")
+            note(f"{len(found.seconds)} of {count} answered beside {sender.result()} {name}, {in_ms(found)}")
 
 
 # ---- what waits
